@@ -1,0 +1,3 @@
+-- A calendar's hours.
+pub mod Hours
+pub mod Records

@@ -1,0 +1,2 @@
+-- The clock.
+pub mod Instances

@@ -1,0 +1,1 @@
+// Time on one calendar.

@@ -1,0 +1,2 @@
+-- The calendar of civil dates.
+pub mod Years

@@ -1,0 +1,3 @@
+-- The definitions of the numbers.
+pub mod Order
+pub mod Bytes

@@ -1,0 +1,1 @@
+// Numbers: little-endian reads and signed arithmetic.

@@ -1,0 +1,3 @@
+-- Working time over any set of worked minutes.
+pub mod Worked
+pub mod Walks
