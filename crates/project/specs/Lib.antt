@@ -1,0 +1,2 @@
+-- The sheet's records.
+pub mod Fields

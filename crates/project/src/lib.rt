@@ -1,0 +1,1 @@
+// The types that the scheduling run reads, and the sheet's records as values of them.

@@ -1,0 +1,3 @@
+-- Reading the sheet.
+pub mod Reading
+pub mod Places
