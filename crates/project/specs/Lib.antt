@@ -1,2 +1,3 @@
 -- The sheet's records.
 pub mod Fields
+pub mod Records
