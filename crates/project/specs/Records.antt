@@ -67,12 +67,12 @@ activityAt s at = record {
   calendar = byteAt s (at + 6);
   parent = u32At s (at + 7);
   minutes = i32At s (at + 11);
-  actual-start = optionalDateAt s (at + 15);
-  actual-finish = optionalDateAt s (at + 19);
+  «actual_start» = optionalDateAt s (at + 15);
+  «actual_finish» = optionalDateAt s (at + 19);
   remaining = remainingAt s (at + 23);
-  expected-finish = optionalDateAt s (at + 27);
+  «expected_finish» = optionalDateAt s (at + 27);
   constraint = constraintOf (byteAt s (at + 31)) (dateAt s (at + 32));
-  secondary-constraint = constraintOf (byteAt s (at + 36)) (dateAt s (at + 37));
+  «secondary_constraint» = constraintOf (byteAt s (at + 36)) (dateAt s (at + 37));
   levelled = optionalDateAt s (at + 41);
 }
 
@@ -111,12 +111,12 @@ criticalByOf n threshold = pick (eqb n 0) (TotalFloat threshold) LongestPath
 unfoldable pub projectAt : List ℕ → ℕ → Project
 projectAt s at = record {
   start = dateAt s (at + 1);
-  data-date = optionalDateAt s (at + 5);
-  must-finish-by = optionalDateAt s (at + 9);
-  lag-calendar = lagCalendarOf (byteAt s (at + 13));
-  float-kind = floatKindOf (byteAt s (at + 14));
-  progress-mode = progressModeOf (byteAt s (at + 15));
-  critical-by = criticalByOf (byteAt s (at + 16)) (i32At s (at + 17));
+  «data_date» = optionalDateAt s (at + 5);
+  «must_finish_by» = optionalDateAt s (at + 9);
+  «lag_calendar» = lagCalendarOf (byteAt s (at + 13));
+  «float_kind» = floatKindOf (byteAt s (at + 14));
+  «progress_mode» = progressModeOf (byteAt s (at + 15));
+  «critical_by» = criticalByOf (byteAt s (at + 16)) (i32At s (at + 17));
 }
 
 -- "C: day length in minutes, u16"
