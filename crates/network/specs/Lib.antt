@@ -1,0 +1,5 @@
+-- The network of activities and links.
+pub mod Links
+pub mod Kahn
+pub mod Parents
+pub mod Instances
