@@ -1,3 +1,4 @@
 -- Working time over any set of worked minutes.
 pub mod Worked
 pub mod Walks
+pub mod Count
