@@ -2,3 +2,5 @@
 pub mod Worked
 pub mod Walks
 pub mod Count
+pub mod Relations
+pub mod Adjoint
