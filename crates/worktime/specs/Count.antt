@@ -48,6 +48,17 @@ module _ (w : ℕ → Bool) where
   pub count-step-one : (t : ℕ) → (count w t ≤ count w (t + 1)) × (count w (t + 1) ≤ count w t + 1)
   count-step-one t = rw (add-one t) (count-step t)
 
+  -- and back, at t - 1
+  pub count-before : (t : ℕ) → 0 < t → count w t ≡ count w (t - 1) + bit (w (t - 1))
+  count-before zero p = absurd (omega arith)
+  count-before (suc s) p = let e : suc s - 1 ≡ s = omega arith in rw e (count-suc s)
+
+  pub count-before-worked : (t : ℕ) → 0 < t → w (t - 1) ≡ true → count w t ≡ count w (t - 1) + 1
+  count-before-worked t p h = omega (arith, count-before t p, ap bit h)
+
+  pub count-before-idle : (t : ℕ) → 0 < t → w (t - 1) ≡ false → count w t ≡ count w (t - 1)
+  count-before-idle t p h = omega (arith, count-before t p, ap bit h)
+
   -- ---- order
 
   pub count-mono : {s t : ℕ} → s ≤ t → count w s ≤ count w t

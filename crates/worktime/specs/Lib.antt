@@ -4,3 +4,4 @@ pub mod Walks
 pub mod Count
 pub mod Relations
 pub mod Adjoint
+pub mod Search
