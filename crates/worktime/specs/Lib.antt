@@ -5,3 +5,5 @@ pub mod Count
 pub mod Relations
 pub mod Adjoint
 pub mod Search
+pub mod Reads
+pub mod Answers

@@ -37,7 +37,7 @@ module _ (w : ℕ → Bool) where
       (λ e.
       least-idle n t e
       ∙ least-at n (suc t) u (⊎-elim (λ g. g) (λ g. absurd (other h e (omega arith))) (lt-or-le t u)) (omega arith) h
-        (c ∙ sym (count-idle w t e))) (cases (w t))
+      (c ∙ sym (count-idle w t e))) (cases (w t))
 
   pub least-none : (n t : ℕ) → count w (t + n) ≤ count w t → least w n t ≡ Refused tooLong
   least-none zero t c = least-zero t
