@@ -7,3 +7,4 @@ pub mod Adjoint
 pub mod Search
 pub mod Reads
 pub mod Answers
+pub mod Shift
