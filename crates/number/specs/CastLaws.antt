@@ -51,3 +51,8 @@ module _ (z : ℤ) (f : SFits w64 z) (b : dn z < 2 ^ 63) where
   value-dn h =
       let e : dn (negℤ z) ≡ 0 = omega (arith, neg-dn z) in
       rw minus-back (abs-up (negℤ z) e ∙ neg-up z)
+
+-- a divisor that is not 0 has bits that are not 0
+pub bits-some : (d : ℤ) → SFits w64 d → 0 < up d + dn d → 0 < ofZ w64 d
+bits-some (pos n) f h = omega arith
+bits-some (negsuc n) f h = omega (arith, f .sfits)
