@@ -1,2 +1,4 @@
 -- The clock.
 pub mod Instances
+pub mod On
+pub mod Days

@@ -8,9 +8,9 @@ use worktime::Working;
 ghost use mathlib.Core.Path.{_≡_};
 ghost use Prim.Native.Nat.{ℕ, _+_, _*_, _^_, _≤_, _<_};
 ghost use Rattle.number.specs.Zed.{dn};
-ghost use Rattle.calendar.specs.Records.{Valid, workedOn};
+ghost use Rattle.calendar.specs.Records.{Valid};
+ghost use Rattle.clock.specs.On.{workedOn};
 ghost use Rattle.worktime.specs.Walks.{nextStart, previousFinish, nextFinish, workingAt, previousStart, startBy, advance, retreat, shift, between, dayWork, workedBefore};
-ghost use Rattle.clock.specs.Counted.{counted};
 
 // Row 8 of 01's table: too long.
 pub const TOO_LONG: u64 = 8;
@@ -208,9 +208,9 @@ pub fn shift(week: [[Period; 8]; 7], sheet: &[u8], at: usize, n: usize, t: u64, 
     requires { ⌜ Valid week (now sheet) at n × (dn lag < 2 ^ 63) ⌝ }
     ensures { λ r. ⌜ r ≡ shift (workedOn week (now (sheet .entry)) at n) t lag ⌝ }
 {
-    let back = number::downward(lag);
+    let back = number::sign::downward(lag);
     if back == 0 {
-        return advance(week, sheet, at, n, t, number::upward(lag));
+        return advance(week, sheet, at, n, t, number::sign::upward(lag));
     }
     retreat(week, sheet, at, n, t, back)
 }

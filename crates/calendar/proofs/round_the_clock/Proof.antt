@@ -1,0 +1,19 @@
+-- `calendar::round_the_clock` meets its contract, by evaluation.
+use native.Mathlib.Omega.{arith}
+use mathlib.Core.Path.{refl}
+use Rattle.calendar.specs.Records.{roundTheClock}
+use borrow.Author.Needs.{needs}
+use Rattle.calendar.proofs.round_the_clock.Statement.{statement}
+use Rattle.calendar.proofs.round_the_clock.Tie as tie
+use Rattle.calendar.proofs.round_the_clock.Reads as reads
+use Rattle.calendar.proofs.round_the_clock.Lts as lts
+
+array-set-from-row : tie.Need-array-set-from-row
+array-set-from-row c = search needs
+
+returns : tie.Need-returns
+unfolding roundTheClock
+returns c = refl
+
+pub round-the-clock-spec : {M : Type 1} → statement M
+round-the-clock-spec = tie.close (tie.spec array-set-from-row returns)
