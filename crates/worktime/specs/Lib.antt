@@ -8,3 +8,4 @@ pub mod Search
 pub mod Reads
 pub mod Answers
 pub mod Shift
+pub mod Between

@@ -62,7 +62,7 @@ module _ (w : ℕ → Bool) where
       (λ l.
       let r = reach w endMinute (count w t + n - 1) (omega arith) in
       let s : IsAdvance w t n (suc (r .0)) =
-        advance-of w p (closing-suc w (r .0) ∙ r .2) (omega (arith, count-worked w (r .0) (r .2))) in
+      advance-of w p (closing-suc w (r .0) ∙ r .2) (omega (arith, count-worked w (r .0) (r .2))) in
       answers (suc (r .0)) (advance-at-is s p (q .0) (r .1)) (s, q .0, r .1)) (lt-or-le (count w endMinute) (count w t + n)))
       (λ e. refuses (advance-out t n p e) (inl e)) (minute-cases t)
 
