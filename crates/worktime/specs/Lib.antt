@@ -9,3 +9,5 @@ pub mod Reads
 pub mod Answers
 pub mod Shift
 pub mod Between
+pub mod Exist
+pub mod Lower
