@@ -2,7 +2,7 @@
 use mathlib.Core.Path.{_≡_, refl, sym, ap, _∙_}
 use mathlib.Core.Bool.{Bool, true, false, _||_, true≢false}
 use mathlib.Core.Logic.{⊎-elim}
-use Prim.Native.Nat.{ℕ, zero, suc, _+_, _-_, _*_, _/_, _≤_, _<_}
+use Prim.Native.Nat.{ℕ, zero, suc, _+_, _-_, _*_, _/_, _%_, _≤_, _<_}
 use native.Mathlib.Omega.{arith}
 use borrow.Author.Tests.{eqb-true, eqb-false}
 use lib.Dec.{eqb}
@@ -114,3 +114,21 @@ module _ {w : ℕ → Bool} {ex : ℕ → ℕ} {n t : ℕ} {u : ℕ → ℕ} (h 
   -- and back from m + n weeks later
   pub weekly-retreat : (m : ℕ) → (v : ℕ) × (t ≤ v) × IsRetreat w (t + 10080 * (m + n)) m v
   weekly-retreat m = retreat-above w (t + 10080 * (m + n)) m t (omega arith) (omega (arith, weekly-count (m + n)))
+
+-- ---- a calendar of weeks: minute c of every week is worked, but for exceptional days
+
+-- the first minute c of a week that is not before t
+abbrev pub first : ℕ → ℕ → ℕ
+first c t = t + (c + 10080 - t % 10080) % 10080
+
+module _ (w : ℕ → Bool) (ex : ℕ → ℕ) (n c : ℕ) (inside : c < 10080)
+    (regular : (v : ℕ) → v % 10080 ≡ c → ((i : ℕ) → i < n → ex i ≡ v / 1440 → ⊥) → w v ≡ true) where
+  pub regular-weekly : (t : ℕ) → Weekly w ex n t (λ j. first c t + 10080 * j)
+  regular-weekly t = record {
+    within = λ j. (omega arith, omega arith);
+    weekday = λ j. omega arith;
+    worked = λ j h. regular (first c t + 10080 * j) (omega arith) h;
+  }
+
+  pub regular-endless : (t : ℕ) → (v : ℕ) × (t ≤ v) × (w v ≡ true)
+  regular-endless t = let r = weekly-next-start (regular-weekly t) in (r .0, r .2 .after, r .2 .worked)
