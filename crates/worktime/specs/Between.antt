@@ -1,5 +1,5 @@
 -- The worked minutes between two times, on a day and before a time of it are differences of counts, refused with 8 just outside the years.
-use mathlib.Core.Path.{_≡_, refl, sym, ap, _∙_}
+use mathlib.Core.Path.{_≡_, sym, ap, _∙_}
 use mathlib.Core.Bool.{Bool, true, false}
 use mathlib.Core.Logic.{_⊎_, inl, inr, ⊎-elim}
 use Prim.Native.Nat.{ℕ, zero, suc, _+_, _-_, _*_, _/_, _%_, _≤_, _<_}
@@ -7,12 +7,12 @@ use native.Mathlib.Omega.{arith}
 use borrow.Author.Tests.{le-leb, lt-leb, lt-ltb, le-ltb}
 use lib.Dec.{leb}
 use lib.IntN.{ℤ, pos, negsuc, negℤ, _+ℤ_, _-ℤ_, negℤ-negℤ, +ℤ-comm, +ℤ-assoc, -ℤ-+ℤ-cancel}
-use Rattle.date.specs.Years.{firstDay, endDay, inYears}
+use Rattle.date.specs.Years.{inYears}
 use Rattle.number.specs.Order.{cases, lt-or-le}
 use Rattle.worktime.specs.declared.Work.{Work}
 use Rattle.worktime.specs.declared.Work.the-variants.{Minutes}
 use Rattle.worktime.specs.Worked.{count, IsAdvance, IsRetreat}
-use Rattle.worktime.specs.Walks.{tooLong, firstMinute, endMinute, reads, spanned, workFrom, between, dayWork, workedBefore}
+use Rattle.worktime.specs.Walks.{tooLong, firstMinute, endMinute, spanned, workFrom, between, dayWork, workedBefore}
 use Rattle.worktime.specs.Count.{count-mono, count-spanned, spanned-to}
 use Rattle.worktime.specs.Reads.{minute-in, on-true, on-false, reads-in, reads-out}
 

@@ -1,13 +1,13 @@
 -- Which walks have an answer, where no limit of years is known.
-use mathlib.Core.Path.{_≡_, refl, sym, _∙_}
-use mathlib.Core.Bool.{Bool, true, false}
-use mathlib.Core.Logic.{⊎-elim, _↔_}
+use mathlib.Core.Path.{_≡_, refl, _∙_}
+use mathlib.Core.Bool.{Bool, true}
+use mathlib.Core.Logic.{⊎-elim}
 use Prim.Native.Nat.{ℕ, zero, suc, _+_, _-_, _≤_, _<_}
 use native.Mathlib.Omega.{arith}
-use Rattle.number.specs.Order.{cases, zero-or-pos}
+use Rattle.number.specs.Order.{cases}
 use Rattle.worktime.specs.Worked.{count, closing, IsNextStart, IsPreviousFinish, IsNextFinish, IsAdvance, IsRetreat}
-use Rattle.worktime.specs.Count.{count-zero, count-worked, count-lt, count-mono, closing-suc, close-lt, closing-pos, start-le, reach}
-use Rattle.worktime.specs.Relations.{next-start-of, next-start-count, previous-finish-of, previous-finish-count, next-finish-here, next-finish-later, advance-of, advance-by-zero, retreat-of, retreat-by-zero}
+use Rattle.worktime.specs.Count.{count-zero, count-worked, count-mono, closing-suc, close-lt, closing-pos, start-le, reach}
+use Rattle.worktime.specs.Relations.{next-start-of, previous-finish-of, previous-finish-count, next-finish-here, next-finish-later, advance-of, advance-by-zero, retreat-of, retreat-by-zero}
 
 module _ (w : ℕ → Bool) where
   -- ---- next start: where some later minute is worked, or more is counted later
