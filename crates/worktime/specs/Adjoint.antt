@@ -1,5 +1,5 @@
 -- Advance and retreat undo each other, and a time bounds a start or a finish just as its next start or next finish does.
-use mathlib.Core.Path.{_≡_, refl, sym, ap, _∙_}
+use mathlib.Core.Path.{_≡_, sym, ap, _∙_}
 use mathlib.Core.Bool.{Bool, true, false, not, true≢false}
 use mathlib.Core.Logic.{⊎-elim, _↔_}
 use Prim.Native.Nat.{ℕ, _+_, _≤_, _<_}
@@ -8,7 +8,7 @@ use native.Mathlib.Omega.{arith}
 use Rattle.number.specs.Order.{cases, lt-or-le}
 use Rattle.worktime.specs.Worked.{bit, count, closing, IsNextStart, IsPreviousFinish, IsNextFinish, IsAdvance, IsRetreat}
 use Rattle.worktime.specs.Count.{count-mono, start-le, close-le, close-lt}
-use Rattle.worktime.specs.Relations.{next-start-of, next-start-count, previous-finish-of, next-finish-count, advance-of, advance-le, retreat-of, retreat-le}
+use Rattle.worktime.specs.Relations.{next-start-of, previous-finish-of, next-finish-count, advance-of, advance-le, retreat-of, retreat-le}
 
 -- the worked minutes below the first closing minute at or after b
 unfoldable pub ceil : (ℕ → Bool) → ℕ → ℕ

@@ -1,21 +1,46 @@
--- The walks to a start or a finish agree with the relations wherever they answer, and are refused with 8 just where they meet the limit of years.
+-- Whether a minute is worked, and the walks to a start or a finish: they agree with the relations wherever they answer, and are refused with 8 just where they meet the limit of years.
 use mathlib.Core.Path.{_≡_, refl, sym, ap, _∙_}
-use mathlib.Core.Bool.{Bool, true, false, true≢false}
+use mathlib.Core.Bool.{Bool, true, false}
 use mathlib.Core.Logic.{_⊎_, inl, inr, ⊎-elim}
-use Prim.Native.Nat.{ℕ, zero, suc, _+_, _-_, _*_, _/_, _≤_, _<_}
+use Prim.Native.Nat.{ℕ, suc, _+_, _-_, _/_, _≤_, _<_}
 use native.Mathlib.Omega.{arith}
-use Rattle.date.specs.Years.{firstDay, endDay, inYears}
+use Rattle.date.specs.Years.{inYears}
 use Rattle.number.specs.Order.{cases, lt-or-le}
-use Rattle.worktime.specs.declared.Walk.{Walk}
 use Rattle.worktime.specs.declared.Walk.the-variants.{At, Refused}
+use Rattle.worktime.specs.declared.Working.{Working}
+use Rattle.worktime.specs.declared.Working.the-variants.{Is}
 use Rattle.worktime.specs.Worked.{count, closing, IsNextStart, IsPreviousFinish, IsNextFinish}
-use Rattle.worktime.specs.Walks.{tooLong, firstMinute, endMinute, reads, least, greatest, nextStart, previousFinish, nextFinish, previousStart, startBy, minuteBefore}
+use Rattle.worktime.specs.Walks.{tooLong, firstMinute, endMinute, least, greatest, nextStart, previousFinish, nextFinish, workingAt, previousStart, startBy, minuteBefore}
 use Rattle.worktime.specs.Count.{count-mono, count-worked, count-idle, closing-suc, start-le, close-le, start-unique, gap, reach}
 use Rattle.worktime.specs.Relations.{next-start-of, next-start-count, next-start-here, previous-finish-of, previous-finish-count, next-finish-here, next-finish-later, next-finish-after}
 use Rattle.worktime.specs.Search.{least-at, least-none, greatest-at, greatest-none}
-use Rattle.worktime.specs.Reads.{Ways, answers, refuses, ways-sound, ways-number, ways-refused, minute-in, minute-before, minute-after, minute-range, minute-cases, on-true, on-false, reads-in, reads-out}
+use Rattle.worktime.specs.Reads.{Ways, answers, refuses, ways-sound, ways-number, ways-refused, minute-in, minute-before, minute-after, minute-cases, on-true, on-false, reads-in, reads-out}
+
+is-or-refused : {x : Working} {b : Bool} {k : ℕ} → x ≡ Is b → x ≡ Working.Refused k → ⊥
+is-or-refused p q = let e : _≡_ {A = ℕ} 0 1 = cc in omega arith
 
 module _ (w : ℕ → Bool) where
+  -- ---- whether a minute is worked
+
+  pub working-at-out : (t : ℕ) → inYears (t / 1440) ≡ false → workingAt w t ≡ Working.Refused tooLong
+  unfolding workingAt
+  working-at-out t e = reads-out Working.Refused _ _ e
+
+  pub working-at-in : (t : ℕ) → inYears (t / 1440) ≡ true → workingAt w t ≡ Is (w t)
+  unfolding workingAt
+  working-at-in t e = reads-in Working.Refused _ _ e
+
+  pub working-at-sound : (t : ℕ) (b : Bool) → workingAt w t ≡ Is b → (b ≡ w t) × (inYears (t / 1440) ≡ true)
+  working-at-sound t b e =
+      ⊎-elim (λ x. let f = working-at-in t x in (cc, x)) (λ x. absurd (is-or-refused e (working-at-out t x))) (cases (inYears (t / 1440)))
+
+  pub working-at-why : (t k : ℕ) → workingAt w t ≡ Working.Refused k → (k ≡ tooLong) × (inYears (t / 1440) ≡ false)
+  working-at-why t k e =
+      ⊎-elim (λ x. absurd (is-or-refused (working-at-in t x) e)) (λ x. let f = working-at-out t x in (cc, x)) (cases (inYears (t / 1440)))
+
+  pub working-at-refused : (t k : ℕ) → workingAt w t ≡ Working.Refused k → k ≡ tooLong
+  working-at-refused t k e = working-at-why t k e .0
+
   -- ---- next start
 
   pub next-start-out : (t : ℕ) → inYears (t / 1440) ≡ false → nextStart w t ≡ Refused tooLong

@@ -8,3 +8,6 @@ pub mod Search
 pub mod Reads
 pub mod Answers
 pub mod Shift
+pub mod Between
+pub mod Exist
+pub mod Lower

@@ -1,10 +1,10 @@
 -- The limit of years in minutes: which times a walk may read, and the ways of an answer.
-use mathlib.Core.Path.{_≡_, refl, sym, ap, _∙_}
-use mathlib.Core.Bool.{Bool, true, false, true≢false}
+use mathlib.Core.Path.{_≡_}
+use mathlib.Core.Bool.{Bool, true, false}
 use mathlib.Core.Logic.{_⊎_, inl, inr, ⊎-elim}
-use Prim.Native.Nat.{ℕ, _+_, _-_, _*_, _/_, _≤_, _<_}
+use Prim.Native.Nat.{ℕ, _/_, _≤_, _<_}
 use native.Mathlib.Omega.{arith}
-use Rattle.date.specs.Years.{firstDay, endDay, inYears, years-before, years-after, years-within, years-in}
+use Rattle.date.specs.Years.{inYears, years-before, years-after, years-within, years-in}
 use Rattle.number.specs.Order.{lt-or-le}
 use Rattle.worktime.specs.declared.Walk.{Walk}
 use Rattle.worktime.specs.declared.Walk.the-variants.{At, Refused}

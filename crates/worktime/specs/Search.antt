@@ -1,11 +1,10 @@
 -- Laws of the four searches minute by minute, by counts: what each finds, and where it finds nothing.
 use mathlib.Core.Path.{_≡_, refl, sym, ap, _∙_}
 use mathlib.Core.Bool.{Bool, true, false, true≢false}
-use mathlib.Core.Logic.{_⊎_, inl, inr, ⊎-elim}
+use mathlib.Core.Logic.{⊎-elim}
 use Prim.Native.Nat.{ℕ, zero, suc, _+_, _-_, _≤_, _<_}
 use native.Mathlib.Omega.{arith}
 use Rattle.number.specs.Order.{cases, lt-or-le, zero-or-pos}
-use Rattle.worktime.specs.declared.Walk.{Walk}
 use Rattle.worktime.specs.declared.Walk.the-variants.{At, Refused}
 use Rattle.worktime.specs.Worked.{count, closing}
 use Rattle.worktime.specs.Walks.{tooLong, least, greatest, forward, backward}

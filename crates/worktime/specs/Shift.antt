@@ -2,14 +2,13 @@
 use mathlib.Core.Path.{_≡_, refl, sym, ap, _∙_}
 use mathlib.Core.Bool.{Bool, true, false}
 use mathlib.Core.Logic.{_⊎_, inl, inr, ⊎-elim}
-use Prim.Native.Nat.{ℕ, zero, suc, _+_, _-_, _*_, _/_, _≤_, _<_}
+use Prim.Native.Nat.{ℕ, zero, suc, _+_, _-_, _/_, _≤_, _<_}
 use native.Mathlib.Omega.{arith}
 use borrow.Author.Tests.{eq-eqb, ne-eqb}
 use lib.Dec.{eqb}
 use lib.IntN.{ℤ, pos, negsuc, negℤ}
-use Rattle.date.specs.Years.{firstDay, endDay, inYears}
-use Rattle.number.specs.Order.{lt-or-le, zero-or-pos}
-use Rattle.worktime.specs.declared.Walk.{Walk}
+use Rattle.date.specs.Years.{inYears}
+use Rattle.number.specs.Order.{lt-or-le}
 use Rattle.worktime.specs.declared.Walk.the-variants.{At, Refused}
 use Rattle.worktime.specs.Worked.{count, closing, IsAdvance, IsRetreat}
 use Rattle.worktime.specs.Walks.{tooLong, firstMinute, endMinute, reads, forward, backward, advance, retreat, shift}
@@ -62,7 +61,7 @@ module _ (w : ℕ → Bool) where
       (λ l.
       let r = reach w endMinute (count w t + n - 1) (omega arith) in
       let s : IsAdvance w t n (suc (r .0)) =
-        advance-of w p (closing-suc w (r .0) ∙ r .2) (omega (arith, count-worked w (r .0) (r .2))) in
+      advance-of w p (closing-suc w (r .0) ∙ r .2) (omega (arith, count-worked w (r .0) (r .2))) in
       answers (suc (r .0)) (advance-at-is s p (q .0) (r .1)) (s, q .0, r .1)) (lt-or-le (count w endMinute) (count w t + n)))
       (λ e. refuses (advance-out t n p e) (inl e)) (minute-cases t)
 
