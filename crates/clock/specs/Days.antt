@@ -106,9 +106,6 @@ module _ (h : ℕ → List Period) (d : ℕ) where
 
 -- ---- the same, of a day's hours in hand: ps, which are those of day d
 module _ (h : ℕ → List Period) (d : ℕ) (o : Ordered 0 (h d)) (ps : List Period) (e : ps ≡ h d) where
-  pub hand-ordered : Ordered 0 ps
-  hand-ordered = rw e o
-
   pub hand-rank : (m r : ℕ) → m ≤ 1440 → r ≡ rank ps m → count (worked h) (d * 1440 + m) ≡ count (worked h) (d * 1440) + r
   hand-rank m r l q = count-day h d o m l ∙ ap (λ x. count (worked h) (d * 1440) + x) (sym (q ∙ ap (λ x. rank x m) e))
 

@@ -2,3 +2,4 @@
 pub mod Instances
 pub mod On
 pub mod Days
+pub mod Ways

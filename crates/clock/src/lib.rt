@@ -10,7 +10,8 @@ ghost use Prim.Native.Nat.{ℕ, _+_, _*_, _^_, _≤_, _<_};
 ghost use Rattle.number.specs.Zed.{dn};
 ghost use Rattle.calendar.specs.Records.{Valid};
 ghost use Rattle.clock.specs.On.{workedOn};
-ghost use Rattle.worktime.specs.Walks.{nextStart, previousFinish, nextFinish, workingAt, previousStart, startBy, advance, retreat, shift, between, dayWork, workedBefore};
+ghost use Rattle.worktime.specs.Worked.{count};
+ghost use Rattle.worktime.specs.Walks.{endMinute, nextStart, previousFinish, nextFinish, workingAt, previousStart, startBy, advance, retreat, shift, between, dayWork, workedBefore};
 
 // Row 8 of 01's table: too long.
 pub const TOO_LONG: u64 = 8;
@@ -213,4 +214,81 @@ pub fn shift(week: [[Period; 8]; 7], sheet: &[u8], at: usize, n: usize, t: u64, 
         return advance(week, sheet, at, n, t, number::sign::upward(lag));
     }
     retreat(week, sheet, at, n, t, back)
+}
+
+// The minutes worked on day `d`.
+pub fn day_work(week: [[Period; 8]; 7], sheet: &[u8], at: usize, n: usize, d: u64) -> Work
+    requires { ⌜ Valid week (now sheet) at n ⌝ }
+    ensures { λ r. ⌜ r ≡ dayWork (workedOn week (now (sheet .entry)) at n) d ⌝ }
+{
+    if d < FIRST_DAY {
+        return Work::Refused(TOO_LONG);
+    }
+    if LAST_DAY < d {
+        return Work::Refused(TOO_LONG);
+    }
+    let hours = calendar::periods_on(week, sheet, at, n, d);
+    Work::Minutes(calendar::day_rank(hours, sheet, 1440) as i64)
+}
+
+// The minutes worked on `t`'s day before `t`.
+pub fn worked_before(week: [[Period; 8]; 7], sheet: &[u8], at: usize, n: usize, t: u64) -> Work
+    requires { ⌜ Valid week (now sheet) at n ⌝ }
+    ensures { λ r. ⌜ r ≡ workedBefore (workedOn week (now (sheet .entry)) at n) t ⌝ }
+{
+    let d = t / 1440;
+    let m = t % 1440;
+    if d < FIRST_DAY {
+        return Work::Refused(TOO_LONG);
+    }
+    if LAST_DAY < d {
+        return Work::Refused(TOO_LONG);
+    }
+    let hours = calendar::periods_on(week, sheet, at, n, d);
+    Work::Minutes(calendar::day_rank(hours, sheet, m) as i64)
+}
+
+// The minutes worked on the days from `d` up to but not `e`.
+fn days_work(week: [[Period; 8]; 7], sheet: &[u8], at: usize, n: usize, d: u64, e: u64) -> u64
+    requires { ⌜ Valid week (now sheet) at n × (d ≤ e) × (e < 4294967296) ⌝ }
+    ensures { λ r. ⌜ (count (workedOn week (now (sheet .entry)) at n) (d * 1440) + r ≡ count (workedOn week (now (sheet .entry)) at n) (e * 1440)) × (r ≤ 6184752906240) ⌝ }
+{
+    let mut sum: u64 = 0;
+    let mut i = d;
+    while i < e {
+        let hours = calendar::periods_on(week, sheet, at, n, i);
+        sum += calendar::day_rank(hours, sheet, 1440);
+        i += 1;
+    }
+    sum
+}
+
+// The minutes worked from `a` up to `b`, both in the years that may be read.
+fn work_to(week: [[Period; 8]; 7], sheet: &[u8], at: usize, n: usize, a: u64, b: u64) -> u64
+    requires { ⌜ Valid week (now sheet) at n × (a ≤ b) × (b < endMinute) ⌝ }
+    ensures { λ r. ⌜ (count (workedOn week (now (sheet .entry)) at n) a + r ≡ count (workedOn week (now (sheet .entry)) at n) b) × (r ≤ 6184752907680) ⌝ }
+{
+    let d = a / 1440;
+    let e = b / 1440;
+    let first = calendar::periods_on(week, sheet, at, n, d);
+    let last = calendar::periods_on(week, sheet, at, n, e);
+    days_work(week, sheet, at, n, d, e) + calendar::day_rank(last, sheet, b % 1440)
+        - calendar::day_rank(first, sheet, a % 1440)
+}
+
+// The minutes worked from `a` to `b`: negative where `b` comes first.
+pub fn between(week: [[Period; 8]; 7], sheet: &[u8], at: usize, n: usize, a: u64, b: u64) -> Work
+    requires { ⌜ Valid week (now sheet) at n ⌝ }
+    ensures { λ r. ⌜ r ≡ between (workedOn week (now (sheet .entry)) at n) a b ⌝ }
+{
+    if date::in_years(a / 1440) {
+        if date::in_years(b / 1440) {
+            if a <= b {
+                return Work::Minutes(work_to(week, sheet, at, n, a, b) as i64);
+            }
+            return Work::Minutes(number::sign::difference(work_to(week, sheet, at, n, b, a), 0));
+        }
+        return Work::Refused(TOO_LONG);
+    }
+    Work::Refused(TOO_LONG)
 }

@@ -6,13 +6,14 @@ use borrow.Author.Needs.{needs}
 use Rattle.calendar.specs.Hours.{worked, rank}
 use Rattle.calendar.specs.HoursLaws.{rank-mono}
 use Rattle.calendar.specs.Records.{hoursOn, periodsOf}
+use Rattle.calendar.specs.ValidLaws.{hand-ordered}
 use Rattle.date.specs.Years.{firstDay, endDay, years-after}
 use Rattle.worktime.specs.Worked.{count}
 use Rattle.worktime.specs.Count.{count-mono}
 use Rattle.worktime.specs.Walks.{firstMinute, endMinute}
 use Rattle.worktime.specs.Answers.{previous-finish-out, previous-finish-at, previous-finish-none}
 use Rattle.clock.specs.On.{workedOn}
-use Rattle.clock.specs.Days.{DaySelected, hand-ordered, hand-rank, hand-select, count-time, count-day-before}
+use Rattle.clock.specs.Days.{DaySelected, hand-rank, hand-select, count-time, count-day-before}
 use Rattle.clock.proofs.previous_finish.Statement.{statement}
 use Rattle.clock.proofs.previous_finish.Tie as tie
 
@@ -34,10 +35,7 @@ periods-on-requires c κs = (omega arith, c .before .before .before .before .pre
 
 day-rank-requires : tie.Need-day-rank-requires Inv-loop μ-loop
 day-rank-requires c κs =
-    let l = c .before .before in
-    let a = l .before .before .before .args in
-    let h = hoursOn (a .week) (a .sheet .now) (a .at) (a .n) in
-    (c .periods-on .ensures .1, hand-ordered h (l .loop .d) (l .before .before .before .pre .ordered (l .loop .d)) _ (c .periods-on .ensures .0))
+    (c .periods-on .ensures .1, hand-ordered (c .before .before .before .before .before .pre) _ _ (c .periods-on .ensures .0))
 
 mul-t12 : tie.Need-mul-t12 Inv-loop μ-loop
 mul-t12 c = search needs
