@@ -1,2 +1,5 @@
 -- The calendar of civil dates.
 pub mod Years
+pub mod Gregorian
+pub mod YearLaws
+pub mod DateLaws
