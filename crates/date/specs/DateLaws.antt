@@ -35,9 +35,6 @@ sum-all (x ∷ xs) (suc m) = omega (arith, sum-all xs m)
 
 -- ---- a date's day of the year, from 0
 module _ {day year : ℤ} {month dayOfMonth : ℕ} (D : IsDate day year month dayOfMonth) where
-  abbrev dayOfYear : ℕ
-  dayOfYear = daysBefore year month + (dayOfMonth - 1)
-
   -- it lies in its month
   pub in-month : daysBefore year month + (dayOfMonth - 1) < sum (take (suc (month - 1)) (monthLengths year))
   in-month = omega (arith, sum-more (monthLengths year) (month - 1), D .from, D .to)

@@ -3,3 +3,4 @@ pub mod Years
 pub mod Gregorian
 pub mod YearLaws
 pub mod DateLaws
+pub mod MarchLaws
