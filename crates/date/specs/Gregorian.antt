@@ -15,10 +15,13 @@ abbrev pub bit : Bool → ℕ
 bit true = 1
 bit false = 0
 
--- the lengths of the months, January's first; a year before year 0 is as far from it as its size
-unfoldable pub monthLengths : ℤ → List ℕ
-monthLengths year =
-    31 ∷ (28 + bit (leap (natAbs year))) ∷ 31 ∷ 30 ∷ 31 ∷ 30 ∷ 31 ∷ 31 ∷ 30 ∷ 31 ∷ 30 ∷ 31 ∷ []
+-- the lengths of the months, January's first, of a leap year and of a common one
+unfoldable pub lengths : Bool → List ℕ
+lengths l = 31 ∷ (28 + bit l) ∷ 31 ∷ 30 ∷ 31 ∷ 30 ∷ 31 ∷ 31 ∷ 30 ∷ 31 ∷ 30 ∷ 31 ∷ []
+
+-- a year before year 0 is as far from it as its size
+abbrev pub monthLengths : ℤ → List ℕ
+monthLengths year = lengths (leap (natAbs year))
 
 unfoldable pub sum : List ℕ → ℕ
 sum [] = 0

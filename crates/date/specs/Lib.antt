@@ -4,3 +4,4 @@ pub mod Gregorian
 pub mod YearLaws
 pub mod DateLaws
 pub mod MarchLaws
+pub mod MonthLaws

@@ -121,7 +121,29 @@ module _ (d c q f : ℕ) (h : d < 146096) (hd : d ≡ 36524 * c + (1461 * q + f)
           lt y c q g a b h k = omega arith
 
 pub year-of-era : (d : ℕ) → d < 146097 → InYear d (yearOfEra d) × (yearOfEra d < 400)
-year-of-era d h = ⊎-elim (λ l. few d l) (λ l. let e : d ≡ 146096 = omega arith in rw e (record { begun = omega arith; ends = omega arith }, omega arith)) (lt-or-le d 146096)
+year-of-era d h = ⊎-elim (few d) (λ l. last d (omega (arith, l))) (lt-or-le d 146096)
   where
     few : (d : ℕ) → d < 146096 → InYear d (yearOfEra d) × (yearOfEra d < 400)
     few d l = in-era-year d (d / 36524) (d % 36524 / 1461) (d % 36524 % 1461) l (omega arith) (omega arith) (omega arith)
+
+    last : (d : ℕ) → d ≡ 146096 → InYear d (yearOfEra d) × (yearOfEra d < 400)
+    last d e = rw e (record { begun = omega arith; ends = omega arith }, omega arith)
+
+-- ---- k eras on
+march-era-sum : (y k a b c : ℕ) → b ≤ a → 365 * (y + 400 * k) + (a + 100 * k) - (b + 4 * k) + (c + k) ≡ 365 * y + a - b + c + 146097 * k
+march-era-sum y k a b c h = omega arith
+
+pub march-era : (y k : ℕ) → march (y + 400 * k) ≡ march y + 146097 * k
+march-era y k =
+    let p : (y + 400 * k) / 4 ≡ y / 4 + 100 * k = omega arith in
+    let q : (y + 400 * k) / 100 ≡ y / 100 + 4 * k = omega arith in
+    let r : (y + 400 * k) / 400 ≡ y / 400 + k = omega arith in
+    rw (p, q, r) (march-era-sum y k (y / 4) (y / 100) (y / 400) (less y))
+  where
+    less : (y : ℕ) → y / 100 ≤ y / 4
+    less y = omega arith
+
+pub in-era : (d y k : ℕ) → InYear d y → InYear (d + 146097 * k) (y + 400 * k)
+in-era d y k I =
+    let e : y + 400 * k + 1 ≡ y + 1 + 400 * k = omega arith in
+    record { begun = omega (arith, march-era y k, I .begun); ends = rw e (omega (arith, march-era (y + 1) k, I .ends)) }

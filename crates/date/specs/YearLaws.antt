@@ -13,7 +13,7 @@ use lib.ListN.{getD, take}
 use Rattle.number.specs.Order.{eq-or-ne}
 use Rattle.number.specs.Zed.{up, dn}
 use Rattle.number.specs.ZedLaws.{neg-up, neg-dn}
-use Rattle.date.specs.Gregorian.{leap, bit, sum, monthLengths, yearLength, yearsUp, yearsDown, newYear}
+use Rattle.date.specs.Gregorian.{leap, bit, lengths, sum, yearLength, yearsUp, yearsDown, newYear}
 
 -- ---- leap years, as three counts of multiples
 abbrev pub divides : ℕ → ℕ → ℕ
@@ -55,7 +55,7 @@ module _ (n : ℕ) where
 
 -- ---- the lengths of years
 pub year-length : (year : ℤ) → yearLength year ≡ 365 + bit (leap (natAbs year))
-unfolding monthLengths sum
+unfolding lengths sum
 year-length year = omega arith
 
 -- ---- closed forms: the leap years are the multiples of 4 and of 400, less those of 100
