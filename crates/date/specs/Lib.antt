@@ -5,3 +5,4 @@ pub mod YearLaws
 pub mod DateLaws
 pub mod MarchLaws
 pub mod MonthLaws
+pub mod CivilLaws
