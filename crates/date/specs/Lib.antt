@@ -6,3 +6,5 @@ pub mod DateLaws
 pub mod MarchLaws
 pub mod MonthLaws
 pub mod CivilLaws
+pub mod Days
+pub mod DaysLaws
