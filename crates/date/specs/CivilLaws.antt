@@ -13,22 +13,20 @@ use Rattle.number.specs.Order.{lt-or-le, eq-or-ne}
 use Rattle.number.specs.Zed.{up, dn}
 use Rattle.number.specs.ZedLaws.{same, add-is}
 use Rattle.date.specs.Gregorian.{leap, bit, lengths, sum, monthLength, daysBefore, yearLength, yearsUp, yearsDown, newYear, IsDate}
-use Rattle.date.specs.YearLaws.{divides, leap-bit, round-4, round-100, round-400, year-length, years-up, years-down, new-year-up, new-year-dn}
-use Rattle.date.specs.MarchLaws.{march, InYear}
-use Rattle.date.specs.MonthLaws.{daysFromMarch, spring-before, spring-length, month-begun, month-ends}
+use Rattle.date.specs.YearLaws.{divides, leap-bit, round-4, round-100, round-400, year-length, years-up, years-down, epoch, new-year-up, new-year-dn}
+use Rattle.date.specs.March.{march, InYear, Shifted, daysFromMarch}
+use Rattle.date.specs.MarchLaws.{hundreds-fours}
+use Rattle.date.specs.MonthLaws.{spring-before, spring-length, month-begun, month-ends}
 
 -- ---- 1 January and 1 March
 pub new-march : (n : ℕ) → yearsUp n + bit (leap n) ≡ march n + 1
 new-march n =
     sums (yearsUp n) (365 * n) (bit (leap n)) (divides 4 n) (divides 100 n) (divides 400 n) ((n + 3) / 4) ((n + 99) / 100) ((n + 399) / 400) (n / 4) (n / 100) (n / 400) (years-up n) (leap-bit n) (round-4 n) (round-100 n)
-    (round-400 n) (less n)
+    (round-400 n) (hundreds-fours n)
   where
     sums : (u y b d4 d100 d400 c4 c100 c400 q4 q100 q400 : ℕ) → u + c100 ≡ y + c4 + c400 → b + d100 ≡ d4 + d400 → c4 + d4 ≡ q4 + 1 → c100 + d100 ≡ q100 + 1 → c400 + d400 ≡ q400 + 1 → q100 ≤ q4
         → u + b ≡ y + q4 - q100 + q400 + 1
     sums u y b d4 d100 d400 c4 c100 c400 q4 q100 q400 hu hb h4 h100 h400 l = omega arith
-
-    less : (y : ℕ) → y / 100 ≤ y / 4
-    less y = omega arith
 
 pub next-new-year : (n : ℕ) → yearsUp (n + 1) ≡ march n + 366
 unfolding yearsUp
@@ -38,9 +36,6 @@ pub next-march : (n : ℕ) → march (n + 1) ≡ march n + 365 + bit (leap (n + 
 next-march n = omega (arith, new-march (n + 1), next-new-year n)
 
 -- ---- years counted from -5,878,000
-abbrev pub Shifted : ℤ → ℕ → Type 0
-Shifted year n = up year + 5878000 ≡ n + dn year
-
 -- a year is a leap year where the one so many eras on is
 module _ (k : ℕ) where
   same-test : (a b : ℕ) → (a % k ≡ 0 → b % k ≡ 0) → (b % k ≡ 0 → a % k ≡ 0) → eqb (a % k) 0 ≡ eqb (b % k) 0
@@ -93,9 +88,6 @@ is-date day year month dom a b c d e =
           same (day +ℤ newYear (pos 1970)) (newYear year +ℤ pos o)
           (omega (arith, add-is day (newYear (pos 1970)), add-is (newYear year) (pos o), new-year-up year, new-year-dn year, e));
     }
-
-epoch : yearsUp 1970 ≡ 719528
-epoch = omega (arith, years-up 1970)
 
 -- ---- day t from 1 March of the year -5,878,000 lies in the year n that begins in March
 module _ (day : ℤ) (t n : ℕ) (ht : up day + 2147614883 ≡ t + dn day) (I : InYear t n) where

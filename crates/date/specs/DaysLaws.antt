@@ -11,7 +11,7 @@ use Rattle.number.specs.ZedLaws.{apart, same, minus-is}
 use Rattle.date.specs.declared.FromDays.the-variants.{Is, OutOfRange}
 use Rattle.date.specs.Years.{firstDay, endDay, inYears, years-in, years-within}
 use Rattle.date.specs.Gregorian.{IsDate, yearsUp, yearsDown, daysBefore}
-use Rattle.date.specs.YearLaws.{years-up, years-down, up-grows, down-grows, year-before}
+use Rattle.date.specs.YearLaws.{years-up, years-down, year-zero, epoch, up-grows, down-grows, year-before}
 use Rattle.date.specs.DateLaws.{count-is, in-year}
 use Rattle.date.specs.Days.{biased, fromDays, weekday, midnight, signedDay, signedMinute}
 
@@ -44,18 +44,11 @@ unfolding fromDays
 from-days-out day e = rw (e, fromDays)
 
 -- ---- exactly the years -9999 to 9999
-none : (yearsUp 0 ≡ 0) × (yearsDown 0 ≡ 0)
-unfolding yearsUp yearsDown
-none = (refl, refl)
-
 first : yearsDown 9999 ≡ 3652059
 first = omega (arith, years-down 9999)
 
 end : yearsUp 10000 ≡ 3652425
 end = omega (arith, years-up 10000)
-
-epoch : yearsUp 1970 ≡ 719528
-epoch = omega (arith, years-up 1970)
 
 module _ {day year : ℤ} {month dom : ℕ} (fits : dn day ≤ 2 ^ 31) (D : IsDate day year month dom) where
   pub in-years-of : dn year ≤ 9999 → up year ≤ 9999 → inYears (biased day) ≡ true
@@ -78,7 +71,7 @@ module _ {day year : ℤ} {month dom : ℕ} (fits : dn day ≤ 2 ^ 31) (D : IsDa
 
       low : dn year ≤ 9999
       low =
-          ⊎-elim (λ h. absurd (omega (arith, b, count-is D, in-year D, none, first, epoch, year-before year (negsuc 9998) (omega (arith, below h))))) (λ h. h)
+          ⊎-elim (λ h. absurd (omega (arith, b, count-is D, in-year D, year-zero, first, epoch, year-before year (negsuc 9998) (omega (arith, below h))))) (λ h. h)
           (lt-or-le 9999 (dn year))
 
       above : 9999 < up year → dn year ≡ 0
@@ -86,5 +79,5 @@ module _ {day year : ℤ} {month dom : ℕ} (fits : dn day ≤ 2 ^ 31) (D : IsDa
 
       high : up year ≤ 9999
       high =
-          ⊎-elim (λ h. absurd (omega (arith, b, count-is D, none, end, epoch, up-grows 10000 (up year) h, down-grows (dn year) 0 (omega (arith, above h))))) (λ h. h)
+          ⊎-elim (λ h. absurd (omega (arith, b, count-is D, year-zero, end, epoch, up-grows 10000 (up year) h, down-grows (dn year) 0 (omega (arith, above h))))) (λ h. h)
           (lt-or-le 9999 (up year))

@@ -1,22 +1,10 @@
--- Years that begin in March: the days before one, the year of an era of 400 that holds a day, and the year and day of a day.
+-- The laws of years that begin in March: the year of an era of 400 that holds a day is Hinnant's quotient, and eras repeat.
 use mathlib.Core.Path.{_≡_, refl, sym, ap, _∙_}
 use mathlib.Core.Logic.{_⊎_, inl, inr, ⊎-elim}
 use Prim.Native.Nat.{ℕ, zero, suc, _+_, _-_, _*_, _/_, _%_, _≤_, _<_}
 use native.Mathlib.Omega.{arith}
-use Rattle.number.specs.Order.{lt-or-le, eq-or-ne}
-
--- from 1 March of year 0 to 1 March of year n
-abbrev pub march : ℕ → ℕ
-march n = 365 * n + n / 4 - n / 100 + n / 400
-
--- the year of an era to which its day d belongs, as Hinnant's arithmetic has it
-abbrev pub yearOfEra : ℕ → ℕ
-yearOfEra d = (d - d / 1460 + d / 36524 - d / 146096) / 365
-
--- day d of the count that begins with 1 March of year 0 lies in year n
-pub record InYear (d n : ℕ) : Type 0 where
-  pub begun : march n ≤ d
-  pub ends : d < march (n + 1)
+use Rattle.number.specs.Order.{lt-or-le}
+use Rattle.date.specs.March.{march, yearOfEra, InYear}
 
 -- ---- year g of the q-th four years of century c
 module _ (y c q g : ℕ) (hy : y ≡ 100 * c + 4 * q + g) (hc : c ≤ 3) (hq : q ≤ 24) (hg : g ≤ 3) where
@@ -133,15 +121,15 @@ year-of-era d h = ⊎-elim (few d) (λ l. last d (omega (arith, l))) (lt-or-le d
 march-era-sum : (y k a b c : ℕ) → b ≤ a → 365 * (y + 400 * k) + (a + 100 * k) - (b + 4 * k) + (c + k) ≡ 365 * y + a - b + c + 146097 * k
 march-era-sum y k a b c h = omega arith
 
+pub hundreds-fours : (y : ℕ) → y / 100 ≤ y / 4
+hundreds-fours y = omega arith
+
 pub march-era : (y k : ℕ) → march (y + 400 * k) ≡ march y + 146097 * k
 march-era y k =
     let p : (y + 400 * k) / 4 ≡ y / 4 + 100 * k = omega arith in
     let q : (y + 400 * k) / 100 ≡ y / 100 + 4 * k = omega arith in
     let r : (y + 400 * k) / 400 ≡ y / 400 + k = omega arith in
-    rw (p, q, r) (march-era-sum y k (y / 4) (y / 100) (y / 400) (less y))
-  where
-    less : (y : ℕ) → y / 100 ≤ y / 4
-    less y = omega arith
+    rw (p, q, r) (march-era-sum y k (y / 4) (y / 100) (y / 400) (hundreds-fours y))
 
 pub in-era : (d y k : ℕ) → InYear d y → InYear (d + 146097 * k) (y + 400 * k)
 in-era d y k I =

@@ -9,6 +9,7 @@ use lib.Dec.{eqb}
 use lib.ListN.{getD, take}
 use Rattle.number.specs.Order.{eq-or-ne}
 use Rattle.date.specs.Gregorian.{bit, lengths, sum}
+use Rattle.date.specs.March.{daysFromMarch}
 
 -- ---- a test of each number below n, by evaluation
 all-below : ℕ → (ℕ → Bool) → Bool
@@ -29,10 +30,6 @@ unfolding all-below
 each zero p e m h = absurd (omega arith)
 each (suc n) p e m h =
     ⊎-elim (λ k. rw k (and-left (p n) (all-below n p) e)) (λ k. each n p (and-right (p n) (all-below n p) e) m (omega arith)) (eq-or-ne m n)
-
--- the days before the m-th month, counted from 1 March
-abbrev pub daysFromMarch : ℕ → ℕ
-daysFromMarch m = (153 * m + 2) / 5
 
 -- ---- March to December
 pub spring-before : (l : Bool) (m : ℕ) → m < 10 → sum (take (m + 3 - 1) (lengths l)) ≡ 59 + bit l + daysFromMarch m

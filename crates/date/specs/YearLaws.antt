@@ -78,6 +78,14 @@ years-down (suc n) =
     year-more (yearsDown n) n _ _ (divides 4 (suc n)) (divides 100 (suc n)) (divides 400 (suc n)) (n / 4) (n / 100) (n / 400) _ _ _ (years-down n) (year-length (negsuc n)) (leap-bit (suc n))
     (omega (arith, round-4 (suc n))) (omega (arith, round-100 (suc n))) (omega (arith, round-400 (suc n)))
 
+pub year-zero : (yearsUp 0 ≡ 0) × (yearsDown 0 ≡ 0)
+unfolding yearsUp yearsDown
+year-zero = (refl, refl)
+
+-- 1 January 1970
+pub epoch : yearsUp 1970 ≡ 719528
+epoch = omega (arith, years-up 1970)
+
 -- ---- 1 January of a year, by its two sides
 pub new-year-up : (year : ℤ) → up (newYear year) ≡ yearsUp (up year)
 unfolding newYear yearsUp

@@ -4,8 +4,7 @@ ghost use Prim.Native.Nat.{ℕ, _+_, _*_, _^_, _≤_, _<_};
 ghost use lib.IntN.{ℤ};
 ghost use Rattle.number.specs.Zed.{up, dn};
 ghost use Rattle.date.specs.Gregorian.{IsDate};
-ghost use Rattle.date.specs.MarchLaws.{march, yearOfEra, InYear};
-ghost use Rattle.date.specs.CivilLaws.{Shifted};
+ghost use Rattle.date.specs.March.{march, yearOfEra, InYear, Shifted};
 
 use crate::Ymd;
 

@@ -3,7 +3,8 @@ use borrow.Author.Needs.{needs}
 use mathlib.Core.Path.{_≡_}
 use native.Mathlib.Omega.{arith}
 use Prim.Native.Nat.{_+_, _*_, _/_, _%_, _<_}
-use Rattle.date.specs.MarchLaws.{InYear, yearOfEra, year-of-era, in-era}
+use Rattle.date.specs.March.{InYear}
+use Rattle.date.specs.MarchLaws.{year-of-era, in-era}
 use Rattle.date.proofs.civil.year_of.Statement.{statement}
 use Rattle.date.proofs.civil.year_of.Tie as tie
 
