@@ -2,10 +2,13 @@
 use mathlib.Core.Path.{_≡_, refl, sym, ap, _∙_}
 use mathlib.Core.Bool.{Bool, true, false}
 use mathlib.Core.Logic.{⊎-elim}
+use mathlib.Core.List.{List}
 use Prim.Native.Nat.{ℕ, suc, _+_, _-_, _*_, _/_, _%_, _^_, _≤_, _<_}
 use native.Mathlib.Omega.{arith}
 use lib.IntN.{ℤ, pos, negsuc, _-ℤ_}
 use Rattle.number.specs.Order.{lt-or-le}
+use Rattle.number.specs.Bytes.{u32At, i32At, biasedAt}
+use Rattle.number.specs.BytesLaws.{i32-biased}
 use Rattle.number.specs.Zed.{up, dn}
 use Rattle.number.specs.ZedLaws.{apart, same, minus-is}
 use Rattle.date.specs.declared.FromDays.the-variants.{Is, OutOfRange}
@@ -33,6 +36,14 @@ day-of-midnight day h =
   where
     back : (d : ℕ) → d * 1440 / 1440 ≡ d
     back d = omega arith
+
+-- its signed minute is 1,440 for each signed day
+pub minute-of-midnight : (day : ℤ) → dn day ≤ 2 ^ 31 → up (signedMinute (midnight (biased day))) + 1440 * dn day ≡ dn (signedMinute (midnight (biased day))) + 1440 * up day
+minute-of-midnight day h = omega (arith, minus-is (pos (midnight (biased day))) (pos (midnight (2 ^ 31))), biased-is day h)
+
+-- the sheet's two readings of a day
+pub biased-at : (s : List ℕ) (at : ℕ) → u32At s at < 2 ^ 32 → biased (i32At s at) ≡ biasedAt s at
+biased-at s at h = omega (arith, i32-biased s at h)
 
 -- ---- the two ways of `from_days`
 pub from-days-in : (day : ℤ) → inYears (biased day) ≡ true → fromDays day ≡ Is (record { 0 = day })
