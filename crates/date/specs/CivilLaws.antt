@@ -1,18 +1,18 @@
 -- A day's year, month and day of the month by the arithmetic on years that begin in March, counted from the year -5,878,000, a whole number of eras before year 0.
 use mathlib.Core.Path.{_≡_, refl, sym, ap, _∙_}
-use mathlib.Core.Bool.{Bool, true, false, not, _&&_, _||_}
-use mathlib.Core.Logic.{_⊎_, inl, inr, ⊎-elim}
-use Prim.Native.Nat.{ℕ, zero, suc, _+_, _-_, _*_, _/_, _%_, _≤_, _<_}
+use mathlib.Core.Bool.{Bool, true, false}
+use mathlib.Core.Logic.{⊎-elim}
+use Prim.Native.Nat.{ℕ, suc, _+_, _-_, _*_, _/_, _%_, _≤_, _<_}
 use native.Mathlib.Numerals.{add-one}
 use native.Mathlib.Omega.{arith}
-use borrow.Author.Tests.{eqb-true, eqb-false, eq-eqb, ne-eqb}
+use borrow.Author.Tests.{eq-eqb, ne-eqb}
 use lib.Dec.{eqb}
 use lib.IntN.{ℤ, pos, negsuc, natAbs, _+ℤ_}
-use lib.ListN.{getD, take}
-use Rattle.number.specs.Order.{lt-or-le, eq-or-ne}
+use lib.ListN.{getD}
+use Rattle.number.specs.Order.{eq-or-ne}
 use Rattle.number.specs.Zed.{up, dn}
 use Rattle.number.specs.ZedLaws.{same, add-is}
-use Rattle.date.specs.Gregorian.{leap, bit, lengths, sum, monthLength, daysBefore, yearLength, yearsUp, yearsDown, newYear, IsDate}
+use Rattle.date.specs.Gregorian.{leap, bit, lengths, sum, monthLength, daysBefore, yearsUp, yearsDown, newYear, IsDate}
 use Rattle.date.specs.YearLaws.{divides, leap-bit, round-4, round-100, round-400, year-length, years-up, years-down, epoch, new-year-up, new-year-dn}
 use Rattle.date.specs.March.{march, InYear, Shifted, daysFromMarch}
 use Rattle.date.specs.MarchLaws.{hundreds-fours}

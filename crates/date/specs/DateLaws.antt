@@ -1,15 +1,15 @@
 -- A day has one year, month and day of the month at most.
-use mathlib.Core.Path.{_≡_, refl, sym, ap, _∙_}
-use mathlib.Core.Logic.{_⊎_, inl, inr, ⊎-elim}
+use mathlib.Core.Path.{_≡_, refl, ap}
+use mathlib.Core.Logic.{⊎-elim}
 use mathlib.Core.List.{List, [], _∷_}
 use Prim.Native.Nat.{ℕ, zero, suc, _+_, _-_, _≤_, _<_}
 use native.Mathlib.Omega.{arith}
-use lib.IntN.{ℤ, pos, _+ℤ_}
-use lib.ListN.{length, getD, take}
+use lib.IntN.{ℤ, pos}
+use lib.ListN.{getD, take}
 use Rattle.number.specs.Order.{lt-or-le}
 use Rattle.number.specs.Zed.{up, dn}
 use Rattle.number.specs.ZedLaws.{same, add-is}
-use Rattle.date.specs.Gregorian.{sum, monthLengths, monthLength, daysBefore, yearLength, yearsUp, yearsDown, newYear, IsDate}
+use Rattle.date.specs.Gregorian.{sum, monthLengths, daysBefore, yearLength, yearsUp, yearsDown, newYear, IsDate}
 use Rattle.date.specs.YearLaws.{new-year-up, new-year-dn, year-before}
 
 -- ---- the first m of a list of numbers

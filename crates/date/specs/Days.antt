@@ -3,7 +3,6 @@ use mathlib.Core.Bool.{true, false}
 use Prim.Native.Nat.{ℕ, _+_, _-_, _*_, _/_, _%_, _^_}
 use lib.IntN.{ℤ, pos, _-ℤ_}
 use Rattle.number.specs.Zed.{up, dn}
-use Rattle.date.specs.declared.Date.{Date}
 use Rattle.date.specs.declared.FromDays.{FromDays}
 use Rattle.date.specs.declared.FromDays.the-variants.{Is, OutOfRange}
 use Rattle.date.specs.Years.{inYears}

@@ -1,9 +1,9 @@
 -- The laws of days and minutes: weekdays follow one another, a date's midnight is on its day, and the years that a date may lie in.
-use mathlib.Core.Path.{_≡_, refl, sym, ap, _∙_}
-use mathlib.Core.Bool.{Bool, true, false}
+use mathlib.Core.Path.{_≡_, refl}
+use mathlib.Core.Bool.{true, false}
 use mathlib.Core.Logic.{⊎-elim}
 use mathlib.Core.List.{List}
-use Prim.Native.Nat.{ℕ, suc, _+_, _-_, _*_, _/_, _%_, _^_, _≤_, _<_}
+use Prim.Native.Nat.{ℕ, _+_, _*_, _/_, _%_, _^_, _≤_, _<_}
 use native.Mathlib.Omega.{arith}
 use lib.IntN.{ℤ, pos, negsuc, _-ℤ_}
 use Rattle.number.specs.Order.{lt-or-le}
@@ -13,7 +13,7 @@ use Rattle.number.specs.Zed.{up, dn}
 use Rattle.number.specs.ZedLaws.{apart, same, minus-is}
 use Rattle.date.specs.declared.FromDays.the-variants.{Is, OutOfRange}
 use Rattle.date.specs.Years.{firstDay, endDay, inYears, years-in, years-within}
-use Rattle.date.specs.Gregorian.{IsDate, yearsUp, yearsDown, daysBefore}
+use Rattle.date.specs.Gregorian.{IsDate, yearsUp, yearsDown}
 use Rattle.date.specs.YearLaws.{years-up, years-down, year-zero, epoch, up-grows, down-grows, year-before}
 use Rattle.date.specs.DateLaws.{count-is, in-year}
 use Rattle.date.specs.Days.{biased, fromDays, weekday, midnight, signedDay, signedMinute}

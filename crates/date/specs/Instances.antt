@@ -1,9 +1,7 @@
 -- Four dates of the calendar, with the days that they are.
-use mathlib.Core.Path.{_≡_}
-use Prim.Native.Nat.{ℕ}
 use native.Mathlib.Omega.{arith}
-use lib.IntN.{ℤ, pos, negsuc}
-use Rattle.date.specs.Gregorian.{leap, lengths, sum, yearsUp, yearsDown, IsDate}
+use lib.IntN.{pos, negsuc}
+use Rattle.date.specs.Gregorian.{leap, lengths, sum, IsDate}
 use Rattle.date.specs.YearLaws.{years-up, years-down, year-zero, epoch}
 use Rattle.date.specs.CivilLaws.{is-date}
 

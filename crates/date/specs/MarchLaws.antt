@@ -1,7 +1,7 @@
 -- The laws of years that begin in March: the year of an era of 400 that holds a day is Hinnant's quotient, and eras repeat.
-use mathlib.Core.Path.{_≡_, refl, sym, ap, _∙_}
+use mathlib.Core.Path.{_≡_, refl}
 use mathlib.Core.Logic.{_⊎_, inl, inr, ⊎-elim}
-use Prim.Native.Nat.{ℕ, zero, suc, _+_, _-_, _*_, _/_, _%_, _≤_, _<_}
+use Prim.Native.Nat.{ℕ, _+_, _-_, _*_, _/_, _%_, _≤_, _<_}
 use native.Mathlib.Omega.{arith}
 use Rattle.number.specs.Order.{lt-or-le}
 use Rattle.date.specs.March.{march, yearOfEra, InYear}

@@ -5,7 +5,6 @@ ghost use lib.IntN.{ℤ};
 ghost use Rattle.number.specs.Zed.{up, dn};
 ghost use Rattle.date.specs.Gregorian.{IsDate};
 ghost use Rattle.date.specs.March.{march, yearOfEra, InYear, Shifted};
-
 use crate::Ymd;
 
 // The year of an era of 400 years to which its day `doe` belongs.

@@ -9,7 +9,7 @@ ghost use Rattle.date.specs.Days.{biased, fromDays, weekday, midnight, s
 mod civil;
 
 // A day, counted from 1 January 1970 (negative before it).
-pub struct Date(i32);
+pub struct Date(pub i32);
 
 // A date as the calendar has it: the month from 1 on, and the day of the month.
 pub struct Ymd {
@@ -26,6 +26,7 @@ pub enum FromDays {
 
 // The first day that a walk may read, and the last: those of the years -9999 to 9999, counted from the first day that an i32 can name.
 pub const FIRST_DAY: u64 = 2143112061;
+
 pub const LAST_DAY: u64 = 2150416544;
 
 // Whether `day` lies in the years -9999 to 9999.

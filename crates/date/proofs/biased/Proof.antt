@@ -1,11 +1,10 @@
 -- `date::biased` meets its contract: the sum is not negative, and fits.
-use mathlib.Core.Path.{_≡_, refl, _∙_}
-use mathlib.Core.Logic.{⊎-elim}
+use mathlib.Core.Path.{_≡_, refl}
 use native.Mathlib.Omega.{arith}
-use lib.IntN.{ℤ, pos, _+ℤ_, natAbs}
+use lib.IntN.{ℤ, pos, _+ℤ_}
 use mir.Facts.{toZ-ofZ, sfits-widen}
 use mir.Syntax.{w32, w64}
-use mir.Val.{SFits, Fits}
+use mir.Val.{SFits}
 use Rattle.number.specs.Zed.{up, dn}
 use Rattle.number.specs.ZedLaws.{up-fits, dn-fits, fits-sides, add-up, add-dn, nonNeg-of, abs-up}
 use Rattle.date.specs.Days.{biased}

@@ -1,7 +1,6 @@
 -- `date::Date::from_days` meets its contract: each way out cites its law.
 use borrow.Author.Needs.{needs}
 use mathlib.Core.Path.{_≡_, sym, ap, _∙_}
-use mathlib.Core.Bool.{true, false}
 use mir.Facts.{toZ-ofZ}
 use Rattle.date.specs.Years.{inYears}
 use Rattle.date.specs.Days.{biased}

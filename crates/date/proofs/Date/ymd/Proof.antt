@@ -1,6 +1,6 @@
 -- `date::Date::ymd` meets its contract.
 use borrow.Author.Needs.{needs}
-use mathlib.Core.Path.{_≡_, refl}
+use mathlib.Core.Path.{_≡_}
 use native.Mathlib.Omega.{arith}
 use mir.Facts.{toZ-ofZ}
 use mir.Syntax.{w32}
