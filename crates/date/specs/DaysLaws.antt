@@ -6,7 +6,7 @@ use mathlib.Core.List.{List}
 use Prim.Native.Nat.{ℕ, _+_, _*_, _/_, _%_, _^_, _≤_, _<_}
 use native.Mathlib.Omega.{arith}
 use lib.IntN.{ℤ, pos, negsuc, _-ℤ_}
-use Rattle.number.specs.Order.{lt-or-le}
+use Rattle.number.specs.Order.{cases, lt-or-le}
 use Rattle.number.specs.Bytes.{u32At, i32At, biasedAt}
 use Rattle.number.specs.BytesLaws.{i32-biased}
 use Rattle.number.specs.Zed.{up, dn}
@@ -92,3 +92,11 @@ module _ {day year : ℤ} {month dom : ℕ} (fits : dn day ≤ 2 ^ 31) (D : IsDa
       high =
           ⊎-elim (λ h. absurd (omega (arith, b, count-is D, year-zero, end, epoch, up-grows 10000 (up year) h, down-grows (dn year) 0 (omega (arith, above h))))) (λ h. h)
           (lt-or-le 9999 (up year))
+
+  -- `from_days` by the year
+  pub from-days-within : dn year ≤ 9999 → up year ≤ 9999 → fromDays day ≡ Is (record { 0 = day })
+  from-days-within h k = from-days-in day (in-years-of h k)
+
+  pub from-days-beyond : (dn year ≤ 9999 → up year ≤ 9999 → ⊥) → fromDays day ≡ OutOfRange
+  from-days-beyond n =
+      ⊎-elim (λ (e : inYears (biased day) ≡ true). let y = years-of-in e in absurd (n (y .0) (y .1))) (λ (e : inYears (biased day) ≡ false). from-days-out day e) (cases (inYears (biased day)))
