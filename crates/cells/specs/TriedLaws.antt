@@ -1,7 +1,7 @@
 -- The turns of a loop whose step can refuse, and its invariant: what remains of it from here is what there was at the start.
 use mathlib.Core.Path.{_≡_, refl, sym, ap, _∙_}
 use mathlib.Core.Bool.{Bool, true, false}
-use Prim.Native.Nat.{ℕ, zero, suc, _+_, _-_, _<_, _≤_}
+use Prim.Native.Nat.{ℕ, suc, _+_, _-_, _<_, _≤_}
 use native.Mathlib.Omega.{arith}
 use Rattle.cells.specs.Tried.{Out, out, tried}
 

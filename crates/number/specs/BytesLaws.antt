@@ -1,4 +1,4 @@
--- The two readings of a signed number agree.
+-- What bytes below 256 bound, and that the two readings of a signed number agree.
 use mathlib.Core.Path.{_≡_, refl}
 use mathlib.Core.Bool.{Bool, true, false}
 use mathlib.Core.List.{List}
@@ -8,7 +8,20 @@ use borrow.Author.Tests.{ltb-true, ltb-false}
 use lib.Dec.{ltb}
 use lib.IntN.{ℤ, pos, negsuc}
 use Rattle.number.specs.Zed.{up, dn}
-use Rattle.number.specs.Bytes.{u32At, signed32, i32At, biasedAt}
+use Rattle.number.specs.Bytes.{byteAt, u16At, u32At, signed32, i32At, biasedAt}
+
+module _ (s : List ℕ) (at : ℕ) (bytes : (k : ℕ) → byteAt s k < 256) where
+  pub u16-below : u16At s at < 2 ^ 16
+  unfolding u16At
+  u16-below = omega (arith, bytes at, bytes (at + 1))
+
+  pub u32-below : u32At s at < 2 ^ 32
+  unfolding u32At
+  u32-below = omega (arith, bytes at, bytes (at + 1), bytes (at + 2), bytes (at + 3))
+
+  pub biased-below : biasedAt s at < 2 ^ 32
+  unfolding biasedAt
+  biased-below = omega arith
 
 -- the signed number and 2 ^ 31 are the biased one
 pub signed32-biased : (n : ℕ) → n < 2 ^ 32 → up (signed32 n) + 2 ^ 31 ≡ (n + 2 ^ 31) % 2 ^ 32 + dn (signed32 n)

@@ -1,12 +1,12 @@
 -- Products and quotients of integers by natural multiplication and division, on both sides of zero.
 use mathlib.Core.Path.{_≡_, refl, sym, _∙_}
-use Prim.Native.Nat.{ℕ, zero, suc, _+_, _*_, _/_, _^_, _≤_, _<_}
-use native.Mathlib.Nat.{div-le-self, zero-div, mul-zero, zero-mul}
+use Prim.Native.Nat.{ℕ, zero, suc, _*_, _/_, _^_, _<_}
+use native.Mathlib.Nat.{div-le-self, zero-div, mul-zero}
 use native.Mathlib.Omega.{arith}
 use lib.IntN.{ℤ, pos, negsuc, negℤ, natAbs, _*ℤ_}
 use lib.Signed.{quotZ}
 use mir.Syntax.{Width}
-use mir.Val.{SFits, hbits, ofZ}
+use mir.Val.{SFits, hbits}
 use Rattle.number.specs.Zed.{up, dn}
 use Rattle.number.specs.ZedLaws.{neg-up, neg-dn, fits-sides, abs-is}
 

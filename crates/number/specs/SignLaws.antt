@@ -1,8 +1,8 @@
 -- The ways of the smaller, the larger and the held number, and the exact values of shares and whole days on both sides of zero.
-use mathlib.Core.Path.{_≡_, refl, sym, ap, _∙_}
-use mathlib.Core.Bool.{Bool, true, false}
-use mathlib.Core.Logic.{⊎-elim}
-use Prim.Native.Nat.{ℕ, suc, _+_, _-_, _*_, _/_, _^_, _≤_, _<_, max}
+use mathlib.Core.Path.{_≡_, ap, _∙_}
+use mathlib.Core.Bool.{true, false}
+use mathlib.Core.Logic.{_⊎_, inl, inr, ⊎-elim}
+use Prim.Native.Nat.{ℕ, _+_, _*_, _/_, _≤_, _<_, max}
 use native.Mathlib.Nat.{mul-le-mul}
 use native.Mathlib.Omega.{arith}
 use lib.IntN.{ℤ, pos, negsuc, natAbs, _*ℤ_}
@@ -14,6 +14,30 @@ use Rattle.number.specs.QuotLaws.{abs-mul, abs-quot, mul-up, mul-dn, quo
 use Rattle.number.specs.Sign.{minZ, maxZ, clampZ, percentOf, wholeDays}
 
 -- ---- the ways
+module _ (a b : ℤ) where
+  pub min-first : ltZ b a ≡ false → minZ a b ≡ a
+  unfolding minZ
+  min-first e = rw (e, minZ)
+
+  pub min-second : ltZ b a ≡ true → minZ a b ≡ b
+  unfolding minZ
+  min-second e = rw (e, minZ)
+
+  pub max-first : ltZ a b ≡ false → maxZ a b ≡ a
+  unfolding maxZ
+  max-first e = rw (e, maxZ)
+
+  pub max-second : ltZ a b ≡ true → maxZ a b ≡ b
+  unfolding maxZ
+  max-second e = rw (e, maxZ)
+
+  -- which of the two it is, with their order
+  pub min-cases : ((minZ a b ≡ a) × (up a + dn b ≤ up b + dn a)) ⊎ ((minZ a b ≡ b) × (up b + dn a < up a + dn b))
+  min-cases = ⊎-elim (λ e. inr (min-second e, ltZ-true b a e)) (λ e. inl (min-first e, ltZ-false b a e)) (cases (ltZ b a))
+
+  pub max-cases : ((maxZ a b ≡ a) × (up b + dn a ≤ up a + dn b)) ⊎ ((maxZ a b ≡ b) × (up a + dn b < up b + dn a))
+  max-cases = ⊎-elim (λ e. inr (max-second e, ltZ-true a b e)) (λ e. inl (max-first e, ltZ-false a b e)) (cases (ltZ a b))
+
 module _ (z lo hi : ℤ) where
   pub clamp-low : ltZ z lo ≡ true → clampZ z lo hi ≡ lo
   unfolding clampZ
@@ -26,6 +50,16 @@ module _ (z lo hi : ℤ) where
   pub clamp-within : ltZ z lo ≡ false → ltZ hi z ≡ false → clampZ z lo hi ≡ z
   unfolding clampZ
   clamp-within e f = rw (e, clampZ, f)
+
+  -- between the two, where they are in order
+  pub clamp-between : up lo + dn hi ≤ up hi + dn lo → let r : ℤ = clampZ z lo hi in (up lo + dn r ≤ up r + dn lo) × (up r + dn hi ≤ up hi + dn r)
+  clamp-between h =
+      ⊎-elim (λ (e : ltZ z lo ≡ true). rw (clamp-low e) (omega arith, omega arith))
+      (λ (e : ltZ z lo ≡ false).
+      let l = ltZ-false z lo e in
+      ⊎-elim (λ (f : ltZ hi z ≡ true). rw (clamp-high e f) (omega arith, omega arith))
+      (λ (f : ltZ hi z ≡ false). let m = ltZ-false hi z f in rw (clamp-within e f) (omega arith, omega arith)) (cases (ltZ hi z)))
+      (cases (ltZ z lo))
 
 -- ---- a share is held to 100 times the whole
 pub held-size : (share : ℤ) → natAbs (clampZ share (negsuc 999999) (pos 1000000)) ≤ 1000000

@@ -1,10 +1,10 @@
 -- The laws of the two sides of an integer: tests, sums, differences and ranges.
-use mathlib.Core.Path.{_≡_, refl, sym, ap, _∙_, subst}
+use mathlib.Core.Path.{_≡_, refl, sym, ap, subst}
 use mathlib.Core.Bool.{Bool, true, false, cond}
 use mathlib.Core.Logic.{_⊎_, inl, inr, ⊎-elim}
 use Prim.Native.Nat.{ℕ, zero, suc, _+_, _-_, _^_, _≤_, _<_}
 use native.Mathlib.Omega.{arith}
-use lib.Dec.{T, ltb, leb}
+use lib.Dec.{T, ltb}
 use lib.IntN.{ℤ, pos, negsuc, negℤ, natAbs, subℕ, _+ℤ_, _-ℤ_, +ℤ-idl}
 use lib.Pow.{pow-pos}
 use lib.Signed.{ltZ, leZ, nonNeg}

@@ -1,10 +1,9 @@
 -- `cells::clear_u32` meets its contract: after i turns the first i elements are 0.
 use borrow.Author.Needs.{needs}
-use mathlib.Core.Path.{_≡_, refl, sym, ap, _∙_}
+use mathlib.Core.Path.{_≡_, refl, _∙_}
 use mathlib.Core.List.{_++_}
-use Prim.Native.Nat.{ℕ, _+_, _-_, _≤_, _<_}
+use Prim.Native.Nat.{_-_, _≤_}
 use native.Mathlib.Omega.{arith}
-use lib.IntN.{pos}
 use lib.ListN.{length, drop, replicate, length-set}
 use Rattle.cells.specs.CellLaws.{front-more, front-all}
 use Rattle.cells.proofs.clear_u32.Statement.{statement}

@@ -1,5 +1,4 @@
 -- `number::sign::negate` meets its contract.
-use mir.Facts.{toZ-ofZ}
 use Rattle.number.specs.CastLaws.{minus-fits, minus-back}
 use Rattle.number.proofs.sign.negate.Statement.{statement}
 use Rattle.number.proofs.sign.negate.Tie as tie

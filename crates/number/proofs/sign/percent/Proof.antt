@@ -1,6 +1,6 @@
 -- `number::sign::percent` meets its contract: the product stays small, and so does the quotient.
 use borrow.Author.Needs.{needs}
-use mathlib.Core.Path.{_≡_, refl, sym}
+use mathlib.Core.Path.{_≡_, refl}
 use native.Mathlib.Omega.{arith}
 use Prim.Native.Nat.{_≤_}
 use lib.Dec.{lit<}

@@ -1,13 +1,9 @@
 -- `number::sign::whole_days` meets its contract.
 use borrow.Author.Needs.{needs}
-use mathlib.Core.Path.{_≡_, sym, ap, _∙_}
+use mathlib.Core.Path.{sym, _∙_}
 use native.Mathlib.Omega.{arith}
-use Prim.Native.Nat.{ℕ, max}
-use lib.IntN.{pos}
-use lib.Signed.{quotZ}
 use mir.Facts.{toZ-ofZ, toZ-pos}
 use mir.Syntax.{w64}
-use Rattle.number.specs.Sign.{wholeDays}
 use Rattle.number.specs.SignLaws.{days-of-zero, days-of-some}
 use Rattle.number.proofs.sign.whole_days.Statement.{statement}
 use Rattle.number.proofs.sign.whole_days.Tie as tie
