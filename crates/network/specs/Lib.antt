@@ -3,3 +3,9 @@ pub mod Links
 pub mod Kahn
 pub mod Parents
 pub mod Instances
+pub mod Times
+pub mod Pending
+pub mod PendingLaws
+pub mod Outgoing
+pub mod OutgoingLaws
+pub mod Meeting
