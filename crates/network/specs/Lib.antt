@@ -9,3 +9,6 @@ pub mod PendingLaws
 pub mod Outgoing
 pub mod OutgoingLaws
 pub mod Meeting
+pub mod Draining
+pub mod Placed
+pub mod GoingBack
