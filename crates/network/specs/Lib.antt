@@ -12,3 +12,5 @@ pub mod Meeting
 pub mod Draining
 pub mod Placed
 pub mod GoingBack
+pub mod NamedLoop
+pub mod KahnLaws
