@@ -49,6 +49,16 @@ module _ (links : List Link) (c : ℕ → ℕ) where
       (λ (z : 0 < c i). rw (firstWaiting-here k i z) (record { waits = z; from = omega arith; below = omega arith; first = λ m g h. absurd (omega arith) }))
       (zero-or-pos (c i))
 
+  -- what is found waits, or none of them does
+  pub firstWaiting-none : (k i : ℕ) → (0 < c (firstWaiting links c k i)) ⊎ (firstWaiting links c k i ≡ i + k)
+  unfolding firstWaiting
+  firstWaiting-none zero i = inr (omega arith)
+  firstWaiting-none (suc k) i =
+      ⊎-elim
+      (λ (z : c i ≡ 0).
+      ⊎-elim (λ p. inl (rw (firstWaiting-skip k i z) p)) (λ e. inr (firstWaiting-skip k i z ∙ e ∙ omega arith)) (firstWaiting-none k (suc i)))
+      (λ (z : 0 < c i). inl (rw (firstWaiting-here k i z) z)) (zero-or-pos (c i))
+
   -- ---- the first predecessor that waits
 
   pub waitingBefore-here : (l : Link) (ls : List Link) (x : ℕ) → l .to ≡ x → 0 < c (l .from) → waitingBefore links c (l ∷ ls) x ≡ l .from

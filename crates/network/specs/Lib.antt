@@ -14,3 +14,6 @@ pub mod Placed
 pub mod GoingBack
 pub mod NamedLoop
 pub mod KahnLaws
+pub mod Climbing
+pub mod ParentLinks
+pub mod ParentLoops
