@@ -17,3 +17,4 @@ pub mod KahnLaws
 pub mod Climbing
 pub mod ParentLinks
 pub mod ParentLoops
+pub mod ParentRows
