@@ -18,3 +18,4 @@ pub mod Climbing
 pub mod ParentLinks
 pub mod ParentLoops
 pub mod ParentRows
+pub mod Depth
