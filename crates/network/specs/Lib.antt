@@ -19,3 +19,5 @@ pub mod ParentLinks
 pub mod ParentLoops
 pub mod ParentRows
 pub mod Depth
+pub mod Array
+pub mod ArrayLaws
