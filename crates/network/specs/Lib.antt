@@ -21,3 +21,4 @@ pub mod ParentRows
 pub mod Depth
 pub mod Array
 pub mod ArrayLaws
+pub mod GoingLaws
