@@ -22,3 +22,5 @@ pub mod Depth
 pub mod Array
 pub mod ArrayLaws
 pub mod GoingLaws
+pub mod Prefix
+pub mod GoingEnds
