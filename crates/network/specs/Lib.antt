@@ -24,3 +24,4 @@ pub mod ArrayLaws
 pub mod GoingLaws
 pub mod Prefix
 pub mod GoingEnds
+pub mod BackSteps

@@ -39,3 +39,8 @@ sources (l ∷ ls) v = elim (eqb (l .to) v) [ true ↦ l .from ∷ sources ls v 
 unfoldable pub meetAll : List ℕ → Waiting → Waiting
 meetAll [] s = s
 meetAll (j ∷ js) s = meetAll js (meet j s)
+
+-- the first of a row of activities that still waits; x where none does
+unfoldable pub waitingIn : (ℕ → ℕ) → List ℕ → ℕ → ℕ
+waitingIn c [] x = x
+waitingIn c (y ∷ ys) x = elim (eqb (c y) 0) [ true ↦ waitingIn c ys x | false ↦ y ]
