@@ -79,7 +79,7 @@ module _ (links : List Link) (c : ℕ → ℕ) where
   -- ---- what was passed, in an array
 
   -- the row up to x of what was passed, where x stands last at p
-  upTo-length : (path : ℕ → ℕ) (x p m : ℕ) → p < m → path p ≡ x → ((q : ℕ) → p < q → q < m → path q ≢ x) → length (upTo links c x (outOf path m)) ≡ m - p
+  pub upTo-length : (path : ℕ → ℕ) (x p m : ℕ) → p < m → path p ≡ x → ((q : ℕ) → p < q → q < m → path q ≢ x) → length (upTo links c x (outOf path m)) ≡ m - p
   unfolding outOf
   upTo-length path x p zero l e a = absurd (omega arith)
   upTo-length path x p (suc m) l e a =
@@ -90,7 +90,7 @@ module _ (links : List Link) (c : ℕ → ℕ) where
       omega (arith, ap length (upTo-on links c x (path m) (outOf path m) h), upTo-length path x p m (omega arith) e (λ k b d. a k b (omega arith))))
       (eq-or-ne p m)
 
-  upTo-at : (path : ℕ → ℕ) (x p m : ℕ) → p < m → path p ≡ x → ((q : ℕ) → p < q → q < m → path q ≢ x)
+  pub upTo-at : (path : ℕ → ℕ) (x p m : ℕ) → p < m → path p ≡ x → ((q : ℕ) → p < q → q < m → path q ≢ x)
       → (k : ℕ) → k < m - p → getD (upTo links c x (outOf path m)) k 0 ≡ path (m - 1 - k)
   unfolding outOf
   upTo-at path x p zero l e a k b = absurd (omega arith)

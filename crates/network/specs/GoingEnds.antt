@@ -78,8 +78,8 @@ module _ {links : List Link} {n : ℕ} {order count : ℕ → ℕ} {t : ℕ} (g 
       ∙ drain-empty links (n - t) count (outOf order t)
 
   -- the counts that are left
-  pub going-count : (x : ℕ) → drained links n .count x ≡ count x
-  going-count x = ap (λ (d : Drained). d .count x) going-drained
+  pub going-count : drained links n .count ≡ count
+  going-count = ap (λ (d : Drained). d .count) going-drained
 
   -- and the order
   pub going-kahn : kahn links n ≡ span order 0 t

@@ -25,3 +25,4 @@ pub mod GoingLaws
 pub mod Prefix
 pub mod GoingEnds
 pub mod BackSteps
+pub mod BackWalk
