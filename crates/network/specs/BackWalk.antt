@@ -4,11 +4,10 @@ use mathlib.Core.Logic.{_⊎_, inl, inr, ⊎-elim, _≢_}
 use mathlib.Core.List.{List, [], _∷_, _++_}
 use Prim.Native.Nat.{ℕ, zero, suc, _+_, _-_, _≤_, _<_}
 use native.Mathlib.Omega.{arith}
-use lib.ListN.{length, getD, List·getD-append}
-use lib.Seq.{getD-append-seam}
+use lib.ListN.{length, getD}
 use Rattle.number.specs.Order.{lt-or-le, eq-or-ne}
 use Rattle.network.specs.Links.{Link}
-use Rattle.network.specs.Kahn.{put, waitingBefore, upTo, goBack, again}
+use Rattle.network.specs.Kahn.{put, waitingBefore, upTo, goBack}
 use Rattle.network.specs.Times.{same-eq, same-ne, same-self, same-cases, times, times-nil, times-cons, Distinct, distinct-nil, distinct-cons, distinct-le}
 use Rattle.network.specs.Meeting.{put-same, put-other}
 use Rattle.network.specs.Array.{outOf}
@@ -101,13 +100,3 @@ module _ (links : List Link) (c : ℕ → ℕ) (n start : ℕ) where
       back-at k l =
           let r = b .marked x old in
           ap (λ (xs : List ℕ). getD xs k 0) stop ∙ upTo-at links c path x (mark x - 1) m (omega arith) (r .1) apart k l
-
--- ---- the first once more at the end, place by place
-
-pub again-at : (xs : List ℕ) (k : ℕ) → k < length xs → getD (again xs) k 0 ≡ getD xs k 0
-unfolding again
-again-at xs k l = List·getD-append xs (getD xs 0 0 ∷ []) 0 k l
-
-pub again-last : (xs : List ℕ) → getD (again xs) (length xs) 0 ≡ getD xs 0 0
-unfolding again
-again-last xs = getD-append-seam xs (getD xs 0 0) [] 0

@@ -12,7 +12,7 @@ use Rattle.network.specs.Times.{times, times-at, Distinct, distinct-le, 
 use Rattle.network.specs.Pending.{Ranged}
 use Rattle.network.specs.Draining.{Kept, drained-kept, out-distinct, waits-below}
 use Rattle.network.specs.Placed.{times-reverse, behind-before, ordered-no-loop}
-use Rattle.network.specs.NamedLoop.{Named, drained-named, again-length, again-times}
+use Rattle.network.specs.NamedLoop.{Named, drained-named, again-length, again-at, again-times}
 
 pub kahn-length : (links : List Link) (n : ℕ) → length (kahn links n) ≡ length (drained links n .out)
 unfolding kahn
@@ -70,6 +70,15 @@ module _ {links : List Link} {n : ℕ} (range : Ranged links n) where
     named-loop-le =
         let xs = goBack links (drained links n .count) n (firstWaiting links (drained links n .count) n 0) [] in
         omega (arith, distinct-le (named .distinct), again-length xs)
+
+    -- each but the last at one place
+    pub named-loop-once : (p q : ℕ) → p + 1 < length (namedLoop links n) → q + 1 < length (namedLoop links n)
+        → getD (namedLoop links n) p 0 ≡ getD (namedLoop links n) q 0 → p ≡ q
+    unfolding namedLoop
+    named-loop-once p q a b e =
+        let xs = goBack links (drained links n .count) n (firstWaiting links (drained links n .count) n 0) [] in
+        let f : (k : ℕ) → k + 1 < length (again xs) → k < length xs = λ k l. omega (arith, again-length xs) in
+        once-place xs (named .distinct .once) p q (f p a) (f q b) (sym (again-at xs p (f p a)) ∙ e ∙ again-at xs q (f q b))
 
     -- each of which waits
     pub named-loop-waits : (p : ℕ) → p < length (namedLoop links n) → 0 < drained links n .count (getD (namedLoop links n) p 0)

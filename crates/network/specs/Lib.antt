@@ -26,3 +26,4 @@ pub mod Prefix
 pub mod GoingEnds
 pub mod BackSteps
 pub mod BackWalk
+pub mod ParentSteps

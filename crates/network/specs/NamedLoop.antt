@@ -22,11 +22,18 @@ pub again-length : (xs : List ℕ) → length (again xs) ≡ length xs + 1
 unfolding again
 again-length xs = length-append xs (getD xs 0 0 ∷ [])
 
-again-closed : (xs : List ℕ) → 0 < length xs → getD (again xs) (length (again xs) - 1) 0 ≡ getD (again xs) 0 0
+pub again-at : (xs : List ℕ) (k : ℕ) → k < length xs → getD (again xs) k 0 ≡ getD xs k 0
 unfolding again
+again-at xs k l = List·getD-append xs (getD xs 0 0 ∷ []) 0 k l
+
+pub again-last : (xs : List ℕ) → getD (again xs) (length xs) 0 ≡ getD xs 0 0
+unfolding again
+again-last xs = getD-append-seam xs (getD xs 0 0) [] 0
+
+again-closed : (xs : List ℕ) → 0 < length xs → getD (again xs) (length (again xs) - 1) 0 ≡ getD (again xs) 0 0
 again-closed xs p =
-    let e : length (xs ++ (getD xs 0 0 ∷ [])) - 1 ≡ length xs = omega (arith, length-append xs (getD xs 0 0 ∷ [])) in
-    ap (λ (k : ℕ). getD (xs ++ (getD xs 0 0 ∷ [])) k 0) e ∙ getD-append-seam xs (getD xs 0 0) [] 0 ∙ sym (List·getD-append xs (getD xs 0 0 ∷ []) 0 0 p)
+    let e : length (again xs) - 1 ≡ length xs = omega (arith, again-length xs) in
+    ap (λ (k : ℕ). getD (again xs) k 0) e ∙ again-last xs ∙ sym (again-at xs 0 p)
 
 pub again-times : (xs : List ℕ) → 0 < length xs → (j : ℕ) → 0 < times j (again xs) → 0 < times j xs
 unfolding again

@@ -97,6 +97,21 @@ module _ (parent : ℕ → ℕ) where
         h (climb parent a i - 1, omega (arith, climb-le parent below a i l), same-on-loop i a b g q e)) in
         absurd (omega (arith, distinct-le d, length-passed parent (suc n) i))) (zero-or-pos (climb parent n i))
 
+    -- a climb that ends does so within n steps
+    pub ends-within : (i k : ℕ) → i < n → climb parent k i ≡ 0 → climb parent n i ≡ 0
+    ends-within i k l z =
+        ⊎-elim (λ e. e)
+        (λ p.
+        let d = passed-distinct parent below (suc n) i l (λ a g. climb-pos parent a n i (omega arith) p)
+        (λ a b g h e.
+        let q : 0 < climb parent a i = climb-pos parent a n i (omega arith) p in
+        let r : a < k = ⊎-elim (λ w. w) (λ w. absurd (omega (arith, climb-none-le parent k a i w z))) (lt-or-le a k) in
+        let s : k ≡ (k - a) + a = omega arith in
+        ends-not-on-loop (climb parent a i - 1) (k - a)
+        (sym (climb-add parent (k - a) a i (climb parent a i - 1) (pos-suc (climb parent a i) q)) ∙ ap (λ (m : ℕ). climb parent m i) (sym s) ∙ z)
+        (same-on-loop i a b g q e)) in
+        absurd (omega (arith, distinct-le d, length-passed parent (suc n) i))) (zero-or-pos (climb parent n i))
+
     pub parents-loop-iff : (¬ (ParentsLoop parent n)) ↔ ((i : ℕ) → i < n → climb parent n i ≡ 0)
     parents-loop-iff = (climb-ends, λ e o. ends-not-on-loop (o .0) n (e (o .0) (o .1)) (o .2))
 
