@@ -27,3 +27,4 @@ pub mod GoingEnds
 pub mod BackSteps
 pub mod BackWalk
 pub mod ParentSteps
+pub mod Chains

@@ -1,7 +1,7 @@
 -- The links out of an activity and into it, in rising order: by index, as chains in memory list them, and by the activities at their other ends.
 use mathlib.Core.Bool.{Bool, true, false}
 use mathlib.Core.List.{List, [], _∷_, map}
-use Prim.Native.Nat.{ℕ, zero, suc, _+_}
+use Prim.Native.Nat.{ℕ, zero, suc, _+_, _-_}
 use lib.Dec.{eqb}
 use lib.ListN.{length, getD}
 use Rattle.network.specs.Links.{Link, noLink}
@@ -34,6 +34,13 @@ targets (l ∷ ls) v = elim (eqb (l .from) v) [ true ↦ l .to ∷ targets ls v 
 unfoldable pub sources : List Link → ℕ → List ℕ
 sources [] v = []
 sources (l ∷ ls) v = elim (eqb (l .to) v) [ true ↦ l .from ∷ sources ls v | false ↦ sources ls v ]
+
+-- the same from link k on, by index: what is left of a chain
+unfoldable pub targetsFrom : List Link → ℕ → ℕ → List ℕ
+targetsFrom links v k = map (toAt links) (having (fromAt links) v (length links - k) k)
+
+unfoldable pub sourcesFrom : List Link → ℕ → ℕ → List ℕ
+sourcesFrom links v k = map (fromAt links) (having (toAt links) v (length links - k) k)
 
 -- links into each of a row of activities are met
 unfoldable pub meetAll : List ℕ → Waiting → Waiting
