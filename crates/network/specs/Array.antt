@@ -25,7 +25,7 @@ held order count h t = record { count = count; queue = span order h (t - h) }
 
 -- h are out, the queue reaches up to t, and of the last one's links those into `rest` are still to be met;
 -- where that is none, it stands between two activities that come out
-pub record Going (links : List Link) (n : ℕ) (order count : ℕ → ℕ) (h t : ℕ) (rest : List ℕ) : Type 0 where
+pub record Progress (links : List Link) (n : ℕ) (order count : ℕ → ℕ) (h t : ℕ) (rest : List ℕ) : Type 0 where
   pub within : h ≤ t
   pub each : (j : ℕ) → j < n → times j (outOf order t) + min 1 (count j) ≡ 1
   pub beyond : (j : ℕ) → n ≤ j → times j (outOf order t) + min 1 (count j) ≡ 0

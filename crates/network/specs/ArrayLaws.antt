@@ -1,13 +1,13 @@
 -- An array read from its front and from its end: stores, and one more.
 use mathlib.Core.Path.{_≡_, refl, sym, ap, ap₂, _∙_}
-use mathlib.Core.Logic.{_⊎_, inl, inr, ⊎-elim, _≢_}
+use mathlib.Core.Logic.{⊎-elim, _≢_}
 use mathlib.Core.List.{List, [], _∷_, _++_, reverse, reverse-cons}
 use Prim.Native.Nat.{ℕ, zero, suc, _+_, _-_, _≤_, _<_}
 use native.Mathlib.Omega.{arith}
 use native.Mathlib.Numerals.{add-one}
 use lib.ListN.{length, getD}
-use Rattle.number.specs.Order.{lt-or-le, eq-or-ne}
-use Rattle.network.specs.Times.{same, same-self, same-eq, same-cases, times, times-nil, times-cons, times-one, times-append}
+use Rattle.number.specs.Order.{eq-or-ne}
+use Rattle.network.specs.Times.{same-eq, times, times-nil, times-cons}
 use Rattle.network.specs.Array.{outOf, span}
 
 module _ (order : ℕ → ℕ) where

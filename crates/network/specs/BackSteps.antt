@@ -1,25 +1,20 @@
 -- The way back as loops run it: the first that waits by a scan, the first waiting predecessor along the links into it, and what was passed in an array.
 use mathlib.Core.Path.{_≡_, refl, sym, ap, ap₂, _∙_}
-use mathlib.Core.Bool.{Bool, true, false}
-use mathlib.Core.Logic.{_⊎_, inl, inr, ⊎-elim, _≢_}
-use mathlib.Core.List.{List, [], _∷_, _++_}
-use Prim.Native.Nat.{ℕ, zero, suc, _+_, _-_, _≤_, _<_}
+use mathlib.Core.Logic.{⊎-elim, _≢_}
+use mathlib.Core.List.{List, [], _∷_}
+use Prim.Native.Nat.{ℕ, zero, suc, _+_, _-_, _<_}
 use native.Mathlib.Omega.{arith}
 use native.Mathlib.Numerals.{add-one}
 use borrow.Author.Tests.{eq-eqb, ne-eqb}
-use lib.Dec.{eqb}
-use lib.ListN.{length, getD, List·getD-append}
-use lib.Seq.{getD-append-seam, getD-at}
-use Rattle.number.specs.Order.{lt-or-le, eq-or-ne, zero-or-pos}
+use lib.ListN.{length, getD}
+use Rattle.number.specs.Order.{eq-or-ne, zero-or-pos}
 use Rattle.network.specs.Links.{Link}
-use Rattle.network.specs.Kahn.{put, drained, firstWaiting, waitingBefore, member, upTo, goBack, again, namedLoop}
-use Rattle.network.specs.Times.{same-self, same-eq, same-cases, times, times-nil, times-cons, Distinct, distinct-nil, distinct-cons, distinct-le}
+use Rattle.network.specs.Kahn.{firstWaiting, waitingBefore, upTo, goBack}
+use Rattle.network.specs.Times.{times}
 use Rattle.network.specs.Outgoing.{sources, waitingIn}
 use Rattle.network.specs.OutgoingLaws.{sources-hit, sources-miss}
-use Rattle.network.specs.Meeting.{put-same, put-other}
 use Rattle.network.specs.GoingBack.{firstWaiting-skip, firstWaiting-here, waitingBefore-here, waitingBefore-other, waitingBefore-out, member-times, upTo-here, upTo-on}
 use Rattle.network.specs.Array.{outOf}
-use Rattle.network.specs.ArrayLaws.{outOf-nil, outOf-suc, outOf-one, outOf-times, length-outOf, outOf-push, outOf-agree}
 
 -- ---- the first of a row that waits
 

@@ -1,14 +1,14 @@
 -- The way back over an array of what was passed and an array of marks: it stops within n steps, and holds the loop that is named from its end.
-use mathlib.Core.Path.{_≡_, refl, sym, ap, ap₂, _∙_}
-use mathlib.Core.Logic.{_⊎_, inl, inr, ⊎-elim, _≢_}
-use mathlib.Core.List.{List, [], _∷_, _++_}
+use mathlib.Core.Path.{_≡_, sym, ap, ap₂, _∙_}
+use mathlib.Core.Logic.{⊎-elim, _≢_}
+use mathlib.Core.List.{List, [], _∷_}
 use Prim.Native.Nat.{ℕ, zero, suc, _+_, _-_, _≤_, _<_}
 use native.Mathlib.Omega.{arith}
 use lib.ListN.{length, getD}
-use Rattle.number.specs.Order.{lt-or-le, eq-or-ne}
+use Rattle.number.specs.Order.{eq-or-ne}
 use Rattle.network.specs.Links.{Link}
 use Rattle.network.specs.Kahn.{put, waitingBefore, upTo, goBack}
-use Rattle.network.specs.Times.{same-eq, same-ne, same-self, same-cases, times, times-nil, times-cons, Distinct, distinct-nil, distinct-cons, distinct-le}
+use Rattle.network.specs.Times.{same-eq, same-ne, times, times-nil, times-cons, Distinct, distinct-nil, distinct-cons, distinct-le}
 use Rattle.network.specs.Meeting.{put-same, put-other}
 use Rattle.network.specs.Array.{outOf}
 use Rattle.network.specs.ArrayLaws.{outOf-nil, outOf-suc, outOf-times, length-outOf, outOf-push}

@@ -1,15 +1,13 @@
 -- Steps up from an activity to its parents: steps add up, none stays none, and n activities leave room for n different ones.
 use mathlib.Core.Path.{_≡_, refl, sym, ap, _∙_}
-use mathlib.Core.Bool.{Bool, true, false}
 use mathlib.Core.Logic.{_⊎_, inl, inr, ⊎-elim, _≢_}
 use mathlib.Core.List.{List, [], _∷_}
 use Prim.Native.Nat.{ℕ, zero, suc, _+_, _-_, _≤_, _<_}
 use native.Mathlib.Omega.{arith}
 use borrow.Author.Tests.{eq-eqb, ne-eqb}
-use lib.Dec.{eqb}
 use lib.ListN.{length}
 use Rattle.number.specs.Order.{lt-or-le, eq-or-ne, zero-or-pos}
-use Rattle.network.specs.Parents.{above, climb, OnLoop, stepsBack}
+use Rattle.network.specs.Parents.{above, climb, stepsBack}
 use Rattle.network.specs.Times.{same-cases, times, times-nil, times-cons, Distinct, distinct-nil, distinct-cons}
 
 pub pos-suc : (m : ℕ) → 0 < m → m ≡ suc (m - 1)
@@ -105,8 +103,10 @@ module _ (parent : ℕ → ℕ) where
         least = λ j a b. ⊎-elim (λ (q : j ≡ k). rw q e) (λ (q : j ≢ k). r .least j (omega arith) b) (eq-or-ne j k);
       })))
       (λ (r : Never f (suc k) i × (stepsBack parent f (suc k) i ≡ 0)).
-      inr (record { never = λ j a b. ⊎-elim (λ (q : j ≡ k). rw q e) (λ (q : j ≢ k). r .0 .never j (omega arith) (omega arith)) (eq-or-ne j k) },
-      stepsBack-miss f k i e ∙ r .1)) (stepsBack-cases f (suc k) i)) (eq-or-ne (climb parent k i) (suc i))
+      inr (
+        record { never = λ j a b. ⊎-elim (λ (q : j ≡ k). rw q e) (λ (q : j ≢ k). r .0 .never j (omega arith) (omega arith)) (eq-or-ne j k) },
+        stepsBack-miss f k i e ∙ r .1,
+      )) (stepsBack-cases f (suc k) i)) (eq-or-ne (climb parent k i) (suc i))
 
   -- ---- the activities passed in m steps, the last one first
 

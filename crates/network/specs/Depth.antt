@@ -1,7 +1,7 @@
 -- An activity's depth: the steps up after which there is none, one more for a child than for its parent.
 use mathlib.Core.Path.{_≡_, refl, sym, ap, _∙_}
-use mathlib.Core.Logic.{_⊎_, inl, inr, ⊎-elim}
-use Prim.Native.Nat.{ℕ, zero, suc, _+_, _-_, _≤_, _<_}
+use mathlib.Core.Logic.{⊎-elim}
+use Prim.Native.Nat.{ℕ, zero, suc, _-_, _≤_, _<_}
 use native.Mathlib.Omega.{arith}
 use Rattle.number.specs.Order.{lt-or-le, zero-or-pos}
 use Rattle.network.specs.Parents.{climb}

@@ -1,17 +1,17 @@
 -- What holds all through Kahn's order: each activity is out, in the queue or waiting, and what is out stands behind all that it is linked to.
-use mathlib.Core.Path.{_≡_, refl, sym, ap, _∙_}
-use mathlib.Core.Logic.{_⊎_, inl, inr, ⊎-elim}
+use mathlib.Core.Path.{_≡_}
+use mathlib.Core.Logic.{⊎-elim}
 use mathlib.Core.List.{List, [], _∷_, _++_}
-use Prim.Native.Nat.{ℕ, zero, suc, _+_, _-_, _≤_, _<_, min}
+use Prim.Native.Nat.{ℕ, zero, suc, _+_, _≤_, _<_, min}
 use native.Mathlib.Omega.{arith}
 use lib.ListN.{length, length-append}
 use Rattle.number.specs.Order.{lt-or-le}
 use Rattle.network.specs.Links.{Link, Linked}
-use Rattle.network.specs.Kahn.{Waiting, Drained, release, drain, into, ready, drained}
-use Rattle.network.specs.Times.{same, same-self, same-cases, times, times-nil, times-cons, times-append, sum, sum-times, sum-le, sum-short, Distinct, distinct-le}
+use Rattle.network.specs.Kahn.{release, drain, into, ready, drained}
+use Rattle.network.specs.Times.{same-self, times, times-nil, times-cons, times-append, sum-times, sum-short, Distinct, distinct-le}
 use Rattle.network.specs.Pending.{Ranged, sent, pending}
 use Rattle.network.specs.PendingLaws.{pending-more, pending-pos, into-pending, into-beyond, linked-sent}
-use Rattle.network.specs.Meeting.{Fell, release-fell, ready-out, ready-in}
+use Rattle.network.specs.Meeting.{release-fell, ready-out, ready-in}
 
 -- an order, last first: all that leads to v stands behind it
 pub data Behind (links : List Link) : List ℕ → Type 0 where

@@ -1,19 +1,16 @@
 -- The way back from an activity that waits, along predecessors that wait: each step is a link, and in n steps one comes again.
 use mathlib.Core.Path.{_≡_, refl, sym, ap, _∙_}
-use mathlib.Core.Bool.{Bool, true, false, _&&_, _||_, not}
+use mathlib.Core.Bool.{true, false}
 use mathlib.Core.Logic.{_⊎_, inl, inr, ⊎-elim, _≢_}
-use mathlib.Core.List.{List, [], _∷_, _++_}
-use Prim.Native.Nat.{ℕ, zero, suc, _+_, _-_, _≤_, _<_}
+use mathlib.Core.List.{List, [], _∷_}
+use Prim.Native.Nat.{ℕ, zero, suc, _+_, _≤_, _<_}
 use native.Mathlib.Omega.{arith}
-use borrow.Author.Tests.{eqb-true, eqb-false, eq-eqb, ne-eqb}
-use lib.Dec.{eqb}
-use lib.ListN.{length, getD, length-append, List·getD-append}
-use lib.Seq.{getD-append-seam}
-use Rattle.number.specs.Order.{lt-or-le, eq-or-ne, zero-or-pos, cases}
-use Rattle.network.specs.Links.{Link, Linked, Row, Loop}
-use Rattle.network.specs.Kahn.{firstWaiting, waitingBefore, member, upTo, goBack, again}
-use Rattle.network.specs.Times.{same, same-eq, same-ne, same-self, same-cases, times, times-nil, times-cons, times-one, times-append, Distinct, distinct-nil, distinct-cons, distinct-le}
-use Rattle.network.specs.Pending.{gate, sent}
+use borrow.Author.Tests.{eq-eqb, ne-eqb}
+use Rattle.number.specs.Order.{eq-or-ne, zero-or-pos}
+use Rattle.network.specs.Links.{Link, Linked}
+use Rattle.network.specs.Kahn.{firstWaiting, waitingBefore, member, upTo}
+use Rattle.network.specs.Times.{same, same-eq, same-ne, same-cases, times}
+use Rattle.network.specs.Pending.{sent}
 use Rattle.network.specs.PendingLaws.{gate-one, gate-zero, linked-cons}
 
 -- what follows of the first that waits, over any links

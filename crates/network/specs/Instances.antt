@@ -2,7 +2,7 @@
 use mathlib.Core.Path.{_≡_, refl}
 use mathlib.Core.List.{List, [], _∷_}
 use Prim.Native.Nat.{ℕ}
-use lib.ListN.{length, getD}
+use lib.ListN.{getD}
 use Rattle.network.specs.Links.{Link}
 use Rattle.network.specs.Parents.{above, climb, stepsBack, loopSteps, upward}
 use Rattle.network.specs.ParentLinks.{firstOnLoop, parentLoop, stepsOut, depth}

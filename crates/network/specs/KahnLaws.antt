@@ -1,16 +1,16 @@
 -- Kahn's order of n activities: all come out exactly where the links close no loop, and then in an order; else the loop that is named is one.
-use mathlib.Core.Path.{_≡_, refl, sym, ap, _∙_}
-use mathlib.Core.Logic.{_⊎_, inl, inr, ⊎-elim, _↔_}
-use mathlib.Core.List.{List, [], _∷_, reverse}
-use Prim.Native.Nat.{ℕ, zero, suc, _+_, _-_, _≤_, _<_}
+use mathlib.Core.Path.{_≡_, sym, _∙_}
+use mathlib.Core.Logic.{⊎-elim, _↔_}
+use mathlib.Core.List.{List, []}
+use Prim.Native.Nat.{ℕ, _+_, _≤_, _<_}
 use native.Mathlib.Omega.{arith}
 use lib.ListN.{length, getD, length-reverse}
 use Rattle.number.specs.Order.{lt-or-le}
 use Rattle.network.specs.Links.{Link, Linked, Loop, CloseLoop, Ordered}
 use Rattle.network.specs.Kahn.{drained, kahn, goBack, firstWaiting, again, namedLoop}
-use Rattle.network.specs.Times.{times, times-at, Distinct, distinct-le, once-place}
+use Rattle.network.specs.Times.{times-at, Distinct, distinct-le, once-place}
 use Rattle.network.specs.Pending.{Ranged}
-use Rattle.network.specs.Draining.{Kept, drained-kept, out-distinct, waits-below}
+use Rattle.network.specs.Draining.{drained-kept, out-distinct, waits-below}
 use Rattle.network.specs.Placed.{times-reverse, behind-before, ordered-no-loop}
 use Rattle.network.specs.NamedLoop.{Named, drained-named, again-length, again-at, again-times}
 

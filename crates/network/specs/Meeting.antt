@@ -1,15 +1,13 @@
 -- What meeting links does: counts fall by one for each, and what has come to wait for none has joined the queue, once.
-use mathlib.Core.Path.{_≡_, refl, sym, ap, _∙_}
-use mathlib.Core.Bool.{Bool, true, false}
-use mathlib.Core.Logic.{_⊎_, inl, inr, ⊎-elim, _≢_}
+use mathlib.Core.Path.{_≡_, refl, ap}
+use mathlib.Core.Logic.{⊎-elim, _≢_}
 use mathlib.Core.List.{List, [], _∷_, _++_}
 use Prim.Native.Nat.{ℕ, zero, suc, _+_, _-_, _≤_, _<_, min}
 use native.Mathlib.Omega.{arith}
 use borrow.Author.Tests.{eq-eqb, ne-eqb}
-use lib.Dec.{eqb}
 use Rattle.network.specs.Links.{Link}
 use Rattle.network.specs.Kahn.{Waiting, put, joined, meet, release, ready}
-use Rattle.network.specs.Times.{same, same-eq, same-self, same-cases, times, times-nil, times-cons, times-one, times-append}
+use Rattle.network.specs.Times.{same, same-self, same-cases, times, times-nil, times-one, times-append}
 use Rattle.network.specs.Pending.{gate, sent}
 use Rattle.network.specs.PendingLaws.{gate-one, gate-zero}
 use Rattle.network.specs.Outgoing.{targets, meetAll}

@@ -1,7 +1,6 @@
 -- The loop that is named: where not all activities come out it is a loop of links, each of it waits, and it is no longer than all activities.
 use mathlib.Core.Path.{_≡_, refl, sym, ap, _∙_, subst}
-use mathlib.Core.Bool.{Bool, true, false}
-use mathlib.Core.Logic.{_⊎_, inl, inr, ⊎-elim, _≢_}
+use mathlib.Core.Logic.{⊎-elim, _≢_}
 use mathlib.Core.List.{List, [], _∷_, _++_}
 use Prim.Native.Nat.{ℕ, zero, suc, _+_, _-_, _≤_, _<_}
 use native.Mathlib.Omega.{arith}
@@ -9,8 +8,8 @@ use lib.ListN.{length, getD, length-append, List·getD-append}
 use lib.Seq.{getD-append-seam}
 use Rattle.number.specs.Order.{lt-or-le, eq-or-ne}
 use Rattle.network.specs.Links.{Link, Linked, Row, Loop}
-use Rattle.network.specs.Kahn.{drained, firstWaiting, waitingBefore, member, upTo, goBack, again, namedLoop}
-use Rattle.network.specs.Times.{same, same-eq, same-cases, times, times-nil, times-cons, times-one, times-append, times-at, Distinct, distinct-nil, distinct-cons, distinct-le}
+use Rattle.network.specs.Kahn.{drained, firstWaiting, waitingBefore, upTo, goBack, again}
+use Rattle.network.specs.Times.{same, same-cases, times, times-nil, times-cons, times-one, times-append, times-at, Distinct, distinct-nil, distinct-cons, distinct-le}
 use Rattle.network.specs.Pending.{Ranged}
 use Rattle.network.specs.PendingLaws.{pending-source, sent-linked, linked-from}
 use Rattle.network.specs.Draining.{Kept, drained-kept, out-or-waits, waits-below, one-waits}
@@ -38,7 +37,6 @@ again-closed xs p =
 pub again-times : (xs : List ℕ) → 0 < length xs → (j : ℕ) → 0 < times j (again xs) → 0 < times j xs
 unfolding again
 again-times xs p j h =
-    let h0 : ℕ = getD xs 0 0 in
     ⊎-elim (λ e. omega (arith, times-at xs 0 p, ap (λ i. times i xs) (e .0)))
     (λ e. omega (arith, times-append j xs (getD xs 0 0 ∷ []), times-one j (getD xs 0 0))) (same-cases j (getD xs 0 0))
 
@@ -123,7 +121,6 @@ module _ {links : List Link} {n : ℕ} (range : Ranged links n) where
   drained-back : (x : ℕ) → 0 < drained links n .count x
       → Linked links (waitingBefore links (drained links n .count) links x) x × (0 < drained links n .count (waitingBefore links (drained links n .count) links x))
   drained-back x p =
-      let c : ℕ → ℕ = drained links n .count in
       let k : Kept links n (drained links n .count) [] (drained links n .out) = drained-kept links n range in
       let s = pending-source (drained links n .out) links x (omega (arith, k .waits x)) in
       waitingBefore-linked links (drained links n .count) links x (s .0) (s .1)

@@ -1,5 +1,5 @@
 -- The links out of an activity and into it, in rising order: by index, as chains in memory list them, and by the activities at their other ends.
-use mathlib.Core.Bool.{Bool, true, false}
+use mathlib.Core.Bool.{true, false}
 use mathlib.Core.List.{List, [], _∷_, map}
 use Prim.Native.Nat.{ℕ, zero, suc, _+_, _-_}
 use lib.Dec.{eqb}

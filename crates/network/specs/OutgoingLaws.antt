@@ -1,19 +1,16 @@
 -- Releasing an activity is meeting the links that leave it, in rising order; and those links as a chain lists them.
 use mathlib.Core.Path.{_≡_, refl, sym, ap, _∙_}
-use mathlib.Core.Bool.{Bool, true, false}
-use mathlib.Core.Logic.{_⊎_, inl, inr, ⊎-elim, _≢_}
+use mathlib.Core.Logic.{⊎-elim, _≢_}
 use mathlib.Core.List.{List, [], _∷_, _++_, map}
-use Prim.Native.Nat.{ℕ, zero, suc, _+_, _-_, _≤_, _<_}
+use Prim.Native.Nat.{ℕ, suc, _+_, _-_, _≤_, _<_}
 use native.Mathlib.Omega.{arith}
-use native.Mathlib.Numerals.{add-one}
 use borrow.Author.Tests.{eq-eqb, ne-eqb}
-use lib.Dec.{eqb}
-use lib.ListN.{length, getD}
-use Rattle.number.specs.Order.{lt-or-le, eq-or-ne}
-use Rattle.network.specs.Links.{Link, noLink}
+use lib.ListN.{length}
+use Rattle.number.specs.Order.{eq-or-ne}
+use Rattle.network.specs.Links.{Link}
 use Rattle.network.specs.Kahn.{Waiting, meet, release}
-use Rattle.network.specs.Times.{same, same-eq, same-self, same-cases, times, times-nil, times-cons}
-use Rattle.network.specs.Pending.{gate, sent}
+use Rattle.network.specs.Times.{same, same-cases, times, times-nil, times-cons}
+use Rattle.network.specs.Pending.{sent}
 use Rattle.network.specs.PendingLaws.{gate-one, gate-zero}
 use Rattle.network.specs.Outgoing.{having, fromAt, toAt, outgoing, incoming, targets, sources, meetAll}
 

@@ -1,17 +1,16 @@
 -- Loops of parents: n steps decide whether an activity lies on one, and where none does every climb ends.
-use mathlib.Core.Path.{_≡_, refl, sym, ap, _∙_}
-use mathlib.Core.Logic.{_⊎_, inl, inr, ⊎-elim, _≢_, _↔_}
-use mathlib.Core.List.{List, [], _∷_}
+use mathlib.Core.Path.{_≡_, sym, ap, _∙_}
+use mathlib.Core.Logic.{⊎-elim, _≢_, _↔_}
+use mathlib.Core.List.{[]}
 use Prim.Native.Nat.{ℕ, zero, suc, _+_, _-_, _≤_, _<_}
 use native.Mathlib.Omega.{arith}
-use lib.ListN.{length}
-use Rattle.number.specs.Order.{lt-or-le, eq-or-ne, zero-or-pos}
+use Rattle.number.specs.Order.{lt-or-le, zero-or-pos}
 use Rattle.network.specs.Kahn.{firstWaiting}
 use Rattle.network.specs.Parents.{climb, OnLoop, stepsBack, loopSteps}
 use Rattle.network.specs.ParentLinks.{ParentsLoop, firstOnLoop}
 use Rattle.network.specs.Times.{distinct-le}
 use Rattle.network.specs.GoingBack.{First, firstWaiting-first, firstWaiting-none}
-use Rattle.network.specs.Climbing.{pos-suc, climb-zero, climb-one, climb-add, climb-none-le, climb-pos, climb-same, climb-first, Least, Never, stepsBack-cases, passed, length-passed, climb-le, passed-distinct}
+use Rattle.network.specs.Climbing.{pos-suc, climb-zero, climb-add, climb-none-le, climb-pos, climb-same, Least, stepsBack-cases, length-passed, climb-le, passed-distinct}
 
 module _ (parent : ℕ → ℕ) where
   -- where loopSteps is not 0 it leads from i to i, and no fewer steps do
@@ -31,7 +30,6 @@ module _ (parent : ℕ → ℕ) where
   -- two counts of steps that lead to the same activity: it lies on a loop
   pub same-on-loop : (i a b : ℕ) → a < b → 0 < climb parent a i → climb parent a i ≡ climb parent b i → OnLoop parent (climb parent a i - 1)
   same-on-loop i a b l p e =
-      let j = climb parent a i - 1 in
       let s : climb parent a i ≡ suc (climb parent a i - 1) = pos-suc (climb parent a i) p in
       let t : b ≡ (b - a) + a = omega arith in record {
         steps = b - a;
@@ -63,11 +61,9 @@ module _ (parent : ℕ → ℕ) where
         (λ never.
         ⊎-elim
         (λ (r : Least parent (o .steps) 1 i (stepsBack parent (o .steps) 1 i)).
-        let s : ℕ = stepsBack parent (o .steps) 1 i in
         let d = passed-distinct parent below (stepsBack parent (o .steps) 1 i) i l
         (λ a h. climb-pos parent a (stepsBack parent (o .steps) 1 i) i (omega arith) (omega (arith, r .back)))
         (λ a b g h e.
-        let k : ℕ = stepsBack parent (o .steps) 1 i - b in
         let t : (stepsBack parent (o .steps) 1 i - b) + b ≡ stepsBack parent (o .steps) 1 i = omega arith in
         r .least ((stepsBack parent (o .steps) 1 i - b) + a) (omega arith) (omega arith)
         (climb-same parent a b (stepsBack parent (o .steps) 1 i - b) i e ∙ ap (λ (m : ℕ). climb parent m i) t ∙ r .back)) in
@@ -87,30 +83,29 @@ module _ (parent : ℕ → ℕ) where
 
     -- ---- where none lies on a loop, n steps lead to none from each
 
-    pub climb-ends : ¬ (ParentsLoop parent n) → (i : ℕ) → i < n → climb parent n i ≡ 0
-    climb-ends h i l =
+    -- n + 1 activities passed cannot all differ
+    apart-ends : (i : ℕ) → i < n → ((a b : ℕ) → a < b → b ≤ n → 0 < climb parent a i → climb parent a i ≢ climb parent b i) → climb parent n i ≡ 0
+    apart-ends i l d =
         ⊎-elim (λ z. z)
         (λ p.
-        let d = passed-distinct parent below (suc n) i l (λ a g. climb-pos parent a n i (omega arith) p)
-        (λ a b g k e.
-        let q : 0 < climb parent a i = climb-pos parent a n i (omega arith) p in
-        h (climb parent a i - 1, omega (arith, climb-le parent below a i l), same-on-loop i a b g q e)) in
-        absurd (omega (arith, distinct-le d, length-passed parent (suc n) i))) (zero-or-pos (climb parent n i))
+        let u = passed-distinct parent below (suc n) i l (λ a g. climb-pos parent a n i (omega arith) p)
+        (λ a b g h. d a b g (omega arith) (climb-pos parent a n i (omega arith) p)) in
+        absurd (omega (arith, distinct-le u, length-passed parent (suc n) i))) (zero-or-pos (climb parent n i))
+
+    pub climb-ends : ¬ (ParentsLoop parent n) → (i : ℕ) → i < n → climb parent n i ≡ 0
+    climb-ends h i l =
+        apart-ends i l (λ a b g k q e. h (climb parent a i - 1, omega (arith, climb-le parent below a i l), same-on-loop i a b g q e))
 
     -- a climb that ends does so within n steps
     pub ends-within : (i k : ℕ) → i < n → climb parent k i ≡ 0 → climb parent n i ≡ 0
     ends-within i k l z =
-        ⊎-elim (λ e. e)
-        (λ p.
-        let d = passed-distinct parent below (suc n) i l (λ a g. climb-pos parent a n i (omega arith) p)
-        (λ a b g h e.
-        let q : 0 < climb parent a i = climb-pos parent a n i (omega arith) p in
+        apart-ends i l
+        (λ a b g h q e.
         let r : a < k = ⊎-elim (λ w. w) (λ w. absurd (omega (arith, climb-none-le parent k a i w z))) (lt-or-le a k) in
         let s : k ≡ (k - a) + a = omega arith in
         ends-not-on-loop (climb parent a i - 1) (k - a)
         (sym (climb-add parent (k - a) a i (climb parent a i - 1) (pos-suc (climb parent a i) q)) ∙ ap (λ (m : ℕ). climb parent m i) (sym s) ∙ z)
-        (same-on-loop i a b g q e)) in
-        absurd (omega (arith, distinct-le d, length-passed parent (suc n) i))) (zero-or-pos (climb parent n i))
+        (same-on-loop i a b g q e))
 
     pub parents-loop-iff : (¬ (ParentsLoop parent n)) ↔ ((i : ℕ) → i < n → climb parent n i ≡ 0)
     parents-loop-iff = (climb-ends, λ e o. ends-not-on-loop (o .0) n (e (o .0) (o .1)) (o .2))

@@ -43,7 +43,6 @@ linked-cases ls ms e =
       enters = ap (λ (l : Link). l .to) (sym (List·getD-append ls ms noLink (e .place) l)) ∙ e .enters;
     }))
     (λ l.
-    let k : ℕ = e .place - length ls in
     let s : length ls + (e .place - length ls) ≡ e .place = omega arith in
     let g : getD ms (e .place - length ls) noLink ≡ getD (ls ++ ms) (e .place) noLink =
     sym (getD-append-add ls ms (e .place - length ls) noLink) ∙ ap (λ (p : ℕ). getD (ls ++ ms) p noLink) s in
@@ -165,9 +164,11 @@ module _ (parent : ℕ → ℕ) {n : ℕ} (below : (i : ℕ) → i < n → paren
   loop-on (x ∷ []) w = absurd (omega (arith, w .long))
   loop-on (x ∷ y ∷ ys) w =
       let s : suc (suc (length ys)) - 1 ≡ suc (length ys) = omega arith in
-      let closed : getD (x ∷ y ∷ ys) (suc (length ys)) 0 ≡ x = ap (λ (k : ℕ). getD (x ∷ y ∷ ys) k 0) (sym s) ∙ w .closed in
-      (x, linked-parent parent n x y (w .row .0) .0,
-      record { steps = suc (length ys); some = omega arith; back = row-climb x (y ∷ ys) (w .row) ∙ ap suc closed })
+      let closed : getD (x ∷ y ∷ ys) (suc (length ys)) 0 ≡ x = ap (λ (k : ℕ). getD (x ∷ y ∷ ys) k 0) (sym s) ∙ w .closed in (
+        x,
+        linked-parent parent n x y (w .row .0) .0,
+        record { steps = suc (length ys); some = omega arith; back = row-climb x (y ∷ ys) (w .row) ∙ ap suc closed },
+      )
 
   pub parents-close-iff : CloseLoop (parentLinks parent n) ↔ ParentsLoop parent n
   parents-close-iff = (

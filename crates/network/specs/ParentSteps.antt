@@ -1,16 +1,16 @@
 -- The search for a loop of parents as a loop runs it: k steps are made, from 1 on and up to n.
 use mathlib.Core.Path.{_≡_, refl, sym, ap, _∙_}
-use mathlib.Core.Logic.{_⊎_, inl, inr, ⊎-elim, _≢_}
+use mathlib.Core.Logic.{_≢_}
 use Prim.Native.Nat.{ℕ, zero, suc, _+_, _-_, _≤_, _<_}
 use native.Mathlib.Omega.{arith}
 use native.Mathlib.Numerals.{add-one}
 use Rattle.network.specs.Parents.{climb, stepsBack, loopSteps}
-use Rattle.network.specs.Climbing.{climb-next, climb-end, stepsBack-hit, stepsBack-miss}
+use Rattle.network.specs.Climbing.{climb-end, stepsBack-hit, stepsBack-miss}
 
 module _ (parent : ℕ → ℕ) (n i : ℕ) where
   pub steps-start : stepsBack parent (n + 1 - 1) 1 i ≡ loopSteps parent n i
   unfolding loopSteps
-  steps-start = ap (λ (f : ℕ) . stepsBack parent f 1 i) (omega arith)
+  steps-start = ap (λ (f : ℕ). stepsBack parent f 1 i) (omega arith)
 
   -- k steps lead back
   pub steps-hit : (k : ℕ) → k ≤ n → climb parent k i ≡ suc i → stepsBack parent (n + 1 - k) k i ≡ k

@@ -1,7 +1,7 @@
 -- What is pending, by what is out; and that links counted are links.
 use mathlib.Core.Path.{_≡_, refl, sym, ap, _∙_}
-use mathlib.Core.Bool.{Bool, true, false}
-use mathlib.Core.Logic.{_⊎_, inl, inr, ⊎-elim, _≢_}
+use mathlib.Core.Bool.{true, false}
+use mathlib.Core.Logic.{⊎-elim}
 use mathlib.Core.List.{List, [], _∷_, _++_}
 use Prim.Native.Nat.{ℕ, zero, suc, _+_, _-_, _≤_, _<_}
 use native.Mathlib.Omega.{arith}
@@ -11,7 +11,7 @@ use lib.ListN.{length, getD}
 use Rattle.number.specs.Order.{lt-or-le}
 use Rattle.network.specs.Links.{Link, noLink, Linked}
 use Rattle.network.specs.Kahn.{into}
-use Rattle.network.specs.Times.{same, same-eq, same-ne, same-self, same-cases, times, times-nil, times-cons}
+use Rattle.network.specs.Times.{same, same-eq, same-self, same-cases, times, times-nil, times-cons}
 use Rattle.network.specs.Pending.{Ranged, gate, sent, pending}
 
 pub gate-one : {m : ℕ} (k : ℕ) → m ≡ 1 → gate m k ≡ k

@@ -1,16 +1,16 @@
 -- An order by its places: what stands behind all that it is linked to, read from the first; and an order leaves no room for a loop.
 use mathlib.Core.Path.{_≡_, refl, sym, ap, _∙_}
-use mathlib.Core.Logic.{_⊎_, inl, inr, ⊎-elim}
+use mathlib.Core.Logic.{⊎-elim}
 use mathlib.Core.List.{List, [], _∷_, _++_, reverse, reverse-cons}
-use Prim.Native.Nat.{ℕ, zero, suc, _+_, _-_, _≤_, _<_}
+use Prim.Native.Nat.{ℕ, suc, _-_, _≤_, _<_}
 use native.Mathlib.Omega.{arith}
 use lib.ListN.{length, getD, length-reverse, List·getD-append}
 use lib.Seq.{getD-append-seam}
 use Rattle.number.specs.Order.{lt-or-le}
 use Rattle.network.specs.Links.{Link, Linked, Row, Loop, CloseLoop, Ordered}
-use Rattle.network.specs.Times.{same, same-eq, same-cases, times, times-nil, times-cons, times-one, times-append, times-at, times-place, sum, sum-times, sum-full, once-place}
+use Rattle.network.specs.Times.{same-cases, times, times-nil, times-cons, times-one, times-append, times-place, sum-times, sum-full}
 use Rattle.network.specs.Pending.{Ranged}
-use Rattle.network.specs.PendingLaws.{linked-from, linked-to}
+use Rattle.network.specs.PendingLaws.{linked-to}
 use Rattle.network.specs.Draining.{Behind, none, next}
 
 pub times-reverse : (x : ℕ) (xs : List ℕ) → times x (reverse xs) ≡ times x xs
@@ -64,11 +64,11 @@ module _ {links : List Link} {n : ℕ} {order : List ℕ} (o : Ordered links n o
       (r .0, omega (arith, o .all, r .1), r .2)
 
   -- along a row places rise: from the last one's place to an earlier one for the first
-  row-places : (x y : ℕ) (ys : List ℕ) → Row links (x ∷ y ∷ ys) → (p : ℕ) → p < n → getD order p 0 ≡ getD (x ∷ y ∷ ys) (suc (length ys)) 0
+  row-rises : (x y : ℕ) (ys : List ℕ) → Row links (x ∷ y ∷ ys) → (p : ℕ) → p < n → getD order p 0 ≡ getD (x ∷ y ∷ ys) (suc (length ys)) 0
       → (q : ℕ) × (q < p) × (getD order q 0 ≡ x)
-  row-places x y [] r p l e = o .before p x l (rw (sym e) at (r .0))
-  row-places x y (z ∷ zs) r p l e =
-      let s = row-places y z zs (r .1) p l e in
+  row-rises x y [] r p l e = o .before p x l (rw (sym e) at (r .0))
+  row-rises x y (z ∷ zs) r p l e =
+      let s = row-rises y z zs (r .1) p l e in
       let t = o .before (s .0) x (omega arith) (rw (sym (s .2)) at (r .0)) in
       (t .0, omega arith, t .2)
 
@@ -85,7 +85,7 @@ module _ {links : List Link} {n : ℕ} {order : List ℕ} (o : Ordered links n o
       go (x ∷ []) w = omega (arith, w .long)
       go (x ∷ y ∷ ys) w =
           let p = ordered-place (getD (x ∷ y ∷ ys) (suc (length ys)) 0) (row-last range x y ys (w .row)) in
-          let s = row-places x y ys (w .row) (p .0) (p .1) (p .2) in
+          let s = row-rises x y ys (w .row) (p .0) (p .1) (p .2) in
           let e : suc (suc (length ys)) - 1 ≡ suc (length ys) = omega arith in
           let closed : getD (x ∷ y ∷ ys) (suc (length ys)) 0 ≡ x = ap (λ (k : ℕ). getD (x ∷ y ∷ ys) k 0) (sym e) ∙ w .closed in
           let z = o .once (s .0) (p .0) (omega arith) (p .1) (s .2 ∙ sym (p .2 ∙ closed)) in

@@ -1,9 +1,9 @@
 -- Counts, releases and those that wait for none, over a part that grows by one: what a loop over links or activities meets.
 use mathlib.Core.Path.{_≡_, refl, sym, ap, _∙_}
-use mathlib.Core.Bool.{Bool, true, false}
-use mathlib.Core.Logic.{_⊎_, inl, inr, ⊎-elim, _≢_}
+use mathlib.Core.Bool.{true, false}
+use mathlib.Core.Logic.{⊎-elim, _≢_}
 use mathlib.Core.List.{List, [], _∷_, _++_}
-use Prim.Native.Nat.{ℕ, zero, suc, _+_, _-_, _≤_, _<_}
+use Prim.Native.Nat.{ℕ, _+_, _≤_, _<_}
 use native.Mathlib.Omega.{arith}
 use native.Mathlib.Numerals.{add-one}
 use borrow.Author.Tests.{eq-eqb, ne-eqb}
@@ -11,8 +11,8 @@ use lib.Dec.{eqb}
 use lib.ListN.{length, getD, take, drop, length-take, take-append-drop}
 use lib.Seq.{take-suc, take-length}
 use Rattle.network.specs.Links.{Link, noLink}
-use Rattle.network.specs.Kahn.{Waiting, put, joined, meet, release, into, ready}
-use Rattle.network.specs.Times.{same, same-self, same-cases}
+use Rattle.network.specs.Kahn.{Waiting, put, meet, release, into, ready}
+use Rattle.network.specs.Times.{same, same-cases}
 use Rattle.network.specs.Outgoing.{fromAt, toAt}
 use Rattle.network.specs.OutgoingLaws.{release-hit, release-miss}
 use Rattle.network.specs.Meeting.{put-same, put-other, joined-last, joined-not, ready-suc}

@@ -1,23 +1,21 @@
 -- Kahn's order as loops over an array run it, step by step: whatever stores the counts and the order so ends with Kahn's order.
 use mathlib.Core.Path.{_≡_, refl, sym, ap, ap₂, _∙_}
-use mathlib.Core.Logic.{_⊎_, inl, inr, ⊎-elim, _≢_}
-use mathlib.Core.List.{List, [], _∷_, _++_, reverse}
+use mathlib.Core.Logic.{⊎-elim}
+use mathlib.Core.List.{List, [], _∷_, _++_}
 use Prim.Native.Nat.{ℕ, zero, suc, _+_, _-_, _≤_, _<_, min}
 use native.Mathlib.Omega.{arith}
-use lib.ListN.{length}
 use Rattle.number.specs.Order.{lt-or-le}
 use Rattle.network.specs.Links.{Link, Linked}
-use Rattle.network.specs.Kahn.{Waiting, Drained, put, joined, meet, release, drain, into, ready, drained, kahn}
+use Rattle.network.specs.Kahn.{Waiting, put, joined, meet, release, drain}
 use Rattle.network.specs.Times.{same, same-self, same-cases, times, times-nil, times-cons, Distinct, distinct-cons, distinct-le}
-use Rattle.network.specs.Pending.{Ranged, sent, pending}
-use Rattle.network.specs.PendingLaws.{pending-more, pending-pos, into-pending, into-beyond, linked-sent}
+use Rattle.network.specs.Pending.{pending}
+use Rattle.network.specs.PendingLaws.{pending-more, pending-pos, linked-sent}
 use Rattle.network.specs.Outgoing.{targets, meetAll}
-use Rattle.network.specs.OutgoingLaws.{release-targets, sent-targets, meetAll-cons, meetAll-nil}
-use Rattle.network.specs.Meeting.{put-lower, joined-last, joined-not, ready-in, ready-out}
-use Rattle.network.specs.Draining.{Behind, none, next}
-use Rattle.network.specs.Placed.{times-reverse}
-use Rattle.network.specs.Array.{outOf, span, held, Going, Filled}
-use Rattle.network.specs.ArrayLaws.{outOf-nil, outOf-one, length-outOf, length-span, span-front, span-empty, outOf-queue, outOf-times, reverse-outOf, outOf-agree, span-push, outOf-push}
+use Rattle.network.specs.OutgoingLaws.{release-targets, sent-targets, meetAll-cons}
+use Rattle.network.specs.Meeting.{put-lower, joined-last, joined-not}
+use Rattle.network.specs.Draining.{next}
+use Rattle.network.specs.Array.{outOf, span, held, Progress}
+use Rattle.network.specs.ArrayLaws.{outOf-one, length-outOf, span-front, outOf-queue, outOf-times, outOf-agree, span-push, outOf-push}
 
 -- one activity comes out
 pub drain-step : (links : List Link) (f : ℕ) (c : ℕ → ℕ) (v : ℕ) (q out : List ℕ)
@@ -32,7 +30,7 @@ drain-empty links zero c out = refl
 drain-empty links (suc f) c out = refl
 
 module _ {links : List Link} {n : ℕ} where
-  module _ {order count : ℕ → ℕ} {h t : ℕ} {rest : List ℕ} (g : Going links n order count h t rest) where
+  module _ {order count : ℕ → ℕ} {h t : ℕ} {rest : List ℕ} (g : Progress links n order count h t rest) where
     apart : Distinct n (outOf order t)
     apart = record {
       once = λ j. ⊎-elim (λ l. omega (arith, g .each j l)) (λ l. omega (arith, g .beyond j l)) (lt-or-le j n);
@@ -40,30 +38,30 @@ module _ {links : List Link} {n : ℕ} where
     }
 
     -- the array is long enough
-    pub going-le : t ≤ n
-    going-le = omega (arith, distinct-le apart, length-outOf order t)
+    pub progress-le : t ≤ n
+    progress-le = omega (arith, distinct-le apart, length-outOf order t)
 
-    pub going-below : (j : ℕ) → 0 < count j → j < n
-    going-below j p = ⊎-elim (λ l. l) (λ l. absurd (omega (arith, g .beyond j l))) (lt-or-le j n)
+    pub progress-below : (j : ℕ) → 0 < count j → j < n
+    progress-below j p = ⊎-elim (λ l. l) (λ l. absurd (omega (arith, g .beyond j l))) (lt-or-le j n)
 
     -- also for one that still waits
-    pub going-room : (j : ℕ) → 0 < count j → t < n
-    going-room j p =
-        let l = going-below j p in omega (arith, distinct-le (distinct-cons l (omega (arith, g .each j l)) apart), length-outOf order t)
+    pub progress-room : (j : ℕ) → 0 < count j → t < n
+    progress-room j p =
+        let l = progress-below j p in omega (arith, distinct-le (distinct-cons l (omega (arith, g .each j l)) apart), length-outOf order t)
 
     -- what stands in the array is an activity, and waits for none
-    pub going-at : (p : ℕ) → p < t → (order p < n) × (count (order p) ≡ 0)
-    going-at p l =
+    pub progress-at : (p : ℕ) → p < t → (order p < n) × (count (order p) ≡ 0)
+    progress-at p l =
         let o = outOf-times order t p l in
         let b : order p < n = ⊎-elim (λ k. k) (λ k. absurd (omega (arith, g .beyond (order p) k))) (lt-or-le (order p) n) in
         (b, omega (arith, g .each (order p) b))
 
   -- ---- the next of the queue comes out
 
-  module _ {order count : ℕ → ℕ} {h t : ℕ} (g : Going links n order count h t []) (l : h < t) where
+  module _ {order count : ℕ → ℕ} {h t : ℕ} (g : Progress links n order count h t []) (l : h < t) where
     fresh : times (order h) (outOf order h) ≡ 0
     fresh =
-        let b = going-at g h l in
+        let b = progress-at g h l in
         omega (
           arith,
           g .each (order h) (b .0),
@@ -73,12 +71,11 @@ module _ {links : List Link} {n : ℕ} where
           same-self (order h),
         )
 
-    pub going-enter : Going links n order count (h + 1) t (targets links (order h))
+    pub progress-enter : Progress links n order count (h + 1) t (targets links (order h))
     unfolding meetAll
-    going-enter =
-        let b = going-at g h l in
-        let q : List ℕ = span order (h + 1) (t - (h + 1)) in
-        let f : n - h ≡ suc (n - (h + 1)) = omega (arith, going-le g) in
+    progress-enter =
+        let b = progress-at g h l in
+        let f : n - h ≡ suc (n - (h + 1)) = omega (arith, progress-le g) in
         let s : release (order h) links (held order count (h + 1) t) ≡ meetAll (targets links (order h)) (held order count (h + 1) t) =
         release-targets (order h) links (held order count (h + 1) t) in record {
           within = omega arith;
@@ -110,16 +107,16 @@ module _ {links : List Link} {n : ℕ} where
 
   -- ---- a link into j is met
 
-  module _ {order count : ℕ → ℕ} {h t j : ℕ} {js : List ℕ} (g : Going links n order count h t (j ∷ js)) where
+  module _ {order count : ℕ → ℕ} {h t j : ℕ} {js : List ℕ} (g : Progress links n order count h t (j ∷ js)) where
     -- the count that is lowered is not 0
-    pub going-pos : 0 < count j
-    going-pos = omega (arith, g .waits j, times-cons j j js, same-self j)
+    pub progress-pos : 0 < count j
+    progress-pos = omega (arith, g .waits j, times-cons j j js, same-self j)
 
-    pub going-target : j < n
-    going-target = going-below g j going-pos
+    pub progress-target : j < n
+    progress-target = progress-below g j progress-pos
 
-    pub going-space : t < n
-    going-space = going-room g j going-pos
+    pub progress-space : t < n
+    progress-space = progress-room g j progress-pos
 
     module _ (count′ : ℕ → ℕ) (low : (x : ℕ) → count′ x ≡ put count j (count j - 1) x) where
       falls : (x : ℕ) → count′ x ≡ count x - same x j
@@ -130,9 +127,9 @@ module _ {links : List Link} {n : ℕ} where
           ⊎-elim (λ c. omega (arith, falls x, g .waits x, times-cons x j js)) (λ c. omega (arith, falls x, g .waits x, times-cons x j js)) (same-cases x j)
 
       -- j waits for more
-      pub going-more : 1 < count j → Going links n order count′ h t js
+      pub progress-more : 1 < count j → Progress links n order count′ h t js
       unfolding meet
-      going-more p =
+      progress-more p =
           let e : meet j (held order count h t) ≡ held order count′ h t =
           λ i. record { count = λ x. sym (low x) i; queue = joined-not (count j - 1) j (span order h (t - h)) (omega arith) i } in record {
             within = g .within;
@@ -149,9 +146,9 @@ module _ {links : List Link} {n : ℕ} where
           level x = ⊎-elim (λ c. omega (arith, falls x, ap count (c .0))) (λ c. omega (arith, falls x)) (same-cases x j)
 
       -- j waits for no more, and is put at the end
-      pub going-last : (order′ : ℕ → ℕ) → count j ≡ 1 → order′ t ≡ j → ((p : ℕ) → p < t → order′ p ≡ order p) → Going links n order′ count′ h (t + 1) js
+      pub progress-last : (order′ : ℕ → ℕ) → count j ≡ 1 → order′ t ≡ j → ((p : ℕ) → p < t → order′ p ≡ order p) → Progress links n order′ count′ h (t + 1) js
       unfolding meet
-      going-last order′ o at old =
+      progress-last order′ o at old =
           let q : joined (count j - 1) j (span order h (t - h)) ≡ span order′ h (t + 1 - h) =
           joined-last (count j - 1) j (span order h (t - h)) (omega arith) ∙ ap (λ (x : ℕ). span order h (t - h) ++ (x ∷ [])) (sym at)
           ∙ sym (span-push order′ order h t (g .within) old) in

@@ -1,8 +1,8 @@
 -- Before the loop over the queue and after it: the array filled with those that wait for none, and at the end with Kahn's order.
-use mathlib.Core.Path.{_≡_, refl, sym, ap, ap₂, _∙_}
-use mathlib.Core.Logic.{_⊎_, inl, inr, ⊎-elim, _≢_}
+use mathlib.Core.Path.{_≡_, sym, ap, ap₂, _∙_}
+use mathlib.Core.Logic.{⊎-elim}
 use mathlib.Core.List.{List, [], _∷_, _++_, reverse}
-use Prim.Native.Nat.{ℕ, zero, suc, _+_, _-_, _≤_, _<_, min}
+use Prim.Native.Nat.{ℕ, _+_, _-_, _≤_, _<_}
 use native.Mathlib.Omega.{arith}
 use lib.ListN.{length, getD}
 use Rattle.number.specs.Order.{lt-or-le}
@@ -14,10 +14,10 @@ use Rattle.network.specs.PendingLaws.{into-pending, into-beyond}
 use Rattle.network.specs.Outgoing.{meetAll}
 use Rattle.network.specs.Meeting.{ready-in, ready-out}
 use Rattle.network.specs.Draining.{none}
-use Rattle.network.specs.Array.{outOf, span, Going, Filled}
-use Rattle.network.specs.ArrayLaws.{outOf-nil, length-span, span-at, span-suc, span-empty, outOf-queue, reverse-outOf, span-agree, span-push}
+use Rattle.network.specs.Array.{outOf, span, Progress, Filled}
+use Rattle.network.specs.ArrayLaws.{outOf-nil, length-span, span-at, span-empty, outOf-queue, reverse-outOf, span-push}
 use Rattle.network.specs.Prefix.{ready-zero, ready-hit, ready-miss}
-use Rattle.network.specs.GoingLaws.{drain-empty}
+use Rattle.network.specs.ProgressLaws.{drain-empty}
 
 -- ---- filling
 
@@ -53,9 +53,9 @@ module _ {count order : ℕ → ℕ} {m t : ℕ} (f : Filled count order m t) wh
 -- ---- the two ends
 
 module _ {links : List Link} {n : ℕ} (range : Ranged links n) where
-  pub going-start : {count order : ℕ → ℕ} {t : ℕ} → ((x : ℕ) → count x ≡ into links x) → Filled count order n t → Going links n order count 0 t []
+  pub progress-start : {count order : ℕ → ℕ} {t : ℕ} → ((x : ℕ) → count x ≡ into links x) → Filled count order n t → Progress links n order count 0 t []
   unfolding meetAll drained
-  going-start {count} {order} {t} c f =
+  progress-start {count} {order} {t} c f =
       let all : _≡_ {A = ℕ → ℕ} count (into links) = λ i x. c x i in
       let back : (k : ℕ) → k - 0 ≡ k = λ k. omega arith in
       let same-times : (j : ℕ) → times j (outOf order t) ≡ times j (ready count n) =
@@ -70,24 +70,24 @@ module _ {links : List Link} {n : ℕ} (range : Ranged links n) where
             ∙ ap (λ (o : List ℕ). drain links n count (ready count n) o) (outOf-nil order) ∙ ap (λ (d : ℕ → ℕ). drain links n d (ready d n) []) all;
       }
 
-module _ {links : List Link} {n : ℕ} {order count : ℕ → ℕ} {t : ℕ} (g : Going links n order count t t []) where
-  pub going-drained : drained links n ≡ record { count = count; out = outOf order t }
+module _ {links : List Link} {n : ℕ} {order count : ℕ → ℕ} {t : ℕ} (g : Progress links n order count t t []) where
+  pub progress-drained : drained links n ≡ record { count = count; out = outOf order t }
   unfolding meetAll
-  going-drained =
+  progress-drained =
       sym (g .remains) ∙ ap (λ (q : List ℕ). drain links (n - t) count q (outOf order t)) (span-empty order t t (omega arith))
       ∙ drain-empty links (n - t) count (outOf order t)
 
   -- the counts that are left
-  pub going-count : drained links n .count ≡ count
-  going-count = ap (λ (d : Drained). d .count) going-drained
+  pub progress-count : drained links n .count ≡ count
+  progress-count = ap (λ (d : Drained). d .count) progress-drained
 
   -- and the order
-  pub going-kahn : kahn links n ≡ span order 0 t
+  pub progress-kahn : kahn links n ≡ span order 0 t
   unfolding kahn
-  going-kahn = ap (λ (d : Drained). reverse (d .out)) going-drained ∙ reverse-outOf order t
+  progress-kahn = ap (λ (d : Drained). reverse (d .out)) progress-drained ∙ reverse-outOf order t
 
-  pub going-length : length (kahn links n) ≡ t
-  going-length = ap length going-kahn ∙ length-span order 0 t
+  pub progress-length : length (kahn links n) ≡ t
+  progress-length = ap length progress-kahn ∙ length-span order 0 t
 
-  pub going-at-kahn : (p : ℕ) → p < t → getD (kahn links n) p 0 ≡ order p
-  going-at-kahn p l = ap (λ (xs : List ℕ). getD xs p 0) going-kahn ∙ span-at order 0 t p l ∙ ap order (omega arith)
+  pub progress-at-kahn : (p : ℕ) → p < t → getD (kahn links n) p 0 ≡ order p
+  progress-at-kahn p l = ap (λ (xs : List ℕ). getD xs p 0) progress-kahn ∙ span-at order 0 t p l ∙ ap order (omega arith)
