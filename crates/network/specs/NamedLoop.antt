@@ -117,8 +117,8 @@ module _ (links : List Link) (c : ℕ → ℕ) where
 -- ---- of any links
 
 module _ {links : List Link} {n : ℕ} (range : Ranged links n) where
-  -- what waits has a predecessor that waits
-  drained-back : (x : ℕ) → 0 < drained links n .count x
+  -- what waits has a predecessor that waits, and the first is found
+  pub drained-back : (x : ℕ) → 0 < drained links n .count x
       → Linked links (waitingBefore links (drained links n .count) links x) x × (0 < drained links n .count (waitingBefore links (drained links n .count) links x))
   drained-back x p =
       let k : Kept links n (drained links n .count) [] (drained links n .out) = drained-kept links n range in
