@@ -1,3 +1,4 @@
 -- The sheet's records.
 pub mod Fields
 pub mod Records
+pub mod Status

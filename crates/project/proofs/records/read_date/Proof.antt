@@ -1,0 +1,17 @@
+-- `project::records::read_date` meets its contract.
+use borrow.Author.Needs.{needs}
+use mathlib.Core.Path.{_∙_}
+use mir.Facts.{toZ-ofZ}
+use Rattle.project.proofs.records.read_date.Statement.{statement}
+use Rattle.project.proofs.records.read_date.Tie as tie
+
+read-i32-requires : tie.Need-read-i32-requires
+read-i32-requires c κs = search needs
+
+returns : tie.Need-returns
+returns c =
+    let e = toZ-ofZ (record { sfits = c .read-i32 .ok }) ∙ c .read-i32 .ensures in
+    λ i. record { 0 = e i }
+
+pub read-date-spec : {M : Type 1} → statement M
+read-date-spec = tie.close (tie.spec read-i32-requires returns)
