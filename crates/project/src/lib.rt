@@ -4,6 +4,7 @@ ghost use mathlib.Core.Path.{_≡_};
 ghost use Rattle.project.specs.Status.{isMilestone, onStart, boundsStart, statusOf};
 
 pub mod codes;
+pub mod fields;
 pub mod records;
 
 // What an activity is, as far as scheduling cares.

@@ -1,11 +1,11 @@
--- `project::records::read_optional_date` meets its contract.
+-- `project::fields::read_optional_date` meets its contract.
 use borrow.Author.Needs.{needs}
 use borrow.Author.Tests.{ne-eqb}
 use mathlib.Core.Path.{sym, ap, _∙_}
 use Rattle.project.specs.declared.OptionalDate.the-variants.{On}
 use Rattle.project.specs.Records.{optionalDateAt}
-use Rattle.project.proofs.records.read_optional_date.Statement.{statement}
-use Rattle.project.proofs.records.read_optional_date.Tie as tie
+use Rattle.project.proofs.fields.read_optional_date.Statement.{statement}
+use Rattle.project.proofs.fields.read_optional_date.Tie as tie
 
 read-biased-requires : tie.Need-read-biased-requires
 read-biased-requires c κs = search needs

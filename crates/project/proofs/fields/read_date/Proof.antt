@@ -1,9 +1,9 @@
--- `project::records::read_date` meets its contract.
+-- `project::fields::read_date` meets its contract.
 use borrow.Author.Needs.{needs}
 use mathlib.Core.Path.{_∙_}
 use mir.Facts.{toZ-ofZ}
-use Rattle.project.proofs.records.read_date.Statement.{statement}
-use Rattle.project.proofs.records.read_date.Tie as tie
+use Rattle.project.proofs.fields.read_date.Statement.{statement}
+use Rattle.project.proofs.fields.read_date.Tie as tie
 
 read-i32-requires : tie.Need-read-i32-requires
 read-i32-requires c κs = search needs

@@ -1,9 +1,9 @@
--- `project::records::read_constraint` meets its contract.
+-- `project::fields::read_constraint` meets its contract.
 use borrow.Author.Needs.{needs}
 use mathlib.Core.Path.{_∙_}
 use Rattle.project.specs.Records.{constraintOf}
-use Rattle.project.proofs.records.read_constraint.Statement.{statement}
-use Rattle.project.proofs.records.read_constraint.Tie as tie
+use Rattle.project.proofs.fields.read_constraint.Statement.{statement}
+use Rattle.project.proofs.fields.read_constraint.Tie as tie
 
 byte-requires : tie.Need-byte-requires
 byte-requires c κs = search needs

@@ -1,12 +1,12 @@
--- `project::records::read_remaining` meets its contract.
+-- `project::fields::read_remaining` meets its contract.
 use borrow.Author.Needs.{needs}
 use borrow.Author.Tests.{ne-eqb}
 use mathlib.Core.Path.{sym, ap, _∙_}
 use mir.Facts.{toZ-ofZ}
 use Rattle.project.specs.declared.Remaining.the-variants.{Minutes}
 use Rattle.project.specs.Records.{remainingAt}
-use Rattle.project.proofs.records.read_remaining.Statement.{statement}
-use Rattle.project.proofs.records.read_remaining.Tie as tie
+use Rattle.project.proofs.fields.read_remaining.Statement.{statement}
+use Rattle.project.proofs.fields.read_remaining.Tie as tie
 
 read-biased-requires : tie.Need-read-biased-requires
 read-biased-requires c κs = search needs
