@@ -1,4 +1,4 @@
--- The two readings of a signed number agree.
+-- Four bytes stay below 2 ^ 32, and the two readings of a signed number agree.
 use mathlib.Core.Path.{_≡_, refl}
 use mathlib.Core.Bool.{Bool, true, false}
 use mathlib.Core.List.{List}
@@ -8,7 +8,11 @@ use borrow.Author.Tests.{ltb-true, ltb-false}
 use lib.Dec.{ltb}
 use lib.IntN.{ℤ, pos, negsuc}
 use Rattle.number.specs.Zed.{up, dn}
-use Rattle.number.specs.Bytes.{u32At, signed32, i32At, biasedAt}
+use Rattle.number.specs.Bytes.{byteAt, u32At, signed32, i32At, biasedAt}
+
+pub u32-lt : (s : List ℕ) → ((i : ℕ) → byteAt s i < 256) → (at : ℕ) → u32At s at < 2 ^ 32
+unfolding u32At
+u32-lt s bytes at = omega (arith, bytes at, bytes (at + 1), bytes (at + 2), bytes (at + 3))
 
 -- the signed number and 2 ^ 31 are the biased one
 pub signed32-biased : (n : ℕ) → n < 2 ^ 32 → up (signed32 n) + 2 ^ 31 ≡ (n + 2 ^ 31) % 2 ^ 32 + dn (signed32 n)

@@ -16,22 +16,23 @@ isMilestone Task = false
 isMilestone StartMilestone = true
 isMilestone FinishMilestone = true
 
--- 002's `on_start`: "Whether it bounds the start [..] or the finish [..]; none for as late as possible"
+-- 002's `on_start`, with the day: "Whether it bounds the start [..] or the finish [..]; none for as late as possible"
 unfoldable pub onStart : Constraint → End
 onStart Unconstrained = Neither
-onStart (StartOnOrAfter d) = Start
-onStart (StartOnOrBefore d) = Start
-onStart (FinishOnOrAfter d) = Finish
-onStart (FinishOnOrBefore d) = Finish
-onStart (StartOn d) = Start
-onStart (FinishOn d) = Finish
-onStart (MandatoryStart d) = Start
-onStart (MandatoryFinish d) = Finish
+onStart (StartOnOrAfter d) = Start d
+onStart (StartOnOrBefore d) = Start d
+onStart (FinishOnOrAfter d) = Finish d
+onStart (FinishOnOrBefore d) = Finish d
+onStart (StartOn d) = Start d
+onStart (FinishOn d) = Finish d
+onStart (MandatoryStart d) = Start d
+onStart (MandatoryFinish d) = Finish d
 onStart AsLateAsPossible = Neither
 
+-- `on_start() == Some(true)`
 abbrev pub isStart : End → Bool
-isStart Start = true
-isStart Finish = false
+isStart (Start d) = true
+isStart (Finish d) = false
 isStart Neither = false
 
 unfoldable pub boundsStart : Constraint → Bool

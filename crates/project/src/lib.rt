@@ -117,10 +117,10 @@ pub struct Project {
     pub critical_by: CriticalBy,
 }
 
-// Which end of an activity a constraint bounds.
+// Which end of an activity a constraint bounds, and on which day.
 pub enum End {
-    Start,
-    Finish,
+    Start(Date),
+    Finish(Date),
     Neither,
 }
 
@@ -142,20 +142,20 @@ pub fn is_milestone(kind: ActivityKind) -> bool
     }
 }
 
-// The end that a constraint bounds.
+// The end that a constraint bounds, with its day.
 pub fn on_start(constraint: Constraint) -> End
     ensures { λ r. ⌜ r ≡ onStart constraint ⌝ }
 {
     match constraint {
         Constraint::Unconstrained => End::Neither,
-        Constraint::StartOnOrAfter(_) => End::Start,
-        Constraint::StartOnOrBefore(_) => End::Start,
-        Constraint::FinishOnOrAfter(_) => End::Finish,
-        Constraint::FinishOnOrBefore(_) => End::Finish,
-        Constraint::StartOn(_) => End::Start,
-        Constraint::FinishOn(_) => End::Finish,
-        Constraint::MandatoryStart(_) => End::Start,
-        Constraint::MandatoryFinish(_) => End::Finish,
+        Constraint::StartOnOrAfter(day) => End::Start(day),
+        Constraint::StartOnOrBefore(day) => End::Start(day),
+        Constraint::FinishOnOrAfter(day) => End::Finish(day),
+        Constraint::FinishOnOrBefore(day) => End::Finish(day),
+        Constraint::StartOn(day) => End::Start(day),
+        Constraint::FinishOn(day) => End::Finish(day),
+        Constraint::MandatoryStart(day) => End::Start(day),
+        Constraint::MandatoryFinish(day) => End::Finish(day),
         Constraint::AsLateAsPossible => End::Neither,
     }
 }
@@ -166,8 +166,8 @@ pub fn bounds_start(constraint: Constraint) -> bool
 {
     let end = on_start(constraint);
     match end {
-        End::Start => true,
-        End::Finish => false,
+        End::Start(_) => true,
+        End::Finish(_) => false,
         End::Neither => false,
     }
 }
