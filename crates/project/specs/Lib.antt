@@ -2,3 +2,5 @@
 pub mod Fields
 pub mod Records
 pub mod Status
+pub mod Ranges
+pub mod RecordLaws
