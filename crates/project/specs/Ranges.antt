@@ -1,7 +1,7 @@
 -- What holds of the values of a record whose fields are in range.
 use mathlib.Core.Path.{_≡_}
 use mathlib.Core.Bool.{true}
-use Prim.Native.Nat.{ℕ, _≤_}
+use Prim.Native.Nat.{_≤_}
 use lib.IntN.{pos}
 use Rattle.number.specs.Zed.{up, dn}
 use Rattle.date.specs.declared.Date.{Date}

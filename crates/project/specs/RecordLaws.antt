@@ -1,25 +1,19 @@
 -- A record whose test holds has values in range, in a sheet of bytes.
 use mathlib.Core.Path.{_≡_, refl, sym, ap, subst, _∙_}
-use mathlib.Core.Bool.{Bool, true, false, _&&_, _||_, not, true≢false}
+use mathlib.Core.Bool.{Bool, true, false, _&&_, _||_, true≢false}
 use mathlib.Core.List.{List}
 use mathlib.Core.Logic.{_⊎_, inl, inr, ⊎-elim}
-use Prim.Native.Nat.{ℕ, _+_, _^_, _≤_, _<_}
+use Prim.Native.Nat.{ℕ, _+_, _≤_, _<_}
 use native.Mathlib.Omega.{arith}
-use borrow.Author.Tests.{leb-true, ltb-true, eqb-true, eqb-false, not-true, eq-eqb, ne-eqb}
+use borrow.Author.Tests.{leb-true, eqb-true, eqb-false, not-true, ne-eqb}
 use lib.Dec.{eqb, leb, ltb}
-use lib.IntN.{ℤ, pos}
-use Rattle.number.specs.Order.{eq-or-ne}
+use lib.IntN.{pos}
 use Rattle.number.specs.Tests.{and-both, or-either}
-use Rattle.number.specs.Zed.{up, dn}
 use Rattle.number.specs.ZedLaws.{apart}
 use Rattle.number.specs.Bytes.{byteAt, u16At, u32At, signed32, i32At, biasedAt}
 use Rattle.number.specs.BytesLaws.{u32-lt, i32-biased}
 use Rattle.date.specs.declared.Date.{Date}
-use Rattle.project.specs.declared.ActivityKind.{ActivityKind}
-use Rattle.project.specs.declared.ActivityKind.the-variants.{Task, StartMilestone, FinishMilestone}
 use Rattle.project.specs.declared.Constraint.{Constraint}
-use Rattle.project.specs.declared.Constraint.the-variants.{Unconstrained, StartOnOrAfter, StartOnOrBefore, FinishOnOrAfter, FinishOnOrBefore, StartOn, FinishOn, MandatoryStart, MandatoryFinish, AsLateAsPossible}
-use Rattle.project.specs.declared.OptionalDate.{OptionalDate}
 use Rattle.project.specs.declared.OptionalDate.the-variants.{On, Absent}
 use Rattle.project.specs.declared.End.{End}
 use Rattle.project.specs.declared.End.the-variants.{Start, Finish, Neither}
@@ -97,10 +91,10 @@ module _ (s : List ℕ) (bytes : (i : ℕ) → byteAt s i < 256) where
   optional-in at e d h =
       ⊎-elim (λ z. let h' : Absent ≡ On d = rw z at h in let never : _≡_ {A = ℕ} 0 1 = cc in absurd (omega arith))
       (λ k.
-        let l = day-ok-in (biasedAt s at) k in
-        let h' : On (dateAt s at) ≡ On d = rw (ne-eqb (biasedAt s at) 0 (λ z. omega arith)) at h in
-        let same : dateAt s at ≡ d = cc in
-        subst DayInRange same (date-in at k))
+      let l = day-ok-in (biasedAt s at) k in
+      let h' : On (dateAt s at) ≡ On d = rw (ne-eqb (biasedAt s at) 0 (λ z. omega arith)) at h in
+      let same : dateAt s at ≡ d = cc in
+      subst DayInRange same (date-in at k))
       (or-either (eqb (biasedAt s at) 0) (dayOk (biasedAt s at)) e)
 
   pub constraint-in : (at day : ℕ) → at + 1 ≡ day → constraintOk s at ≡ true → ConstraintInRange (constraintOf (byteAt s at) (dateAt s day))
@@ -108,17 +102,18 @@ module _ (s : List ℕ) (bytes : (i : ℕ) → byteAt s i < 256) where
   constraint-in at day next e =
       ⊎-elim
       (λ z.
-        let free = neither-end (byteAt s at) (dateAt s day) (⊎-elim (λ a. inl (eqb-true (byteAt s at) 0 a)) (λ a. inr (eqb-true (byteAt s at) 9 a)) (or-either (eqb (byteAt s at) 0) (eqb (byteAt s at) 9) z)) in
-        record {
-          start = λ d h. let never : _≡_ {A = ℕ} 0 1 = cc in absurd (omega arith);
-          finish = λ d h. let never : _≡_ {A = ℕ} 0 1 = cc in absurd (omega arith);
-        })
+      let unread = ⊎-elim (λ a. inl (eqb-true (byteAt s at) 0 a)) (λ a. inr (eqb-true (byteAt s at) 9 a)) (or-either (eqb (byteAt s at) 0) (eqb (byteAt s at) 9) z) in
+      let free = neither-end (byteAt s at) (dateAt s day) unread in
+      record {
+        start = λ d h. let never : _≡_ {A = ℕ} 0 1 = cc in absurd (omega arith);
+        finish = λ d h. let never : _≡_ {A = ℕ} 0 1 = cc in absurd (omega arith);
+      })
       (λ k.
-        let in-range = date-in day (rw next at (and-both (ltb (byteAt s at) 9) (dayOk (biasedAt s (at + 1))) k .1)) in
-        record {
-          start = λ d h. subst DayInRange (start-day (byteAt s at) (dateAt s day) d h) in-range;
-          finish = λ d h. subst DayInRange (finish-day (byteAt s at) (dateAt s day) d h) in-range;
-        })
+      let in-range = date-in day (rw next at (and-both (ltb (byteAt s at) 9) (dayOk (biasedAt s (at + 1))) k .1)) in
+      record {
+        start = λ d h. subst DayInRange (start-day (byteAt s at) (dateAt s day) d h) in-range;
+        finish = λ d h. subst DayInRange (finish-day (byteAt s at) (dateAt s day) d h) in-range;
+      })
       (or-either (eqb (byteAt s at) 0 || eqb (byteAt s at) 9) (ltb (byteAt s at) 9 && dayOk (biasedAt s (at + 1))) e)
 
   -- minutes that read 0 are 0
@@ -140,7 +135,7 @@ module _ (s : List ℕ) (bytes : (i : ℕ) → byteAt s i < 256) where
       record {
         named = eqb-false (u32At s (at + 1)) 0 (not-true (eqb (u32At s (at + 1)) 0) id);
         moment = λ m.
-          ⊎-elim (λ z. absurd (milestone-code (byteAt s (at + 5)) m z)) (zero-minutes (at + 11)) (or-either (eqb (byteAt s (at + 5)) 0) (eqb (u32At s (at + 11)) 0) minutes);
+            ⊎-elim (λ z. absurd (milestone-code (byteAt s (at + 5)) m z)) (zero-minutes (at + 11)) (or-either (eqb (byteAt s (at + 5)) 0) (eqb (u32At s (at + 11)) 0) minutes);
         actual-start = optional-in (at + 15) start;
         actual-finish = optional-in (at + 19) finish;
         expected-finish = optional-in (at + 27) expected;

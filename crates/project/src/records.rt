@@ -2,9 +2,9 @@
 use crate::Activity;
 use crate::ActivityKind;
 use crate::Constraint;
+use crate::LagKind;
 use crate::OptionalDate;
 use crate::Project;
-use crate::LagKind;
 use crate::Relationship;
 use crate::RelationshipType;
 use crate::Remaining;
@@ -182,7 +182,12 @@ pub fn read_relationship(sheet: &[u8], at: usize) -> Relationship
     let successor = read_successor(sheet, at) as u32;
     let kind = read_relationship_type(sheet, at);
     let lag = read_lag(sheet, at);
-    Relationship { predecessor, successor, kind, lag }
+    Relationship {
+        predecessor,
+        successor,
+        kind,
+        lag,
+    }
 }
 
 // ---- the project and a calendar
@@ -196,7 +201,10 @@ pub fn read_project(sheet: &[u8], at: usize) -> Project
     let lag_calendar = codes::lag_calendar_of(number::byte(sheet, at + 13));
     let float_kind = codes::float_kind_of(number::byte(sheet, at + 14));
     let progress_mode = codes::progress_mode_of(number::byte(sheet, at + 15));
-    let critical_by = codes::critical_by_of(number::byte(sheet, at + 16), number::read_i32(sheet, at + 17));
+    let critical_by = codes::critical_by_of(
+        number::byte(sheet, at + 16),
+        number::read_i32(sheet, at + 17),
+    );
     Project {
         start,
         data_date,

@@ -1,6 +1,5 @@
 -- `project::status_of` meets its contract.
 use borrow.Author.Needs.{needs}
-use mathlib.Core.Path.{sym, ap}
 use Rattle.project.specs.Status.{statusOf}
 use Rattle.project.proofs.status_of.Statement.{statement}
 use Rattle.project.proofs.status_of.Tie as tie

@@ -1,9 +1,10 @@
 -- `project::records::read_secondary_constraint` meets its contract.
 use borrow.Author.Needs.{needs}
-use mathlib.Core.Path.{_≡_}
+use mathlib.Core.Path.{_≡_, ap, _∙_}
 use native.Mathlib.Omega.{arith}
-use Prim.Native.Nat.{_+_}
-use Rattle.project.specs.Records.{activityAt}
+use Prim.Native.Nat.{ℕ, _+_}
+use Rattle.number.specs.Bytes.{byteAt}
+use Rattle.project.specs.Records.{dateAt, constraintOf, activityAt}
 use Rattle.project.proofs.records.read_secondary_constraint.Statement.{statement}
 use Rattle.project.proofs.records.read_secondary_constraint.Tie as tie
 
@@ -16,8 +17,10 @@ read-constraint-requires c κs = search needs
 returns : tie.Need-returns
 unfolding activityAt
 returns c =
-    let e : c .before .before .args .at + 36 + 1 ≡ c .before .before .args .at + 37 = omega arith in
-    rw e at (c .read-constraint .ensures)
+    let s = c .before .before .args .sheet .now in
+    let at = c .before .before .args .at in
+    let day : at + 36 + 1 ≡ at + 37 = omega arith in
+    c .read-constraint .ensures ∙ ap (λ (n : ℕ). constraintOf (byteAt s (at + 36)) (dateAt s n)) day
 
 pub read-secondary-constraint-spec : {M : Type 1} → statement M
 read-secondary-constraint-spec =
