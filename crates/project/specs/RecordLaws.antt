@@ -13,6 +13,8 @@ use Rattle.number.specs.ZedLaws.{apart}
 use Rattle.number.specs.Bytes.{byteAt, u16At, u32At, signed32, i32At, biasedAt}
 use Rattle.number.specs.BytesLaws.{u32-lt, i32-biased}
 use Rattle.date.specs.declared.Date.{Date}
+use Rattle.date.specs.Days.{biased}
+use Rattle.date.specs.Years.{inYears, years-within}
 use Rattle.project.specs.declared.Constraint.{Constraint}
 use Rattle.project.specs.declared.OptionalDate.the-variants.{On, Absent}
 use Rattle.project.specs.declared.End.{End}
@@ -33,6 +35,14 @@ unfolding dayOk
 day-ok-in d e =
     let (a, b) = and-both (leb 2147348508 d) (leb d 2147859847) e in
     (leb-true 2147348508 d a, leb-true d 2147859847 b)
+
+module _ (d : Date) (r : DayInRange d) where
+  pub biased-in : (2147348508 ≤ biased (d .0)) × (biased (d .0) ≤ 2147859847)
+  biased-in = (omega arith, omega arith)
+
+  -- a clock reads such a day
+  pub day-in-years : inYears (biased (d .0)) ≡ true
+  day-in-years = years-within (biased (d .0)) (omega arith) (omega arith)
 
 -- ---- what a code's value says
 pub milestone-code : (n : ℕ) → isMilestone (activityKindOf n) ≡ true → eqb n 0 ≡ true → ⊥
@@ -80,6 +90,10 @@ neither-end n d (inr e) = rw e
 
 -- ---- a sheet of bytes
 module _ (s : List ℕ) (bytes : (i : ℕ) → byteAt s i < 256) where
+  -- a day's two readings agree
+  pub date-biased : (at : ℕ) → biased (dateAt s at .0) ≡ biasedAt s at
+  date-biased at = omega (arith, i32-biased s at (u32-lt s bytes at))
+
   pub date-in : (at : ℕ) → dayOk (biasedAt s at) ≡ true → DayInRange (dateAt s at)
   date-in at e =
       let (l, h) = day-ok-in (biasedAt s at) e in

@@ -15,7 +15,7 @@ pub fn read_date(sheet: &[u8], at: usize) -> Date
     requires { ⌜ at + 4 ≤ length (now sheet) ⌝ }
     ensures { λ r. ⌜ r ≡ dateAt (now (sheet .entry)) at ⌝ }
 {
-    Date(number::read_i32(sheet, at))
+    Date::new(number::read_i32(sheet, at))
 }
 
 // The day at a place, or none for the absent mark.
@@ -23,7 +23,8 @@ pub fn read_optional_date(sheet: &[u8], at: usize) -> OptionalDate
     requires { ⌜ at + 4 ≤ length (now sheet) ⌝ }
     ensures { λ r. ⌜ r ≡ optionalDateAt (now (sheet .entry)) at ⌝ }
 {
-    if number::read_biased(sheet, at) == 0 {
+    let day = number::read_biased(sheet, at);
+    if day == 0 {
         return OptionalDate::Absent;
     }
     OptionalDate::On(read_date(sheet, at))
