@@ -24,9 +24,6 @@ pub enum FromDays {
     OutOfRange,
 }
 
-// A day, counted from 1 January 1970 (negative before it).
-pub struct Date(pub i32);
-
 // The first day that a walk may read, and the last: those of the years -9999 to 9999, counted from the first day that an i32 can name.
 pub const FIRST_DAY: u64 = 2143112061;
 
@@ -69,6 +66,13 @@ pub fn signed_minute(t: u64) -> i64
 }
 
 impl Date {
+    // The day `days` from 1 January 1970, whatever its year: a reader judges its days by itself.
+    pub fn new(days: i32) -> Date
+        ensures { λ r. ⌜ r .0 ≡ days ⌝ }
+    {
+        Date(days)
+    }
+
     // The day `days` from 1 January 1970, if its year is in range.
     pub fn from_days(days: i32) -> FromDays
         ensures { λ r. ⌜ r ≡ fromDays days ⌝ }

@@ -1,6 +1,7 @@
 -- The definitions of the numbers, and their laws.
 pub mod Order
 pub mod Bytes
+pub mod Tests
 pub mod BytesLaws
 pub mod Zed
 pub mod ZedLaws

@@ -1,5 +1,11 @@
-// The types that the scheduling run reads, and the sheet's records as values of them.
+// The types that the scheduling run reads, and what it asks of an activity and of a constraint.
 use date::Date;
+ghost use mathlib.Core.Path.{_≡_};
+ghost use Rattle.project.specs.Status.{isMilestone, onStart, boundsStart, statusOf};
+
+pub mod codes;
+pub mod fields;
+pub mod records;
 
 // What an activity is, as far as scheduling cares.
 pub enum ActivityKind {
@@ -109,4 +115,72 @@ pub struct Project {
     pub float_kind: FloatKind,
     pub progress_mode: ProgressMode,
     pub critical_by: CriticalBy,
+}
+
+// Which end of an activity a constraint bounds, and on which day.
+pub enum End {
+    Start(Date),
+    Finish(Date),
+    Neither,
+}
+
+// How far an activity's work has come, by its recorded days.
+pub enum Status {
+    NotStarted,
+    InProgress,
+    Completed,
+}
+
+// Whether an activity is a moment.
+pub fn is_milestone(kind: ActivityKind) -> bool
+    ensures { λ r. ⌜ r ≡ isMilestone kind ⌝ }
+{
+    match kind {
+        ActivityKind::Task => false,
+        ActivityKind::StartMilestone => true,
+        ActivityKind::FinishMilestone => true,
+    }
+}
+
+// The end that a constraint bounds, with its day.
+pub fn on_start(constraint: Constraint) -> End
+    ensures { λ r. ⌜ r ≡ onStart constraint ⌝ }
+{
+    match constraint {
+        Constraint::Unconstrained => End::Neither,
+        Constraint::StartOnOrAfter(day) => End::Start(day),
+        Constraint::StartOnOrBefore(day) => End::Start(day),
+        Constraint::FinishOnOrAfter(day) => End::Finish(day),
+        Constraint::FinishOnOrBefore(day) => End::Finish(day),
+        Constraint::StartOn(day) => End::Start(day),
+        Constraint::FinishOn(day) => End::Finish(day),
+        Constraint::MandatoryStart(day) => End::Start(day),
+        Constraint::MandatoryFinish(day) => End::Finish(day),
+        Constraint::AsLateAsPossible => End::Neither,
+    }
+}
+
+// Whether a constraint bounds the start.
+pub fn bounds_start(constraint: Constraint) -> bool
+    ensures { λ r. ⌜ r ≡ boundsStart constraint ⌝ }
+{
+    let end = on_start(constraint);
+    match end {
+        End::Start(_) => true,
+        End::Finish(_) => false,
+        End::Neither => false,
+    }
+}
+
+// The status that two recorded days give an activity that is no summary.
+pub fn status_of(actual_start: OptionalDate, actual_finish: OptionalDate) -> Status
+    ensures { λ r. ⌜ r ≡ statusOf «actual_start» «actual_finish» ⌝ }
+{
+    match actual_finish {
+        OptionalDate::On(_) => Status::Completed,
+        OptionalDate::Absent => match actual_start {
+            OptionalDate::On(_) => Status::InProgress,
+            OptionalDate::Absent => Status::NotStarted,
+        },
+    }
 }
