@@ -80,10 +80,10 @@ module _ (h : ℕ → List Period) (d : ℕ) where
           n .1,
           worked-day x (n .1) ∙ n .2,
           gap (worked h) (omega (arith, n .0))
-          (λ u a b.
-          let f : d * 1440 + (u - d * 1440) ≡ u = omega arith in
-          ap (worked h) (sym f) ∙ worked-day (u - d * 1440) (omega (arith, n .1)) 
-          ∙ is-false _ (λ t. omega (arith, n .3 (u - d * 1440) (omega arith) t))),
+              (λ u a b.
+              let f : d * 1440 + (u - d * 1440) ≡ u = omega arith in
+              ap (worked h) (sym f) ∙ worked-day (u - d * 1440) (omega (arith, n .1))
+              ∙ is-false _ (λ t. omega (arith, n .3 (u - d * 1440) (omega arith) t))),
         )
 
     pub day-next-none : (m : ℕ) → m ≤ 1440 → nextIn (h d) m ≡ Nothing → count (worked h) (d * 1440 + 1440) ≡ count (worked h) (d * 1440 + m)
