@@ -1,0 +1,183 @@
+-- What a store to a cell does to the state, and what the state reads after stores.
+use mathlib.Core.Path.{_≡_, refl, sym, ap, _∙_}
+use mathlib.Core.Logic.{_≢_, ⊎-elim}
+use mathlib.Core.Bool.{Bool, true, false, cond}
+use mathlib.Core.List.{List}
+use Prim.Native.Nat.{ℕ, _+_, _*_, _≤_, _<_}
+use native.Mathlib.Omega.{arith}
+use lib.Dec.{eqb, ltb}
+use lib.IntN.{ℤ, pos}
+use lib.ListN.{length, replicate, getD-replicate, length-replicate, List·getD-eq-default}
+use borrow.Author.Tests.{eq-eqb, ne-eqb, lt-ltb, le-ltb, ltb-true}
+use Rattle.number.specs.Order.{eq-or-ne, lt-or-le}
+use Rattle.number.specs.Zed.{up}
+use Rattle.cells.specs.Cell.{cell, cellZ, storeZ}
+use Rattle.cells.specs.CellLaws.{cell-up, cellZ-same, cellZ-other}
+use Rattle.memory.specs.State.{State, Room, table, stateOf, zeroState, replaced, putAct, putActZ, putLink, putLinkZ, filledTo, fillAct}
+
+-- ---- choices
+module _ {A : Type 0} where
+  cond-then : (b : Bool) (x y z : A) → (b ≡ true → x ≡ y) → cond b x z ≡ cond b y z
+  cond-then true x y z h = h refl
+  cond-then false x y z h = refl
+
+  cond-same : (b : Bool) (x y : A) → x ≡ y → cond b x y ≡ y
+  cond-same true x y h = h
+  cond-same false x y h = refl
+
+  cond-map : {B : Type 0} (g : A → B) (b : Bool) (x y : A) → g (cond b x y) ≡ cond b (g x) (g y)
+  cond-map g true x y = refl
+  cond-map g false x y = refl
+
+-- ---- a table with one cell replaced
+module _ {A : Type 0} (t : ℕ → ℕ → A) (f i : ℕ) (v : A) where
+  pub replaced-same : replaced t f i v f i ≡ v
+  replaced-same = simp (eq-eqb f f refl, eq-eqb i i refl)
+
+  pub replaced-row : (g j : ℕ) → j ≢ i → replaced t f i v g j ≡ t g j
+  replaced-row g j h = cond-same (eqb g f) _ _ (simp (ne-eqb j i h))
+
+  pub replaced-field : (g : ℕ) → g ≢ f → replaced t f i v g ≡ t g
+  replaced-field g h = λ z j. at j z
+    where
+      at : (j : ℕ) → replaced t f i v g j ≡ t g j
+      at j = simp (ne-eqb g f h)
+
+  -- by where the cell is read
+  by-cell : {C : Type 0} (g j : ℕ) → (g ≡ f → j ≡ i → C) → (j ≢ i → C) → (g ≢ f → C) → C
+  by-cell g j here row field = ⊎-elim (λ (e : g ≡ f). ⊎-elim (here e) row (eq-or-ne j i)) field (eq-or-ne g f)
+
+  pub replaced-is : (u : ℕ → ℕ → A) → u f i ≡ v → ((g j : ℕ) → (g ≡ f → j ≡ i → ⊥) → u g j ≡ t g j) → u ≡ replaced t f i v
+  replaced-is u h k = λ z g j. at g j z
+    where
+      at : (g j : ℕ) → u g j ≡ replaced t f i v g j
+      at g j =
+          by-cell g j (λ d e. rw (d, e) (h ∙ sym replaced-same)) (λ n. k g j (λ d e. n e) ∙ sym (replaced-row g j n))
+          (λ n. k g j (λ d e. n d) ∙ sym (ap (λ (c : ℕ → A). c j) (replaced-field g n)))
+
+  pub replaced-twice : (w : A) → replaced (replaced t f i w) f i v ≡ replaced t f i v
+  replaced-twice w = λ z g j. at g j z
+    where
+      at : (g j : ℕ) → replaced (replaced t f i w) f i v g j ≡ replaced t f i v g j
+      at g j = go (eqb g f) (eqb j i)
+        where
+          go : (b c : Bool) → cond b (cond c v (cond b (cond c w (t g j)) (t g j))) (cond b (cond c w (t g j)) (t g j)) ≡ cond b (cond c v (t g j)) (t g j)
+          go true true = refl
+          go true false = refl
+          go false c = refl
+
+-- two cells apart are replaced in either order
+pub replaced-swap : {A : Type 0} (t : ℕ → ℕ → A) (f i : ℕ) (v : A) (g j : ℕ) (w : A) → (f ≡ g → i ≡ j → ⊥) → replaced (replaced t f i v) g j w ≡ replaced (replaced t g j w) f i v
+replaced-swap t f i v g j w n =
+    replaced-is (replaced t g j w) f i v (replaced (replaced t f i v) g j w) (other ∙ replaced-same t f i v)
+    (λ h k m.
+    by-cell t g j w h k (λ d e. rw (d, e) (replaced-same (replaced t f i v) g j w ∙ sym (replaced-same t g j w)))
+    (λ o. replaced-row (replaced t f i v) g j w h k o ∙ kept h k m ∙ sym (replaced-row t g j w h k o))
+    (λ o. field (replaced t f i v) h k o ∙ kept h k m ∙ sym (field t h k o)))
+  where
+    field : (s : ℕ → ℕ → _) (h k : ℕ) → h ≢ g → replaced s g j w h k ≡ s h k
+    field s h k o = ap (λ (c : ℕ → _). c k) (replaced-field s g j w h o)
+
+    kept : (h k : ℕ) → (h ≡ f → k ≡ i → ⊥) → replaced t f i v h k ≡ t h k
+    kept h k m = by-cell t f i v h k (λ d e. absurd (m d e)) (λ o. replaced-row t f i v h k o) (λ o. ap (λ (c : ℕ → _). c k) (replaced-field t f i v h o))
+
+    other : replaced (replaced t f i v) g j w f i ≡ replaced t f i v f i
+    other = by-cell t g j w f i (λ d e. absurd (n d e)) (λ o. replaced-row (replaced t f i v) g j w f i o) (λ o. field (replaced t f i v) f i o)
+
+-- the natural numbers of a table with a cell replaced
+replaced-up : (t : ℕ → ℕ → ℤ) (f i : ℕ) (z : ℤ) (g j : ℕ) → up (replaced t f i z g j) ≡ replaced (λ h k. up (t h k)) f i (up z) g j
+replaced-up t f i z g j = cond-map up (eqb g f) _ _ ∙ ap (λ (x : ℕ). cond (eqb g f) x (up (t g j))) (cond-map up (eqb j i) _ _)
+
+-- ---- a table in cells
+module _ (base size n : ℕ) (xs : List ℤ) where
+  pub table-at : (f i : ℕ) → f < size → i < n → table base size n xs f i ≡ cellZ xs (base + size * i + f)
+  table-at f i p q = simp (lt-ltb _ _ p, lt-ltb _ _ q)
+
+  pub table-past : (f i : ℕ) → n ≤ i → table base size n xs f i ≡ pos 0
+  table-past f i h = cond-same (ltb f size) _ _ (simp (le-ltb _ _ h))
+
+  -- a table is as its cells
+  table-same : (ys : List ℤ) (f i : ℕ) → (f < size → i < n → cellZ ys (base + size * i + f) ≡ cellZ xs (base + size * i + f)) → table base size n ys f i ≡ table base size n xs f i
+  table-same ys f i h = cond-then (ltb f size) _ _ _ (λ p. cond-then (ltb i n) _ _ _ (λ q. h (ltb-true f size p) (ltb-true i n q)))
+
+  -- that rows are apart is what the caller knows of `size`
+  table-put : (f i : ℕ) (z : ℤ) → f < size → i < n → base + size * i + f < length xs
+      → ((g j : ℕ) → g < size → (base + size * j + g ≡ base + size * i + f) → (g ≡ f) × (j ≡ i))
+      → table base size n (storeZ xs (base + size * i + f) z) ≡ replaced (table base size n xs) f i z
+  table-put f i z p q room apart =
+      replaced-is (table base size n xs) f i z (table base size n (storeZ xs (base + size * i + f) z))
+      (cond-then-at ∙ cellZ-same xs (base + size * i + f) z room)
+      (λ g j m.
+      table-same (storeZ xs (base + size * i + f) z) g j
+      (λ s u. cellZ-other xs (base + size * i + f) (base + size * j + g) z (λ e. m (apart g j s e .0) (apart g j s e .1))))
+    where
+      cond-then-at : table base size n (storeZ xs (base + size * i + f) z) f i ≡ cellZ (storeZ xs (base + size * i + f) z) (base + size * i + f)
+      cond-then-at = simp (lt-ltb _ _ p, lt-ltb _ _ q)
+
+-- ---- a store to a cell is a put
+module _ (a l : ℕ) (xs : List ℤ) (room : Room a l xs) (f i : ℕ) (z : ℤ) where
+  pub state-put-act : f < 64 → i < a → stateOf a l (storeZ xs (64 * i + f) z) ≡ putActZ (stateOf a l xs) f i z
+  unfolding stateOf
+  state-put-act p q =
+      let y : 64 * i + f ≡ 0 + 64 * i + f = omega arith in
+      let ys : List ℤ = storeZ xs (0 + 64 * i + f) z in
+      let e : table 0 64 a ys ≡ replaced (table 0 64 a xs) f i z = table-put 0 64 a xs f i z p q (omega arith) (λ g j s w. (omega arith, omega arith)) in
+      let k : (g j : ℕ) → table (64 * a) 16 l ys g j ≡ table (64 * a) 16 l xs g j = λ g j. table-same (64 * a) 16 l xs ys g j (λ s u. cellZ-other xs (0 + 64 * i + f) (64 * a + 16 * j + g) z (λ w. omega arith)) in
+      rw y λ t. record {
+        act = λ g j. (ap (λ (c : ℕ → ℕ → ℤ). up (c g j)) e ∙ replaced-up (table 0 64 a xs) f i z g j) t;
+        link = λ g j. up (k g j t);
+        actZ = λ g j. e t g j;
+        linkZ = λ g j. k g j t;
+      }
+
+  pub state-put-link : f < 16 → i < l → stateOf a l (storeZ xs (64 * a + 16 * i + f) z) ≡ putLinkZ (stateOf a l xs) f i z
+  unfolding stateOf
+  state-put-link p q =
+      let ys : List ℤ = storeZ xs (64 * a + 16 * i + f) z in
+      let e : table (64 * a) 16 l ys ≡ replaced (table (64 * a) 16 l xs) f i z = table-put (64 * a) 16 l xs f i z p q (omega arith) (λ g j s w. (omega arith, omega arith)) in
+      let k : (g j : ℕ) → table 0 64 a ys g j ≡ table 0 64 a xs g j = λ g j. table-same 0 64 a xs ys g j (λ s u. cellZ-other xs (64 * a + 16 * i + f) (0 + 64 * j + g) z (λ w. omega arith)) in
+      λ t. record {
+        act = λ g j. up (k g j t);
+        link = λ g j. (ap (λ (c : ℕ → ℕ → ℤ). up (c g j)) e ∙ replaced-up (table (64 * a) 16 l xs) f i z g j) t;
+        actZ = λ g j. k g j t;
+        linkZ = λ g j. e t g j;
+      }
+
+-- ---- what the state reads
+module _ (a l : ℕ) (xs : List ℤ) (f i : ℕ) where
+  pub actZ-at : f < 64 → i < a → stateOf a l xs .actZ f i ≡ cellZ xs (64 * i + f)
+  unfolding stateOf
+  actZ-at p q = let y : 64 * i + f ≡ 0 + 64 * i + f = omega arith in rw y (table-at 0 64 a xs f i p q)
+
+  pub linkZ-at : f < 16 → i < l → stateOf a l xs .linkZ f i ≡ cellZ xs (64 * a + 16 * i + f)
+  unfolding stateOf
+  linkZ-at p q = table-at (64 * a) 16 l xs f i p q
+
+  pub act-up : stateOf a l xs .act f i ≡ up (stateOf a l xs .actZ f i)
+  unfolding stateOf
+  act-up = refl
+
+  pub link-up : stateOf a l xs .link f i ≡ up (stateOf a l xs .linkZ f i)
+  unfolding stateOf
+  link-up = refl
+
+  pub act-at : f < 64 → i < a → stateOf a l xs .act f i ≡ cell xs (64 * i + f)
+  act-at p q = act-up ∙ ap up (actZ-at p q) ∙ sym (cell-up xs (64 * i + f))
+
+  pub link-at : f < 16 → i < l → stateOf a l xs .link f i ≡ cell xs (64 * a + 16 * i + f)
+  link-at p q = link-up ∙ ap up (linkZ-at p q) ∙ sym (cell-up xs (64 * a + 16 * i + f))
+
+  -- 0 past the last row
+  pub actZ-past : a ≤ i → stateOf a l xs .actZ f i ≡ pos 0
+  unfolding stateOf
+  actZ-past h = table-past 0 64 a xs f i h
+
+  pub linkZ-past : l ≤ i → stateOf a l xs .linkZ f i ≡ pos 0
+  unfolding stateOf
+  linkZ-past h = table-past (64 * a) 16 l xs f i h
+
+  pub act-past : a ≤ i → stateOf a l xs .act f i ≡ 0
+  act-past h = act-up ∙ ap up (actZ-past h)
+
+  pub link-past : l ≤ i → stateOf a l xs .link f i ≡ 0
+  link-past h = link-up ∙ ap up (linkZ-past h)
