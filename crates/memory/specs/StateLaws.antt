@@ -181,3 +181,144 @@ module _ (a l : ℕ) (xs : List ℤ) (f i : ℕ) where
 
   pub link-past : l ≤ i → stateOf a l xs .link f i ≡ 0
   link-past h = link-up ∙ ap up (linkZ-past h)
+
+-- ---- what is read after a put; that a put to one table leaves the other is `refl`
+module _ (S : State) (f i : ℕ) (z : ℤ) where
+  pub act-same : putActZ S f i z .act f i ≡ up z
+  act-same = replaced-same (S .act) f i (up z)
+
+  pub act-row : (g j : ℕ) → j ≢ i → putActZ S f i z .act g j ≡ S .act g j
+  act-row g j h = replaced-row (S .act) f i (up z) g j h
+
+  pub act-field : (g : ℕ) → g ≢ f → putActZ S f i z .act g ≡ S .act g
+  act-field g h = replaced-field (S .act) f i (up z) g h
+
+  pub actZ-same : putActZ S f i z .actZ f i ≡ z
+  actZ-same = replaced-same (S .actZ) f i z
+
+  pub actZ-row : (g j : ℕ) → j ≢ i → putActZ S f i z .actZ g j ≡ S .actZ g j
+  actZ-row g j h = replaced-row (S .actZ) f i z g j h
+
+  pub actZ-field : (g : ℕ) → g ≢ f → putActZ S f i z .actZ g ≡ S .actZ g
+  actZ-field g h = replaced-field (S .actZ) f i z g h
+
+  pub link-same : putLinkZ S f i z .link f i ≡ up z
+  link-same = replaced-same (S .link) f i (up z)
+
+  pub link-row : (g j : ℕ) → j ≢ i → putLinkZ S f i z .link g j ≡ S .link g j
+  link-row g j h = replaced-row (S .link) f i (up z) g j h
+
+  pub link-field : (g : ℕ) → g ≢ f → putLinkZ S f i z .link g ≡ S .link g
+  link-field g h = replaced-field (S .link) f i (up z) g h
+
+  pub linkZ-same : putLinkZ S f i z .linkZ f i ≡ z
+  linkZ-same = replaced-same (S .linkZ) f i z
+
+  pub linkZ-row : (g j : ℕ) → j ≢ i → putLinkZ S f i z .linkZ g j ≡ S .linkZ g j
+  linkZ-row g j h = replaced-row (S .linkZ) f i z g j h
+
+  pub linkZ-field : (g : ℕ) → g ≢ f → putLinkZ S f i z .linkZ g ≡ S .linkZ g
+  linkZ-field g h = replaced-field (S .linkZ) f i z g h
+
+  -- the last of two puts to one cell stands, and puts to two cells go in either order
+  pub put-act-twice : (w : ℤ) → putActZ (putActZ S f i w) f i z ≡ putActZ S f i z
+  put-act-twice w = λ t. record {
+    act = replaced-twice (S .act) f i (up z) (up w) t;
+    link = S .link;
+    actZ = replaced-twice (S .actZ) f i z w t;
+    linkZ = S .linkZ;
+  }
+
+  pub put-link-twice : (w : ℤ) → putLinkZ (putLinkZ S f i w) f i z ≡ putLinkZ S f i z
+  put-link-twice w = λ t. record {
+    act = S .act;
+    link = replaced-twice (S .link) f i (up z) (up w) t;
+    actZ = S .actZ;
+    linkZ = replaced-twice (S .linkZ) f i z w t;
+  }
+
+  module _ (g j : ℕ) (w : ℤ) where
+    pub put-act-swap : (f ≡ g → i ≡ j → ⊥) → putActZ (putActZ S f i z) g j w ≡ putActZ (putActZ S g j w) f i z
+    put-act-swap n = λ t. record {
+      act = replaced-swap (S .act) f i (up z) g j (up w) n t;
+      link = S .link;
+      actZ = replaced-swap (S .actZ) f i z g j w n t;
+      linkZ = S .linkZ;
+    }
+
+    pub put-link-swap : (f ≡ g → i ≡ j → ⊥) → putLinkZ (putLinkZ S f i z) g j w ≡ putLinkZ (putLinkZ S g j w) f i z
+    put-link-swap n = λ t. record {
+      act = S .act;
+      link = replaced-swap (S .link) f i (up z) g j (up w) n t;
+      actZ = S .actZ;
+      linkZ = replaced-swap (S .linkZ) f i z g j w n t;
+    }
+
+-- ---- cleared memory
+cellZ-zeros : (n at : ℕ) → cellZ (replicate n (pos 0)) at ≡ pos 0
+unfolding cellZ
+cellZ-zeros n at =
+    ⊎-elim (λ (h : at < n). getD-replicate n at (pos 0) (pos 0) h)
+    (λ (h : n ≤ at). List·getD-eq-default (replicate n (pos 0)) (pos 0) (rw (length-replicate n (pos 0)) h)) (lt-or-le at n)
+
+table-zeros : (base size n m f i : ℕ) → table base size n (replicate m (pos 0)) f i ≡ pos 0
+table-zeros base size n m f i = cond-same (ltb f size) _ _ (cond-same (ltb i n) _ _ (cellZ-zeros m (base + size * i + f)))
+
+pub state-zeros : (a l n : ℕ) → stateOf a l (replicate n (pos 0)) ≡ zeroState
+unfolding stateOf
+state-zeros a l n = λ t. record {
+  act = λ f i. up (table-zeros 0 64 a n f i t);
+  link = λ f k. up (table-zeros (64 * a) 16 l n f k t);
+  actZ = λ f i. table-zeros 0 64 a n f i t;
+  linkZ = λ f k. table-zeros (64 * a) 16 l n f k t;
+}
+
+-- ---- a field of all rows
+module _ {A : Type 0} (t : ℕ → ℕ → A) (f : ℕ) (v : A) where
+  filled-row : (n j : ℕ) → j < n → filledTo t f n v f j ≡ v
+  filled-row n j h = simp (eq-eqb f f refl, lt-ltb _ _ h)
+
+  filled-past : (n g j : ℕ) → n ≤ j → filledTo t f n v g j ≡ t g j
+  filled-past n g j h = cond-same (eqb g f) _ _ (simp (le-ltb _ _ h))
+
+  filled-field : (n g : ℕ) → g ≢ f → filledTo t f n v g ≡ t g
+  filled-field n g h = λ z j. at j z
+    where
+      at : (j : ℕ) → filledTo t f n v g j ≡ t g j
+      at j = simp (ne-eqb g f h)
+
+  filled-none : filledTo t f 0 v ≡ t
+  filled-none = λ z g j. filled-past 0 g j (omega arith) z
+
+  filled-more : (n : ℕ) → replaced (filledTo t f n v) f n v ≡ filledTo t f (n + 1) v
+  filled-more n = sym (replaced-is (filledTo t f n v) f n v (filledTo t f (n + 1) v) (filled-row (n + 1) n (omega arith)) kept)
+    where
+      row : (j : ℕ) → j ≢ n → filledTo t f (n + 1) v f j ≡ filledTo t f n v f j
+      row j o =
+          ⊎-elim (λ (h : j < n). filled-row (n + 1) j (omega arith) ∙ sym (filled-row n j h))
+          (λ (h : n ≤ j). filled-past (n + 1) f j (omega arith) ∙ sym (filled-past n f j h)) (lt-or-le j n)
+
+      kept : (g j : ℕ) → (g ≡ f → j ≡ n → ⊥) → filledTo t f (n + 1) v g j ≡ filledTo t f n v g j
+      kept g j m =
+          ⊎-elim (λ (e : g ≡ f). rw e (row j (λ d. m e d)))
+          (λ (o : g ≢ f). ap (λ (c : ℕ → A). c j) (filled-field (n + 1) g o ∙ sym (filled-field n g o))) (eq-or-ne g f)
+
+module _ (S : State) (f v : ℕ) where
+  pub fill-none : S ≡ fillAct S f 0 v
+  fill-none = sym (λ t. record { act = filled-none (S .act) f v t; link = S .link; actZ = filled-none (S .actZ) f (pos v) t; linkZ = S .linkZ })
+
+  -- one more row, at the code's n + 1
+  pub fill-more : (n : ℕ) → putAct (fillAct S f n v) f n v ≡ fillAct S f (n + 1) v
+  fill-more n = λ t. record { act = filled-more (S .act) f v n t; link = S .link; actZ = filled-more (S .actZ) f (pos v) n t; linkZ = S .linkZ }
+
+  pub fill-act : (n i : ℕ) → i < n → fillAct S f n v .act f i ≡ v
+  fill-act n i h = filled-row (S .act) f v n i h
+
+  pub fill-actZ : (n i : ℕ) → i < n → fillAct S f n v .actZ f i ≡ pos v
+  fill-actZ n i h = filled-row (S .actZ) f (pos v) n i h
+
+  pub fill-act-field : (n g : ℕ) → g ≢ f → fillAct S f n v .act g ≡ S .act g
+  fill-act-field n g h = filled-field (S .act) f v n g h
+
+  pub fill-actZ-field : (n g : ℕ) → g ≢ f → fillAct S f n v .actZ g ≡ S .actZ g
+  fill-actZ-field n g h = filled-field (S .actZ) f (pos v) n g h
