@@ -1,12 +1,12 @@
 -- The state with chains: what its chains list, and what stays.
 use mathlib.Core.Path.{_≡_, refl, sym, ap, _∙_, subst}
 use mathlib.Core.Logic.{_≢_}
-use Prim.Native.Nat.{ℕ, zero, suc, _+_, _-_, _≤_, _<_}
+use Prim.Native.Nat.{ℕ, zero, suc, _+_, _-_, _<_}
 use native.Mathlib.Omega.{arith}
 use lib.IntN.{pos}
 use Rattle.cells.specs.Chain.{Chained}
 use Rattle.cells.specs.ChainLaws.{chained-none, chained-more}
-use Rattle.memory.specs.State.{State, putAct, putLink, fillAct}
+use Rattle.memory.specs.State.{State, fillAct}
 use Rattle.memory.specs.StateLaws.{act-same, act-row, act-field, actZ-field, link-same, link-row, link-field, linkZ-field, fill-act, fill-act-field, fill-actZ-field}
 use Rattle.memory.specs.Chains.{linked, linkedFrom, withChains, Kept, Chains}
 

@@ -13,7 +13,7 @@ use Rattle.number.specs.Order.{eq-or-ne, lt-or-le}
 use Rattle.number.specs.Zed.{up}
 use Rattle.cells.specs.Cell.{cell, cellZ, storeZ}
 use Rattle.cells.specs.CellLaws.{cell-up, cellZ-same, cellZ-other}
-use Rattle.memory.specs.State.{State, Room, table, stateOf, zeroState, replaced, putAct, putActZ, putLink, putLinkZ, filledTo, fillAct}
+use Rattle.memory.specs.State.{State, Room, table, stateOf, zeroState, replaced, putAct, putActZ, putLinkZ, filledTo, fillAct}
 
 -- ---- choices
 module _ {A : Type 0} where
@@ -106,13 +106,13 @@ module _ (base size n : ℕ) (xs : List ℤ) where
       → table base size n (storeZ xs (base + size * i + f) z) ≡ replaced (table base size n xs) f i z
   table-put f i z p q room apart =
       replaced-is (table base size n xs) f i z (table base size n (storeZ xs (base + size * i + f) z))
-      (cond-then-at ∙ cellZ-same xs (base + size * i + f) z room)
+      (at-cell ∙ cellZ-same xs (base + size * i + f) z room)
       (λ g j m.
       table-same (storeZ xs (base + size * i + f) z) g j
       (λ s u. cellZ-other xs (base + size * i + f) (base + size * j + g) z (λ e. m (apart g j s e .0) (apart g j s e .1))))
     where
-      cond-then-at : table base size n (storeZ xs (base + size * i + f) z) f i ≡ cellZ (storeZ xs (base + size * i + f) z) (base + size * i + f)
-      cond-then-at = simp (lt-ltb _ _ p, lt-ltb _ _ q)
+      at-cell : table base size n (storeZ xs (base + size * i + f) z) f i ≡ cellZ (storeZ xs (base + size * i + f) z) (base + size * i + f)
+      at-cell = simp (lt-ltb _ _ p, lt-ltb _ _ q)
 
 -- ---- a store to a cell is a put
 module _ (a l : ℕ) (xs : List ℤ) (room : Room a l xs) (f i : ℕ) (z : ℤ) where

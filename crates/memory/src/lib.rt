@@ -3,7 +3,7 @@ ghost use mathlib.Core.Path.{_≡_};
 ghost use mathlib.Core.Logic.{_≢_};
 ghost use Prim.Native.Nat.{ℕ, _+_, _*_, _^_, _≤_, _<_};
 ghost use lib.ListN.{length};
-ghost use Rattle.memory.specs.State.{State, Room, stateOf, putAct, putActZ, putLink, putLinkZ, fillAct};
+ghost use Rattle.memory.specs.State.{Room, stateOf, putAct, putActZ, putLink, putLinkZ, fillAct};
 ghost use Rattle.memory.specs.Chains.{linked, linkedFrom, withChains, Chains};
 
 // Field `f` of activity `i`: 0 where it is negative.

@@ -3,7 +3,7 @@ use borrow.Author.Needs.{needs}
 use mathlib.Core.Path.{sym, ap, subst, _∙_}
 use native.Mathlib.Omega.{arith}
 use Rattle.memory.specs.State.{State, stateOf}
-use Rattle.memory.specs.Chains.{linkedFrom, withChains, Chains}
+use Rattle.memory.specs.Chains.{linkedFrom, Chains}
 use Rattle.memory.specs.ChainsLaws.{chains}
 use Rattle.memory.proofs.chain.Statement.{statement}
 use Rattle.memory.proofs.chain.Tie as tie
