@@ -1,0 +1,5 @@
+-- The lent memory as a state of two tables, the chains through it, and their laws.
+pub mod State
+pub mod Chains
+pub mod StateLaws
+pub mod ChainsLaws
