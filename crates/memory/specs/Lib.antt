@@ -3,3 +3,4 @@ pub mod State
 pub mod Chains
 pub mod StateLaws
 pub mod ChainsLaws
+pub mod Fields
