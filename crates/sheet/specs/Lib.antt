@@ -2,4 +2,6 @@
 pub mod Reading
 pub mod Places
 pub mod RunLaws
+pub mod JudgeLaws
+pub mod InOrder
 pub mod Examples
