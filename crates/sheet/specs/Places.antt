@@ -44,3 +44,15 @@ activityAt c i = c .at + activitySize * i
 
 abbrev pub linkAt : Contents → ℕ → ℕ
 linkAt c i = c .at + activitySize * c .activities + linkSize * i
+
+-- ---- where the records of the calendar whose C stands at `at` end, or the refusal of one of its W or E records
+abbrev pub exceptionsEnd : ℕ → Run → Run
+exceptionsEnd at (Count e) = Count (at + exceptionSize * e)
+exceptionsEnd at (Run.Refused r) = Run.Refused r
+
+abbrev pub weeksEnd : List ℕ → ℕ → Run → Run
+weeksEnd s at (Count w) = exceptionsEnd (at + weekSize * w) (exceptionsFrom s (at + weekSize * w))
+weeksEnd s at (Run.Refused r) = Run.Refused r
+
+unfoldable pub calendarEnd : List ℕ → ℕ → Run
+calendarEnd s at = weeksEnd s (at + calendarSize) (weeksFrom s (at + calendarSize))

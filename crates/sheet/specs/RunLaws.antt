@@ -20,7 +20,7 @@ pub record Row (r : ℕ) : Type 0 where
   pub least : misplaced ≤ r
   pub most : r ≤ beyondLimit
 
-two : Row misplaced
+pub two : Row misplaced
 two = record { least = omega arith; most = omega arith }
 
 pub never-counted : {r n : ℕ} → Run.Refused r ≡ Count n → ⊥
