@@ -64,6 +64,12 @@ pub record Valid (week : List (List Period)) (s : List ℕ) (at n : ℕ) : Type 
   pub sorted : (i j : ℕ) → i ≤ j → j < n → exceptionDay s at i ≤ exceptionDay s at j
   pub ordered : (d : ℕ) → Ordered 0 (hoursOn week s at n d)
 
+-- r is the first of n E records whose day is d or later, or n
+pub record FirstFrom (s : List ℕ) (at n d r : ℕ) : Type 0 where
+  pub within : r ≤ n
+  pub below : (j : ℕ) → j < r → exceptionDay s at j < d
+  pub above : (j : ℕ) → r ≤ j → j < n → d ≤ exceptionDay s at j
+
 -- ---- a day's hours in hand: its row of the week, or where its E records stand
 -- the periods of n E records from the byte `at` on
 unfoldable pub recordPeriods : List ℕ → ℕ → ℕ → List Period

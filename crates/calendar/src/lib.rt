@@ -1,4 +1,10 @@
 // A work calendar: the periods worked on each day of the week, and the days that have periods of their own.
+ghost use mathlib.Core.Path.{_≡_};
+ghost use mathlib.Core.List.{List};
+ghost use Prim.Native.Nat.{ℕ, _+_, _-_, _*_, _^_, min, _≤_, _<_};
+ghost use lib.ListN.{length, getD};
+ghost use Rattle.calendar.specs.Hours.{none, held, rank, select, nextIn, works, Ordered};
+ghost use Rattle.calendar.specs.Records.{weekday, weekPeriods, weekPeriodAt, pad, weekOf, roundTheClock, exceptionDay, exceptionPeriod, hoursOn, Valid, periodsOf, Within, FirstFrom};
 
 // A work period within a day: from and to, in minutes after midnight.
 pub struct Period {
@@ -17,4 +23,269 @@ pub struct Hours {
 pub enum Found {
     At(u64),
     Nothing,
+}
+
+// The period of W record `i`.
+fn week_period(sheet: &[u8], at: usize, i: usize) -> Period
+    requires { ⌜ at + 6 * i + 6 ≤ length (now sheet) ⌝ }
+    ensures { λ r. ⌜ r ≡ weekPeriodAt (now (sheet .entry)) at i ⌝ }
+{
+    Period {
+        from: number::read_u16(sheet, at + 6 * i + 2),
+        to: number::read_u16(sheet, at + 6 * i + 4),
+    }
+}
+
+// The row of weekday `k` among the `n` W records from `at` on.
+pub fn read_row(sheet: &[u8], at: usize, n: usize, k: u8) -> [Period; 8]
+    requires { ⌜ (at + 6 * n ≤ length (now sheet)) × (length (weekPeriods (now sheet) at k n) ≤ 8) ⌝ }
+    ensures { λ r. ⌜ r ≡ pad (weekPeriods (now (sheet .entry)) at k n) ⌝ }
+{
+    let mut row = [Period { from: 0, to: 0 }; 8];
+    let mut c: usize = 0;
+    let mut i: usize = 0;
+    while i < n {
+        if sheet[at + 6 * i + 1] == k {
+            row[c] = week_period(sheet, at, i);
+            c += 1;
+        }
+        i += 1;
+    }
+    row
+}
+
+// The week of the `n` W records from `at` on, a row for each weekday.
+pub fn read_week(sheet: &[u8], at: usize, n: usize) -> [[Period; 8]; 7]
+    requires { ⌜ (at + 6 * n ≤ length (now sheet)) × ((k : ℕ) → k < 7 → length (weekPeriods (now sheet) at k n) ≤ 8) ⌝ }
+    ensures { λ r. ⌜ r ≡ weekOf (now (sheet .entry)) at n ⌝ }
+{
+    let mut week = [[Period { from: 0, to: 0 }; 8]; 7];
+    let mut k: u8 = 0;
+    while k < 7 {
+        week[k as usize] = read_row(sheet, at, n, k);
+        k += 1;
+    }
+    week
+}
+
+// The week of the round-the-clock calendar.
+pub fn round_the_clock() -> [[Period; 8]; 7]
+    ensures { λ r. ⌜ r ≡ roundTheClock ⌝ }
+{
+    let mut row = [Period { from: 0, to: 0 }; 8];
+    row[0] = Period { from: 0, to: 1440 };
+    let week = [row; 7];
+    week
+}
+
+// The day of E record `i`.
+pub fn exception_day(sheet: &[u8], at: usize, i: usize) -> u64
+    requires { ⌜ at + 9 * i + 9 ≤ length (now sheet) ⌝ }
+    ensures { λ r. ⌜ (r ≡ exceptionDay (now (sheet .entry)) at i) × (r < 2 ^ 32) ⌝ }
+{
+    number::read_biased(sheet, at + 9 * i + 1)
+}
+
+// The period of E record `i`.
+fn exception_period(sheet: &[u8], at: usize, i: usize) -> Period
+    requires { ⌜ at + 9 * i + 9 ≤ length (now sheet) ⌝ }
+    ensures { λ r. ⌜ r ≡ exceptionPeriod (now (sheet .entry)) at i ⌝ }
+{
+    Period {
+        from: number::read_u16(sheet, at + 9 * i + 5),
+        to: number::read_u16(sheet, at + 9 * i + 7),
+    }
+}
+
+// The first of the `n` E records from `at` on whose day is `d` or later.
+pub fn first_from(sheet: &[u8], at: usize, n: usize, d: u64) -> usize
+    requires { ⌜ (at + 9 * n ≤ length (now sheet)) × ((i j : ℕ) → i ≤ j → j < n → exceptionDay (now sheet) at i ≤ exceptionDay (now sheet) at j) ⌝ }
+    ensures { λ r. ⌜ FirstFrom (now (sheet .entry)) at n d r ⌝ }
+{
+    let mut lo: usize = 0;
+    let mut hi = n;
+    while lo < hi {
+        let mid = lo + (hi - lo) / 2;
+        if exception_day(sheet, at, mid) < d {
+            lo = mid + 1;
+        } else {
+            hi = mid;
+        }
+    }
+    lo
+}
+
+// The first of the `n` E records from `at` on whose day is after `d`, where `from` is the first whose day is `d` or later.
+fn first_after(sheet: &[u8], at: usize, n: usize, d: u64, from: usize) -> usize
+    requires { ⌜ (at + 9 * n ≤ length (now sheet)) × ((i j : ℕ) → i ≤ j → j < n → exceptionDay (now sheet) at i ≤ exceptionDay (now sheet) at j) × FirstFrom (now sheet) at n d from ⌝ }
+    ensures { λ r. ⌜ FirstFrom (now (sheet .entry)) at n (d + 1) r ⌝ }
+{
+    let mut i = from;
+    while i < n {
+        if d < exception_day(sheet, at, i) {
+            return i;
+        }
+        i += 1;
+    }
+    i
+}
+
+// The hours of day `d`.
+pub fn periods_on(week: [[Period; 8]; 7], sheet: &[u8], at: usize, n: usize, d: u64) -> Hours
+    requires { ⌜ (d < 4294967296) × Valid week (now sheet) at n ⌝ }
+    ensures { λ r. ⌜ (periodsOf r (now (sheet .entry)) ≡ hoursOn week (now (sheet .entry)) at n d) × Within r (now (sheet .entry)) ⌝ }
+{
+    let from = first_from(sheet, at, n, d);
+    let to = first_after(sheet, at, n, d, from);
+    let k = ((d + 1) % 7) as usize;
+    let row = week[k];
+    Hours {
+        row: row,
+        at: at + 9 * from,
+        n: to - from,
+    }
+}
+
+// The length of a row, which is known of an array but not of a struct's field.
+fn row_length(row: [Period; 8]) -> usize
+    ensures { λ r. ⌜ r ≡ length row ⌝ }
+{
+    8
+}
+
+// Period `i` of a row.
+fn row_period(row: [Period; 8], i: usize) -> Period
+    requires { ⌜ i < length row ⌝ }
+    ensures { λ r. ⌜ r ≡ getD row i none ⌝ }
+{
+    row[i]
+}
+
+// How many periods the hours have.
+fn period_count(hours: Hours) -> usize
+    ensures { λ r. ⌜ ((s : List ℕ) → r ≡ length (periodsOf hours s)) ⌝ }
+{
+    if hours.n == 0 {
+        let row = hours.row;
+        return row_length(row);
+    }
+    hours.n
+}
+
+// Period `i` of the hours.
+fn period_at(hours: Hours, sheet: &[u8], i: usize) -> Period
+    requires { ⌜ Within hours (now sheet) × (i < length (periodsOf hours (now sheet))) ⌝ }
+    ensures { λ r. ⌜ r ≡ getD (periodsOf hours (now (sheet .entry))) i none ⌝ }
+{
+    if hours.n == 0 {
+        let row = hours.row;
+        return row_period(row, i);
+    }
+    exception_period(sheet, hours.at, i)
+}
+
+// Whether some period of the hours holds a minute.
+fn day_works(hours: Hours, sheet: &[u8]) -> bool
+    requires { ⌜ Within hours (now sheet) ⌝ }
+    ensures { λ r. ⌜ r ≡ works (periodsOf hours (now (sheet .entry))) ⌝ }
+{
+    let n = period_count(hours);
+    let mut i: usize = 0;
+    while i < n {
+        let p = period_at(hours, sheet, i);
+        if p.from < p.to {
+            return true;
+        }
+        i += 1;
+    }
+    false
+}
+
+// Whether some minute of day `d` is worked.
+pub fn is_working(week: [[Period; 8]; 7], sheet: &[u8], at: usize, n: usize, d: u64) -> bool
+    requires { ⌜ (d < 4294967296) × Valid week (now sheet) at n ⌝ }
+    ensures { λ r. ⌜ r ≡ works (hoursOn week (now (sheet .entry)) at n d) ⌝ }
+{
+    let hours = periods_on(week, sheet, at, n, d);
+    day_works(hours, sheet)
+}
+
+// How many minutes of the period stand before minute `m` of the day.
+fn period_rank(p: Period, m: u64) -> u64
+    ensures { λ r. ⌜ r ≡ min m (p .to) - p .from ⌝ }
+{
+    let from = p.from as u64;
+    let to = p.to as u64;
+    if m < to {
+        if from < m { m - from } else { 0 }
+    } else {
+        if from < to { to - from } else { 0 }
+    }
+}
+
+// How long a period is.
+fn period_length(p: Period) -> u64
+    ensures { λ r. ⌜ r ≡ p .to - p .from ⌝ }
+{
+    let from = p.from as u64;
+    let to = p.to as u64;
+    if from < to { to - from } else { 0 }
+}
+
+// How many minutes of the day are worked before its minute `m`.
+pub fn day_rank(hours: Hours, sheet: &[u8], m: u64) -> u64
+    requires { ⌜ Within hours (now sheet) × Ordered 0 (periodsOf hours (now sheet)) ⌝ }
+    ensures { λ r. ⌜ (r ≡ rank (periodsOf hours (now (sheet .entry))) m) × (r ≤ 1440) ⌝ }
+{
+    let n = period_count(hours);
+    let mut sum: u64 = 0;
+    let mut i: usize = 0;
+    while i < n {
+        let p = period_at(hours, sheet, i);
+        sum += period_rank(p, m);
+        i += 1;
+    }
+    sum
+}
+
+// The minute of the day by which `k` of its minutes are worked.
+pub fn day_select(hours: Hours, sheet: &[u8], k: u64) -> u64
+    requires { ⌜ Within hours (now sheet) × Ordered 0 (periodsOf hours (now sheet)) × (0 < k) × (k ≤ rank (periodsOf hours (now sheet)) 1440) ⌝ }
+    ensures { λ r. ⌜ (r ≡ select (periodsOf hours (now (sheet .entry))) k) × (0 < r) × (r ≤ 1440) ⌝ }
+{
+    let n = period_count(hours);
+    let mut left = k;
+    let mut i: usize = 0;
+    while i < n {
+        let p = period_at(hours, sheet, i);
+        let length = period_length(p);
+        if left <= length {
+            return p.from as u64 + left;
+        }
+        left -= length;
+        i += 1;
+    }
+    0
+}
+
+// The first worked minute of the day at or after its minute `m`.
+pub fn day_next(hours: Hours, sheet: &[u8], m: u64) -> Found
+    requires { ⌜ Within hours (now sheet) ⌝ }
+    ensures { λ r. ⌜ r ≡ nextIn (periodsOf hours (now (sheet .entry))) m ⌝ }
+{
+    let n = period_count(hours);
+    let mut i: usize = 0;
+    while i < n {
+        let p = period_at(hours, sheet, i);
+        let from = p.from as u64;
+        let to = p.to as u64;
+        if m < to {
+            if m < from {
+                return Found::At(from);
+            }
+            return Found::At(m);
+        }
+        i += 1;
+    }
+    Found::Nothing
 }
