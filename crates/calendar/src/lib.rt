@@ -3,8 +3,8 @@ ghost use mathlib.Core.Path.{_≡_};
 ghost use mathlib.Core.List.{List};
 ghost use Prim.Native.Nat.{ℕ, _+_, _-_, _*_, _^_, min, _≤_, _<_};
 ghost use lib.ListN.{length, getD};
-ghost use Rattle.calendar.specs.Hours.{none, held, rank, select, nextIn, works, Ordered};
-ghost use Rattle.calendar.specs.Records.{weekday, weekPeriods, weekPeriodAt, pad, weekOf, roundTheClock, exceptionDay, exceptionPeriod, hoursOn, Valid, periodsOf, Within, FirstFrom};
+ghost use Rattle.calendar.specs.Hours.{none, rank, select, nextIn, works, Ordered};
+ghost use Rattle.calendar.specs.Records.{weekPeriods, weekPeriodAt, pad, weekOf, roundTheClock, exceptionDay, exceptionPeriod, hoursOn, Valid, periodsOf, Within, FirstFrom};
 
 // A work period within a day: from and to, in minutes after midnight.
 pub struct Period {
