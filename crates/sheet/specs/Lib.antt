@@ -1,9 +1,11 @@
 -- Reading the sheet.
 pub mod Reading
 pub mod Places
+pub mod Kinds
 pub mod Known
 pub mod RunLaws
 pub mod JudgeLaws
+pub mod StepLaws
 pub mod InOrder
 pub mod ValidLaws
 pub mod CalendarLaws

@@ -1,4 +1,5 @@
 // Reading the sheet: rows 2, 3 and 4 of 01's table, and where every record stands.
+pub mod judges;
 
 // How many records of one kind stand in a row, or the refusal of one of them.
 pub enum Run {
