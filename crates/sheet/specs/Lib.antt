@@ -6,8 +6,11 @@ pub mod Known
 pub mod RunLaws
 pub mod JudgeLaws
 pub mod StepLaws
+pub mod KindLaws
+pub mod RunSteps
 pub mod InOrder
 pub mod ValidLaws
 pub mod CalendarLaws
+pub mod CalendarSteps
 pub mod ReadLaws
 pub mod Examples

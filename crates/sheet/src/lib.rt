@@ -1,5 +1,13 @@
 // Reading the sheet: rows 2, 3 and 4 of 01's table, and where every record stands.
+ghost use mathlib.Core.Path.{_≡_};
+ghost use Prim.Native.Nat.{ℕ, suc, _+_, _*_, _≤_, _<_};
+ghost use lib.ListN.{length};
+ghost use Rattle.project.specs.Fields.{headerSize, calendarSize, activitySize};
+ghost use Rattle.sheet.specs.Reading.{calendarsFrom, afterLinks, afterActivities, linksFrom, activitiesFrom, readSheet};
+ghost use Rattle.sheet.specs.Places.{calendarEnd};
+
 pub mod judges;
+pub mod runs;
 
 // How many records of one kind stand in a row, or the refusal of one of them.
 pub enum Run {
@@ -24,4 +32,52 @@ pub struct Contents {
 pub enum Sheet {
     Read(Contents),
     Refused(u64),
+}
+
+// Where the records of the calendar end whose C stands at a place.
+fn read_calendar(sheet: &[u8], at: usize) -> Run
+    requires { ⌜ at + calendarSize ≤ length (now sheet) ⌝ }
+    ensures { λ r. ⌜ r ≡ calendarEnd (now (sheet .entry)) at ⌝ }
+{
+    let weeks = runs::read_weeks(sheet, at + 3);
+    match weeks {
+        Run::Refused(r) => Run::Refused(r),
+        Run::Count(w) => {
+            let from = at + 3 + 6 * w;
+            let exceptions = runs::read_exceptions(sheet, from);
+            match exceptions {
+                Run::Refused(r) => Run::Refused(r),
+                Run::Count(e) => Run::Count(from + 9 * e),
+            }
+        }
+    }
+}
+
+// The calendars, from the end of the header on.
+fn read_calendars(sheet: &[u8]) -> Calendars
+    requires { ⌜ headerSize ≤ length (now sheet) ⌝ }
+    ensures { λ r. ⌜ r ≡ calendarsFrom (now (sheet .entry)) (suc (length (now (sheet .entry)))) 0 headerSize ⌝ }
+{
+    let mut at: usize = 21;
+    let mut k: usize = 0;
+    while runs::kind_at(sheet, at) == 0x43 {
+        if sheet.len() - at < 3 {
+            return Calendars::Refused(2);
+        }
+        let r = judges::judge_calendar(sheet, at, k);
+        if r != 0 {
+            return Calendars::Refused(r);
+        }
+        let end = read_calendar(sheet, at);
+        match end {
+            Run::Refused(refusal) => {
+                return Calendars::Refused(refusal);
+            }
+            Run::Count(next) => {
+                at = next;
+            }
+        }
+        k += 1;
+    }
+    Calendars::Ended(k, at)
 }
