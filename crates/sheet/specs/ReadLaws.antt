@@ -62,11 +62,11 @@ module _ (s : List ℕ) (k at a l : ℕ) where
 
 -- ---- what is known of a sheet that is read
 module _ (s : List ℕ) where
-  activities-counted : (at a : ℕ) → at ≤ length s → activitiesFrom s at ≡ Count a → Counted s activityKind activitySize (judgeActivity s at) at a
+  pub activities-counted : (at a : ℕ) → at ≤ length s → activitiesFrom s at ≡ Count a → Counted s activityKind activitySize (judgeActivity s at) at a
   unfolding activitiesFrom
   activities-counted at a = run-counted s activityKind activitySize (judgeActivity s at) at a
 
-  links-counted : (at l : ℕ) → at ≤ length s → linksFrom s at ≡ Count l → Counted s linkKind linkSize (judgeLink s at) at l
+  pub links-counted : (at l : ℕ) → at ≤ length s → linksFrom s at ≡ Count l → Counted s linkKind linkSize (judgeLink s at) at l
   unfolding linksFrom
   links-counted at l = run-counted s linkKind linkSize (judgeLink s at) at l
 

@@ -81,3 +81,73 @@ fn read_calendars(sheet: &[u8]) -> Calendars
     }
     Calendars::Ended(k, at)
 }
+
+// The links that follow `a` activities from `at` on, where `k` calendars stand before them, and the sheet's end.
+fn read_end(sheet: &[u8], k: usize, at: usize, a: usize) -> Sheet
+    requires { ⌜ at + activitySize * a ≤ length (now sheet) ⌝ }
+    ensures { λ r. ⌜ r ≡ afterLinks (now (sheet .entry)) k at a (linksFrom (now (sheet .entry)) (at + activitySize * a)) ⌝ }
+{
+    let from = at + 45 * a;
+    let links = runs::read_links(sheet, from);
+    match links {
+        Run::Refused(r) => {
+            return Sheet::Refused(r);
+        }
+        Run::Count(l) => {
+            if k == 0 {
+                return Sheet::Refused(2);
+            }
+            if from + 16 * l != sheet.len() {
+                return Sheet::Refused(2);
+            }
+            return Sheet::Read(
+                Contents {
+                    calendars: k,
+                    at: at,
+                    activities: a,
+                    links: l,
+                },
+            );
+        }
+    }
+}
+
+// The activities from `at` on, where `k` calendars stand before them, and what follows.
+fn read_records(sheet: &[u8], k: usize, at: usize) -> Sheet
+    requires { ⌜ at ≤ length (now sheet) ⌝ }
+    ensures { λ r. ⌜ r ≡ afterActivities (now (sheet .entry)) k at (activitiesFrom (now (sheet .entry)) at) ⌝ }
+{
+    let activities = runs::read_activities(sheet, at);
+    match activities {
+        Run::Refused(r) => {
+            return Sheet::Refused(r);
+        }
+        Run::Count(a) => {
+            return read_end(sheet, k, at, a);
+        }
+    }
+}
+
+// The whole sheet.
+pub fn read(sheet: &[u8]) -> Sheet
+    ensures { λ r. ⌜ r ≡ readSheet (now (sheet .entry)) ⌝ }
+{
+    if sheet.len() < 21 {
+        return Sheet::Refused(2);
+    }
+    if number::byte(sheet, 0) != 0x50 {
+        return Sheet::Refused(2);
+    }
+    if !fields::header_ok(sheet, 0) {
+        return Sheet::Refused(3);
+    }
+    let calendars = read_calendars(sheet);
+    match calendars {
+        Calendars::Refused(r) => {
+            return Sheet::Refused(r);
+        }
+        Calendars::Ended(k, at) => {
+            return read_records(sheet, k, at);
+        }
+    }
+}
