@@ -8,6 +8,7 @@ pub mod JudgeLaws
 pub mod StepLaws
 pub mod KindLaws
 pub mod RunSteps
+pub mod PlaceLaws
 pub mod InOrder
 pub mod ValidLaws
 pub mod CalendarLaws

@@ -7,6 +7,7 @@ use Rattle.project.specs.Fields.{headerSize, calendarSize, weekSize, exceptionS
 use Rattle.sheet.specs.declared.Run.{Run}
 use Rattle.sheet.specs.declared.Run.the-variants.{Count}
 use Rattle.sheet.specs.declared.Contents.{Contents}
+use Rattle.sheet.specs.declared.Place.{Place}
 use Rattle.sheet.specs.Reading.{weeksFrom, exceptionsFrom}
 
 abbrev pub countOf : Run → ℕ
@@ -28,6 +29,9 @@ exceptionCount s at = countOf (exceptionsFrom s (exceptionsAt s at))
 
 unfoldable pub nextCalendar : List ℕ → ℕ → ℕ
 nextCalendar s at = exceptionsAt s at + exceptionSize * exceptionCount s at
+
+unfoldable pub placeAt : List ℕ → ℕ → Place
+placeAt s at = record { weeks = weekCount s at; at = exceptionsAt s at; exceptions = exceptionCount s at; next = nextCalendar s at }
 
 -- where the C of calendar k stands
 unfoldable pub calendarAt : List ℕ → ℕ → ℕ

@@ -1,17 +1,20 @@
 -- A run of records as the loop over it goes: what the loop keeps, and each of its ways.
 use mathlib.Core.Path.{_≡_, refl, sym, ap, _∙_}
+use mathlib.Core.Logic.{_⊎_, inl, inr, ⊎-elim}
 use mathlib.Core.List.{List}
 use Prim.Native.Nat.{ℕ, suc, _+_, _-_, _*_, _≤_, _<_}
 use native.Mathlib.Omega.{arith}
+use native.Mathlib.Nat.{mul-le-mul-left}
 use native.Mathlib.Numerals.{add-one}
 use lib.ListN.{length}
 use Rattle.number.specs.Bytes.{byteAt}
+use Rattle.number.specs.Order.{lt-or-le}
 use Rattle.sheet.specs.declared.Run.{Run}
 use Rattle.sheet.specs.declared.Run.the-variants.{Count}
 use Rattle.sheet.specs.Reading.{misplaced, run}
 use Rattle.sheet.specs.Kinds.{sizeOf, judgeOf, runOf}
 use Rattle.sheet.specs.KindLaws.{next-record}
-use Rattle.sheet.specs.RunLaws.{rest, rest-all, run-end, run-cut, run-refused, run-more}
+use Rattle.sheet.specs.RunLaws.{Counted, run-counted, rest, rest-all, run-end, run-cut, run-refused, run-more}
 
 abbrev restOf : List ℕ → ℕ → ℕ → ℕ → Run
 restOf s kind at i = rest s kind (sizeOf kind) (judgeOf kind s at) at i
@@ -57,4 +60,44 @@ module _ (s : List ℕ) (kind at p i : ℕ) (here : Here s kind at p i) where
           within = l;
           short = omega (arith, here .short);
           whole = sym (run-more s kind (sizeOf kind) (judgeOf kind s at) at i few (sym byte ∙ kinds) (rw next at w) j) ∙ here .whole
+        }
+
+-- ---- counting a run that was read before
+-- the loop stands at record i of n, whose place is p
+pub record Passed (s : List ℕ) (kind at n p i : ℕ) : Type 0 where
+  pub place : p ≡ at + sizeOf kind * i
+  pub short : i ≤ p
+  pub most : i ≤ n
+
+pub passed-start : (s : List ℕ) (kind at n : ℕ) → Passed s kind at n at 0
+passed-start s kind at n = record { place = omega arith; short = omega arith; most = omega arith }
+
+module _ (s : List ℕ) (kind at n : ℕ) (short : at ≤ length s) (counts : runOf s kind at ≡ Count n) where
+  counted : Counted s kind (sizeOf kind) (judgeOf kind s at) at n
+  unfolding runOf
+  counted = run-counted s kind (sizeOf kind) (judgeOf kind s at) at n short counts
+
+  module _ (p i : ℕ) (here : Passed s kind at n p i) where
+    pub passed-end : (byteAt s p ≡ kind → ⊥) → i ≡ n
+    passed-end h = ⊎-elim (λ l. absurd (h (ap (byteAt s) (here .place) ∙ counted .kinds i l))) (λ l. omega (arith, here .most)) (lt-or-le i n)
+
+    pub passed-less : byteAt s p ≡ kind → i < n
+    passed-less h =
+        ⊎-elim (λ l. l)
+        (λ l.
+          let e : i ≡ n = omega (arith, here .most) in
+          absurd (counted .end (ap (λ (j : ℕ). byteAt s (at + sizeOf kind * j)) (sym e) ∙ sym (ap (byteAt s) (here .place)) ∙ h)))
+        (lt-or-le i n)
+
+    pub passed-within : byteAt s p ≡ kind → p + sizeOf kind ≤ length s
+    passed-within h =
+        let m : sizeOf kind * suc i ≤ sizeOf kind * n = mul-le-mul-left (sizeOf kind) (passed-less h) in
+        omega (arith, here .place, next-record at (sizeOf kind) i, counted .within)
+
+    pub passed-more : (size : ℕ) → size ≡ sizeOf kind → 0 < size → byteAt s p ≡ kind → Passed s kind at n (p + size) (i + 1)
+    passed-more size z o h =
+        record {
+          place = rw (z, add-one i) (ap (λ (q : ℕ). q + sizeOf kind) (here .place) ∙ next-record at (sizeOf kind) i);
+          short = omega (arith, here .short);
+          most = omega (arith, passed-less h)
         }

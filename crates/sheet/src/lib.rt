@@ -4,7 +4,8 @@ ghost use Prim.Native.Nat.{ℕ, suc, _+_, _*_, _≤_, _<_};
 ghost use lib.ListN.{length};
 ghost use Rattle.project.specs.Fields.{headerSize, calendarSize, activitySize};
 ghost use Rattle.sheet.specs.Reading.{calendarsFrom, afterLinks, afterActivities, linksFrom, activitiesFrom, readSheet};
-ghost use Rattle.sheet.specs.Places.{calendarEnd};
+ghost use Rattle.sheet.specs.Places.{calendarEnd, placeAt};
+ghost use Rattle.sheet.specs.Known.{CalendarRead};
 
 pub mod judges;
 pub mod runs;
@@ -27,6 +28,14 @@ pub struct Contents {
     pub at: usize,
     pub activities: usize,
     pub links: usize,
+}
+
+// Where a calendar's records stand: how many W it has, where its E begin and how many there are, and where it ends.
+pub struct Place {
+    pub weeks: usize,
+    pub at: usize,
+    pub exceptions: usize,
+    pub next: usize,
 }
 
 pub enum Sheet {
@@ -149,5 +158,21 @@ pub fn read(sheet: &[u8]) -> Sheet
         Calendars::Ended(k, at) => {
             return read_records(sheet, k, at);
         }
+    }
+}
+
+// The calendar whose C stands at a place of a sheet that was read.
+pub fn calendar(sheet: &[u8], at: usize) -> Place
+    requires { ⌜ CalendarRead (now sheet) at ⌝ }
+    ensures { λ r. ⌜ r ≡ placeAt (now (sheet .entry)) at ⌝ }
+{
+    let weeks = runs::count_run(sheet, 0x57, at + 3);
+    let from = at + 3 + 6 * weeks;
+    let exceptions = runs::count_run(sheet, 0x45, from);
+    Place {
+        weeks: weeks,
+        at: from,
+        exceptions: exceptions,
+        next: from + 9 * exceptions,
     }
 }

@@ -7,6 +7,8 @@ ghost use lib.ListN.{length};
 ghost use Rattle.number.specs.Bytes.{byteAt};
 ghost use Rattle.sheet.specs.Reading.{weeksFrom, exceptionsFrom, activitiesFrom, linksFrom};
 ghost use Rattle.sheet.specs.Kinds.{sizeOf, judgeOf, runOf};
+ghost use Rattle.sheet.specs.Places.{countOf};
+ghost use Rattle.sheet.specs.declared.Run.the-variants.{Count};
 
 // The byte of kind at a place, 0 past the sheet's end.
 pub fn kind_at(sheet: &[u8], at: usize) -> u64
@@ -99,4 +101,19 @@ pub fn read_links(sheet: &[u8], at: usize) -> Run
     ensures { λ r. ⌜ r ≡ linksFrom (now (sheet .entry)) at ⌝ }
 {
     read_run(sheet, 0x4C, at)
+}
+
+// How many records a run has that was read before.
+pub fn count_run(sheet: &[u8], kind: u64, at: usize) -> usize
+    requires { ⌜ (at ≤ length (now sheet)) × (runOf (now sheet) kind at ≡ Count (countOf (runOf (now sheet) kind at))) ⌝ }
+    ensures { λ r. ⌜ r ≡ countOf (runOf (now (sheet .entry)) kind at) ⌝ }
+{
+    let size = size(kind);
+    let mut p = at;
+    let mut i: usize = 0;
+    while kind_at(sheet, p) == kind {
+        p += size;
+        i += 1;
+    }
+    i
 }
