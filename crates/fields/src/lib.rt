@@ -9,6 +9,7 @@ ghost use Rattle.project.specs.Fields.{dayOk, dayOrAbsent, headerOk, calendarOk
 
 // The first and the last day that a sheet may name, those of the years 1600 to 2999, counted from the first that an i32 can name.
 pub const FIRST_DAY: u64 = 2147348508;
+
 pub const LAST_DAY: u64 = 2147859847;
 
 pub fn day_ok(d: u64) -> bool

@@ -152,7 +152,7 @@ module _ (s : List ℕ) (at k : ℕ) (kind : byteAt s at ≡ calendarKind) (with
           weekdays = rw week-count (weekdays s (at + calendarSize) w p);
           weeks-few = rw week-count (week-few s (at + calendarSize) w p);
           exceptions-few = rw exception-count (exceptions-few s (at + calendarSize + weekSize * w) e q);
-          valid = rw (week-count, exceptions-at, exception-count) (read-valid s (at + calendarSize) w (at + calendarSize + weekSize * w) e p q)
+          valid = rw (week-count, exceptions-at, exception-count) (read-valid s (at + calendarSize) w (at + calendarSize + weekSize * w) e p q);
         }
 
     next-within : nextCalendar s at ≤ length s
@@ -167,10 +167,10 @@ module _ (s : List ℕ) (at k : ℕ) (kind : byteAt s at ≡ calendarKind) (with
   end-known n x =
       ⊎-elim
       (λ p.
-        let w = p .0 in
-        ⊎-elim
-        (λ q. let e = q .0 in let y = ends-at w e (p .1) (q .1) n x in (read w e (p .1) (q .1), y, rw y at (next-within w e (p .1) (q .1))))
-        (λ q. absurd (never-counted (sym (end-exceptions s at w (q .0) (p .1) (q .1)) ∙ x))) (which (exceptionsFrom s (at + calendarSize + weekSize * w))))
+      let w = p .0 in
+      ⊎-elim
+      (λ q. let e = q .0 in let y = ends-at w e (p .1) (q .1) n x in (read w e (p .1) (q .1), y, rw y at (next-within w e (p .1) (q .1))))
+      (λ q. absurd (never-counted (sym (end-exceptions s at w (q .0) (p .1) (q .1)) ∙ x))) (which (exceptionsFrom s (at + calendarSize + weekSize * w))))
       (λ p. absurd (never-counted (sym (end-weeks s at (p .0) (p .1)) ∙ x))) (which (weeksFrom s (at + calendarSize)))
 
 -- ---- the calendars' end
@@ -197,26 +197,26 @@ module _ (s : List ℕ) where
   ended (suc f) k at n end p w m x =
       ⊎-elim
       (λ h.
-        ⊎-elim (λ l. absurd (never-ended (sym (way-cut s f k at h l) ∙ x)))
-        (λ l.
-          ⊎-elim
-          (λ g.
-            let on : ℕ → Calendars = calendarsFrom s f (suc k) in
-            let y : goOn (calendarEnd s at) on ≡ Ended n end = sym (way-on s f k at h l g) ∙ x in
-            ⊎-elim
-            (λ q.
-              let z = end-known s at k h l g (q .0) (q .1) in
-              rest-more k n end (rw p (z .0))
-              (ended f (suc k) (q .0) n end (next-place k ∙ ap (nextCalendar s) p ∙ z .1) (z .2) (omega (arith, calendar-stands s at k g .0))
-              (sym (ap (λ (v : Run). goOn v on) (q .1)) ∙ y)))
-            (λ q. absurd (never-ended (sym (ap (λ (v : Run). goOn v on) (q .1)) ∙ y))) (which (calendarEnd s at)))
-          (λ g. absurd (never-ended (sym (way-refused s f k at h l g) ∙ x))) (eq-or-ne (judgeCalendar s at k) 0))
-        (lt-or-le (length s) (at + calendarSize)))
+      ⊎-elim (λ l. absurd (never-ended (sym (way-cut s f k at h l) ∙ x)))
+      (λ l.
+      ⊎-elim
+      (λ g.
+      let on : ℕ → Calendars = calendarsFrom s f (suc k) in
+      let y : goOn (calendarEnd s at) on ≡ Ended n end = sym (way-on s f k at h l g) ∙ x in
+      ⊎-elim
+      (λ q.
+      let z = end-known s at k h l g (q .0) (q .1) in
+      rest-more k n end (rw p (z .0))
+      (ended f (suc k) (q .0) n end (next-place k ∙ ap (nextCalendar s) p ∙ z .1) (z .2) (omega (arith, calendar-stands s at k g .0))
+      (sym (ap (λ (v : Run). goOn v on) (q .1)) ∙ y)))
+      (λ q. absurd (never-ended (sym (ap (λ (v : Run). goOn v on) (q .1)) ∙ y))) (which (calendarEnd s at)))
+      (λ g. absurd (never-ended (sym (way-refused s f k at h l g) ∙ x))) (eq-or-ne (judgeCalendar s at k) 0))
+      (lt-or-le (length s) (at + calendarSize)))
       (λ h.
-        let y : Ended k at ≡ Ended n end = sym (way-end s f k at h) ∙ x in
-        let a : k ≡ n = cc in
-        let b : at ≡ end = cc in
-        rest-end k at n end a b p w m)
+      let y : Ended k at ≡ Ended n end = sym (way-end s f k at h) ∙ x in
+      let a : k ≡ n = cc in
+      let b : at ≡ end = cc in
+      rest-end k at n end a b p w m)
       (eq-or-ne (byteAt s at) calendarKind)
 
   first-place : calendarAt s 0 ≡ headerSize
@@ -243,10 +243,10 @@ module _ (s : List ℕ) where
   end-refused at r x =
       ⊎-elim
       (λ p.
-        let w = p .0 in
-        ⊎-elim (λ q. absurd (never-counted (sym x ∙ end-count s at w (q .0) (p .1) (q .1))))
-        (λ q. same-row (q .0) r (exceptions-refused (at + calendarSize + weekSize * w) (q .0) (q .1)) (sym (end-exceptions s at w (q .0) (p .1) (q .1)) ∙ x))
-        (which (exceptionsFrom s (at + calendarSize + weekSize * w))))
+      let w = p .0 in
+      ⊎-elim (λ q. absurd (never-counted (sym x ∙ end-count s at w (q .0) (p .1) (q .1))))
+      (λ q. same-row (q .0) r (exceptions-refused (at + calendarSize + weekSize * w) (q .0) (q .1)) (sym (end-exceptions s at w (q .0) (p .1) (q .1)) ∙ x))
+      (which (exceptionsFrom s (at + calendarSize + weekSize * w))))
       (λ p. same-row (p .0) r (weeks-refused (at + calendarSize) (p .0) (p .1)) (sym (end-weeks s at (p .0) (p .1)) ∙ x))
       (which (weeksFrom s (at + calendarSize)))
 
@@ -259,14 +259,14 @@ module _ (s : List ℕ) where
   calendars-row (suc f) k at r x =
       ⊎-elim
       (λ h.
-        ⊎-elim (λ l. same-refusal misplaced r two (sym (way-cut s f k at h l) ∙ x))
-        (λ l.
-          ⊎-elim
-          (λ g.
-            let on : ℕ → Calendars = calendarsFrom s f (suc k) in
-            let y : goOn (calendarEnd s at) on ≡ Calendars.Refused r = sym (way-on s f k at h l g) ∙ x in
-            ⊎-elim (λ q. calendars-row f (suc k) (q .0) r (sym (ap (λ (v : Run). goOn v on) (q .1)) ∙ y))
-            (λ q. same-refusal (q .0) r (end-refused at (q .0) (q .1)) (sym (ap (λ (v : Run). goOn v on) (q .1)) ∙ y)) (which (calendarEnd s at)))
-          (λ g. same-refusal (judgeCalendar s at k) r (calendar-row s at k g) (sym (way-refused s f k at h l g) ∙ x)) (eq-or-ne (judgeCalendar s at k) 0))
-        (lt-or-le (length s) (at + calendarSize)))
+      ⊎-elim (λ l. same-refusal misplaced r two (sym (way-cut s f k at h l) ∙ x))
+      (λ l.
+      ⊎-elim
+      (λ g.
+      let on : ℕ → Calendars = calendarsFrom s f (suc k) in
+      let y : goOn (calendarEnd s at) on ≡ Calendars.Refused r = sym (way-on s f k at h l g) ∙ x in
+      ⊎-elim (λ q. calendars-row f (suc k) (q .0) r (sym (ap (λ (v : Run). goOn v on) (q .1)) ∙ y))
+      (λ q. same-refusal (q .0) r (end-refused at (q .0) (q .1)) (sym (ap (λ (v : Run). goOn v on) (q .1)) ∙ y)) (which (calendarEnd s at)))
+      (λ g. same-refusal (judgeCalendar s at k) r (calendar-row s at k g) (sym (way-refused s f k at h l g) ∙ x)) (eq-or-ne (judgeCalendar s at k) 0))
+      (lt-or-le (length s) (at + calendarSize)))
       (λ h. absurd (never-ended (sym x ∙ way-end s f k at h))) (eq-or-ne (byteAt s at) calendarKind)

@@ -56,5 +56,5 @@ module _ (s : List ℕ) (k at : ℕ) (here : CalendarHere s k at) where
               within = end-known s at k kind l judge n e .2;
               few = omega (arith, calendar-few);
               header = here .header;
-              whole = sym (calendars-more s k at short n kind l judge e) ∙ here .whole
+              whole = sym (calendars-more s k at short n kind l judge e) ∙ here .whole;
             }

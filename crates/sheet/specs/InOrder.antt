@@ -98,8 +98,8 @@ module _ (key : ℕ → ℕ) (period : ℕ → Period) (n : ℕ) (good : InOrder
   chosen-ordered k (suc m) l =
       ⊎-elim
       (λ q.
-        rw (chosen-take key period k m q)
-        (ordered-more 0 (chosen key period k m) (period m) (chosen-ordered k m (omega arith)) (good .midnight m l) (λ z. (before m q l, good .hours m l z))))
+      rw (chosen-take key period k m q)
+      (ordered-more 0 (chosen key period k m) (period m) (chosen-ordered k m (omega arith)) (good .midnight m l) (λ z. (before m q l, good .hours m l z))))
       (λ q. rw (chosen-skip key period k m q) (chosen-ordered k m (omega arith))) (eq-or-ne (key m) k)
     where
       before : (m : ℕ) → key m ≡ k → m < n → endOf 0 (chosen key period k m) ≤ period m .from

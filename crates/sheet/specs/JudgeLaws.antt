@@ -72,8 +72,8 @@ pub week-stands : (s : List ℕ) (at i : ℕ) → judgeWeek s at i ≡ 0 → Wee
 unfolding judgeWeek
 week-stands s at i e =
     let (a, b) =
-        judged-zero (ltb (weekdayAt s at i) 7 && leb 8 (length (weekPeriods s at (weekdayAt s at i) i)))
-        (ltb (weekdayAt s at i) 7 && periodOk (weekPeriodAt s at i) && weekAfter s at i) e
+    judged-zero (ltb (weekdayAt s at i) 7 && leb 8 (length (weekPeriods s at (weekdayAt s at i) i)))
+    (ltb (weekdayAt s at i) 7 && periodOk (weekPeriodAt s at i) && weekAfter s at i) e
     in
     let (b1, b2) = and-both (ltb (weekdayAt s at i) 7 && periodOk (weekPeriodAt s at i)) (weekAfter s at i) b in
     let (b3, b4) = and-both (ltb (weekdayAt s at i) 7) (periodOk (weekPeriodAt s at i)) b1 in
@@ -94,8 +94,8 @@ unfolding weekAfter
 week-after s at i e =
     ⊎-elim (λ a. inl (ltb-true (weekdayAt s at i) (weekdayAt s at (suc i)) a))
     (λ a.
-      let (b, c) = and-both (eqb (weekdayAt s at i) (weekdayAt s at (suc i))) (leb (weekPeriodAt s at i .to) (weekPeriodAt s at (suc i) .from)) a in
-      inr (eqb-true (weekdayAt s at i) (weekdayAt s at (suc i)) b, leb-true (weekPeriodAt s at i .to) (weekPeriodAt s at (suc i) .from) c))
+    let (b, c) = and-both (eqb (weekdayAt s at i) (weekdayAt s at (suc i))) (leb (weekPeriodAt s at i .to) (weekPeriodAt s at (suc i) .from)) a in
+    inr (eqb-true (weekdayAt s at i) (weekdayAt s at (suc i)) b, leb-true (weekPeriodAt s at i .to) (weekPeriodAt s at (suc i) .from) c))
     (or-either (ltb (weekdayAt s at i) (weekdayAt s at (suc i)))
     (eqb (weekdayAt s at i) (weekdayAt s at (suc i)) && leb (weekPeriodAt s at i .to) (weekPeriodAt s at (suc i) .from)) e)
 
@@ -140,10 +140,10 @@ exception-after s at i e =
     let q = exceptionPeriod s at (suc i) in
     ⊎-elim (λ a. inl (ltb-true d g a))
     (λ a.
-      let (b, c) = and-both (eqb d g && not (noWork p) && not (noWork q)) (leb (p .to) (q .from)) a in
-      let (b1, b2) = and-both (eqb d g && not (noWork p)) (not (noWork q)) b in
-      let (b3, b4) = and-both (eqb d g) (not (noWork p)) b1 in
-      inr (eqb-true d g b3, leb-true (p .to) (q .from) c))
+    let (b, c) = and-both (eqb d g && not (noWork p) && not (noWork q)) (leb (p .to) (q .from)) a in
+    let (b1, b2) = and-both (eqb d g && not (noWork p)) (not (noWork q)) b in
+    let (b3, b4) = and-both (eqb d g) (not (noWork p)) b1 in
+    inr (eqb-true d g b3, leb-true (p .to) (q .from) c))
     (or-either (ltb d g) (eqb d g && not (noWork p) && not (noWork q) && leb (p .to) (q .from)) e)
 
 -- ---- A and L

@@ -10,16 +10,16 @@ use Rattle.sheet.specs.Reading.{judgeWeek, judgeException, judgeActivity
 
 unfoldable pub sizeOf : ℕ → ℕ
 sizeOf kind = elim (eqb kind weekKind) [
-  true ↦ weekSize
+  | true ↦ weekSize
   | false ↦ elim (eqb kind exceptionKind) [ true ↦ exceptionSize | false ↦ elim (eqb kind activityKind) [ true ↦ activitySize | false ↦ linkSize ] ]
 ]
 
 unfoldable pub judgeOf : ℕ → List ℕ → ℕ → ℕ → ℕ
 judgeOf kind s at i = elim (eqb kind weekKind) [
-  true ↦ judgeWeek s at i
+  | true ↦ judgeWeek s at i
   | false ↦
       elim (eqb kind exceptionKind) [
-        true ↦ judgeException s at i
+        | true ↦ judgeException s at i
         | false ↦ elim (eqb kind activityKind) [ true ↦ judgeActivity s at i | false ↦ judgeLink s at i ]
       ]
 ]

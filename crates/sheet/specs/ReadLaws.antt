@@ -89,7 +89,7 @@ module _ (s : List ℕ) where
         activity = λ i h. record { kind = p .kinds i h; within = omega (arith, p .within); fields = activity-stands s at i (p .stands i h) .1 };
         links-few = limited l 16384 (λ i h. link-stands s (at + activitySize * a) i (q .stands i h) .0);
         link = λ i h. record { kind = q .kinds i h; within = omega (arith, q .within); fields = link-stands s (at + activitySize * a) i (q .stands i h) .1 };
-        whole = sym whole
+        whole = sym whole;
       }
 
   -- the three answers in turn
@@ -99,12 +99,12 @@ module _ (s : List ℕ) where
     from-links k at a (Count l) rest p q e =
         ⊎-elim
         (λ h.
-          ⊎-elim (λ n. absurd (never-read (sym (links-none s k at a l n) ∙ e)))
-          (λ n.
-            let y : Read (record { calendars = k; at = at; activities = a; links = l }) ≡ Read c = sym (links-all s k at a l h n) ∙ e in
-            let z : record { calendars = k; at = at; activities = a; links = l } ≡ c = cc in
-            rw z at (known k at a l header rest p q h n))
-          (eq-or-ne k 0))
+        ⊎-elim (λ n. absurd (never-read (sym (links-none s k at a l n) ∙ e)))
+        (λ n.
+        let y : Read (record { calendars = k; at = at; activities = a; links = l }) ≡ Read c = sym (links-all s k at a l h n) ∙ e in
+        let z : record { calendars = k; at = at; activities = a; links = l } ≡ c = cc in
+        rw z at (known k at a l header rest p q h n))
+        (eq-or-ne k 0))
         (λ h. absurd (never-read (sym (links-left s k at a l h) ∙ e))) (eq-or-ne (at + activitySize * a + linkSize * l) (length s))
 
     from-activities : (k at : ℕ) (x : Run) → Rest s 0 k at → activitiesFrom s at ≡ x → afterActivities s k at x ≡ Read c → SheetRead s c
@@ -119,13 +119,13 @@ module _ (s : List ℕ) where
   read-known c e =
       ⊎-elim
       (λ h.
-        ⊎-elim (λ l. absurd (never-read (sym (read-cut s l) ∙ e)))
-        (λ l.
-          ⊎-elim
-          (λ o.
-            from-calendars c (record { kind = h; within = l; fields = o }) (calendarsFrom s (suc (length s)) 0 headerSize) refl (sym (read-on s h l o) ∙ e))
-          (λ o. absurd (never-read (sym (read-range s h l o) ∙ e))) (cases (headerOk s 0)))
-        (lt-or-le (length s) headerSize))
+      ⊎-elim (λ l. absurd (never-read (sym (read-cut s l) ∙ e)))
+      (λ l.
+      ⊎-elim
+      (λ o.
+      from-calendars c (record { kind = h; within = l; fields = o }) (calendarsFrom s (suc (length s)) 0 headerSize) refl (sym (read-on s h l o) ∙ e))
+      (λ o. absurd (never-read (sym (read-range s h l o) ∙ e))) (cases (headerOk s 0)))
+      (lt-or-le (length s) headerSize))
       (λ h. absurd (never-read (sym (read-other s h) ∙ e))) (eq-or-ne (byteAt s 0) headerKind)
 
   -- ---- refusals
@@ -145,7 +145,7 @@ module _ (s : List ℕ) where
     links-row k at a (Count l) p e =
         ⊎-elim
         (λ h.
-          ⊎-elim (λ n. same-row misplaced r two (sym (links-none s k at a l n) ∙ e)) (λ n. absurd (never-read (sym e ∙ links-all s k at a l h n))) (eq-or-ne k 0))
+        ⊎-elim (λ n. same-row misplaced r two (sym (links-none s k at a l n) ∙ e)) (λ n. absurd (never-read (sym e ∙ links-all s k at a l h n))) (eq-or-ne k 0))
         (λ h. same-row misplaced r two (sym (links-left s k at a l h) ∙ e)) (eq-or-ne (at + activitySize * a + linkSize * l) (length s))
 
     activities-row : (k at : ℕ) (x : Run) → activitiesFrom s at ≡ x → afterActivities s k at x ≡ Sheet.Refused r → Row r
@@ -162,9 +162,9 @@ module _ (s : List ℕ) where
   read-row r e =
       ⊎-elim
       (λ h.
-        ⊎-elim (λ l. same-row misplaced r two (sym (read-cut s l) ∙ e))
-        (λ l.
-          ⊎-elim (λ o. after-row r (calendarsFrom s (suc (length s)) 0 headerSize) refl (sym (read-on s h l o) ∙ e))
-          (λ o. same-row outOfRange r three (sym (read-range s h l o) ∙ e)) (cases (headerOk s 0)))
-        (lt-or-le (length s) headerSize))
+      ⊎-elim (λ l. same-row misplaced r two (sym (read-cut s l) ∙ e))
+      (λ l.
+      ⊎-elim (λ o. after-row r (calendarsFrom s (suc (length s)) 0 headerSize) refl (sym (read-on s h l o) ∙ e))
+      (λ o. same-row outOfRange r three (sym (read-range s h l o) ∙ e)) (cases (headerOk s 0)))
+      (lt-or-le (length s) headerSize))
       (λ h. same-row misplaced r two (sym (read-other s h) ∙ e)) (eq-or-ne (byteAt s 0) headerKind)

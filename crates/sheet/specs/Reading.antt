@@ -83,10 +83,10 @@ module _ (s : List ℕ) (kind size : ℕ) (judge : ℕ → ℕ) (at : ℕ) where
   unfoldable pub run : ℕ → ℕ → Run
   run zero i = Run.Refused misplaced
   run (suc f) i = elim (eqb (byteAt s (at + size * i)) kind) [
-    false ↦ Count i
+    | false ↦ Count i
     | true ↦
         elim (leb (at + size * suc i) (length s)) [
-          false ↦ Run.Refused misplaced
+          | false ↦ Run.Refused misplaced
           | true ↦ elim (eqb (judge i) 0) [ false ↦ Run.Refused (judge i) | true ↦ run f (suc i) ]
         ]
   ]
@@ -118,13 +118,13 @@ afterWeeks s at (Run.Refused r) go = Calendars.Refused r
 unfoldable pub calendarsFrom : List ℕ → ℕ → ℕ → ℕ → Calendars
 calendarsFrom s zero k at = Calendars.Refused misplaced
 calendarsFrom s (suc f) k at = elim (eqb (byteAt s at) calendarKind) [
-  false ↦ Ended k at
+  | false ↦ Ended k at
   | true ↦
       elim (leb (at + calendarSize) (length s)) [
-        false ↦ Calendars.Refused misplaced
+        | false ↦ Calendars.Refused misplaced
         | true ↦
             elim (eqb (judgeCalendar s at k) 0) [
-              false ↦ Calendars.Refused (judgeCalendar s at k)
+              | false ↦ Calendars.Refused (judgeCalendar s at k)
               | true ↦ afterWeeks s (at + calendarSize) (weeksFrom s (at + calendarSize)) (calendarsFrom s f (suc k))
             ]
       ]
@@ -135,7 +135,7 @@ abbrev pub afterLinks : List ℕ → ℕ → ℕ → ℕ → Run → Sheet
 afterLinks s k at a (Run.Refused r) = Sheet.Refused r
 afterLinks s k at a (Count l) =
     elim (eqb (at + activitySize * a + linkSize * l) (length s) && not (eqb k 0)) [
-      false ↦ Sheet.Refused misplaced
+      | false ↦ Sheet.Refused misplaced
       | true ↦ Read (record { calendars = k; at = at; activities = a; links = l })
     ]
 
@@ -149,6 +149,6 @@ afterCalendars s (Ended k at) = afterActivities s k at (activitiesFrom s at)
 
 unfoldable pub readSheet : List ℕ → Sheet
 readSheet s = elim (eqb (byteAt s 0) headerKind && leb headerSize (length s)) [
-  false ↦ Sheet.Refused misplaced
+  | false ↦ Sheet.Refused misplaced
   | true ↦ elim (headerOk s 0) [ false ↦ Sheet.Refused outOfRange | true ↦ afterCalendars s (calendarsFrom s (suc (length s)) 0 headerSize) ]
 ]

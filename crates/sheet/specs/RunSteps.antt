@@ -59,7 +59,7 @@ module _ (s : List ℕ) (kind at p i : ℕ) (here : Here s kind at p i) where
           place = rw (z, add-one i) next;
           within = l;
           short = omega (arith, here .short);
-          whole = sym (run-more s kind (sizeOf kind) (judgeOf kind s at) at i few (sym byte ∙ kinds) (rw next at w) j) ∙ here .whole
+          whole = sym (run-more s kind (sizeOf kind) (judgeOf kind s at) at i few (sym byte ∙ kinds) (rw next at w) j) ∙ here .whole;
         }
 
 -- ---- counting a run that was read before
@@ -85,8 +85,8 @@ module _ (s : List ℕ) (kind at n : ℕ) (short : at ≤ length s) (counts : ru
     passed-less h =
         ⊎-elim (λ l. l)
         (λ l.
-          let e : i ≡ n = omega (arith, here .most) in
-          absurd (counted .end (ap (λ (j : ℕ). byteAt s (at + sizeOf kind * j)) (sym e) ∙ sym (ap (byteAt s) (here .place)) ∙ h)))
+        let e : i ≡ n = omega (arith, here .most) in
+        absurd (counted .end (ap (λ (j : ℕ). byteAt s (at + sizeOf kind * j)) (sym e) ∙ sym (ap (byteAt s) (here .place)) ∙ h)))
         (lt-or-le i n)
 
     pub passed-within : byteAt s p ≡ kind → p + sizeOf kind ≤ length s
@@ -99,5 +99,5 @@ module _ (s : List ℕ) (kind at n : ℕ) (short : at ≤ length s) (counts : ru
         record {
           place = rw (z, add-one i) (ap (λ (q : ℕ). q + sizeOf kind) (here .place) ∙ next-record at (sizeOf kind) i);
           short = omega (arith, here .short);
-          most = omega (arith, passed-less h)
+          most = omega (arith, passed-less h);
         }

@@ -53,7 +53,7 @@ module _ (s : List ℕ) (at w : ℕ) (counted : WeeksCounted s at w) where
         midnight = λ i l. stands i l .midnight;
         forward = λ i l. omega (arith, stands i l .hours);
         hours = λ i l z. stands i l .hours;
-        after = λ i l. week-after s at i (stands (suc i) l .after)
+        after = λ i l. week-after s at i (stands (suc i) l .after);
       }
 
   pub weekdays : (i : ℕ) → i < w → weekdayAt s at i < 7
@@ -69,10 +69,10 @@ module _ (s : List ℕ) (at w : ℕ) (counted : WeeksCounted s at w) where
   few k (suc n) l =
       ⊎-elim
       (λ q.
-        let p = chosen (weekdayAt s at) (weekPeriodAt s at) k n in
-        let e : length (weekPeriods s at (weekdayAt s at n) n) ≡ length p = ap length (ap (λ (j : ℕ). weekPeriods s at j n) q ∙ week-chosen s at k n) in
-        let f : length (p ++ (weekPeriodAt s at n ∷ [])) ≤ 8 = omega (arith, length-append p (weekPeriodAt s at n ∷ []), stands n l .few) in
-        rw (chosen-take (weekdayAt s at) (weekPeriodAt s at) k n q) f)
+      let p = chosen (weekdayAt s at) (weekPeriodAt s at) k n in
+      let e : length (weekPeriods s at (weekdayAt s at n) n) ≡ length p = ap length (ap (λ (j : ℕ). weekPeriods s at j n) q ∙ week-chosen s at k n) in
+      let f : length (p ++ (weekPeriodAt s at n ∷ [])) ≤ 8 = omega (arith, length-append p (weekPeriodAt s at n ∷ []), stands n l .few) in
+      rw (chosen-take (weekdayAt s at) (weekPeriodAt s at) k n q) f)
       (λ q. rw (chosen-skip (weekdayAt s at) (weekPeriodAt s at) k n q) (few k n (omega arith))) (eq-or-ne (weekdayAt s at n) k)
 
   pub week-few : (k : ℕ) → length (weekPeriods s at k w) ≤ 8
@@ -98,7 +98,7 @@ module _ (s : List ℕ) (at e : ℕ) (counted : ExceptionsCounted s at e) where
         midnight = λ i l. exception-at i l .midnight;
         forward = λ i l. exception-at i l .forward;
         hours = λ i l. exception-at i l .hours;
-        after = λ i l. exception-after s at i (exception-at (suc i) l .after)
+        after = λ i l. exception-after s at i (exception-at (suc i) l .after);
       }
 
   -- "At most 256 a calendar"
@@ -118,7 +118,7 @@ read-valid s weeks w at e p q =
       long = q .within;
       sorted = days-sorted s at e q;
       ordered = λ d. ⊎-elim (λ z. rw (hours-week (weekOf s weeks w) s at e d (none-on d z)) (row-ordered s weeks w p (weekday d) (omega arith)))
-        (λ z. rw (hours-own (weekOf s weeks w) s at e d z) (exceptions-ordered s at e q d)) (zero-or-pos (length (exceptionsOn s at d e)))
+          (λ z. rw (hours-own (weekOf s weeks w) s at e d z) (exceptions-ordered s at e q d)) (zero-or-pos (length (exceptionsOn s at d e)));
     }
   where
     empty : (ps : List Period) → length ps ≡ 0 → ps ≡ []

@@ -78,7 +78,10 @@ pub fn judge_week(sheet: &[u8], at: usize, i: usize) -> u64
     let day = number::byte(sheet, at + 6 * i + 1);
     let p = calendar::week_period(sheet, at, i);
     let count = weekday_count(sheet, at, day, i);
-    verdict((day < 7) & (8 <= count), (day < 7) & period_ok(p) & week_after(sheet, at, i))
+    verdict(
+        (day < 7) & (8 <= count),
+        (day < 7) & period_ok(p) & week_after(sheet, at, i),
+    )
 }
 
 // Whether E record `i` comes after the one before it.

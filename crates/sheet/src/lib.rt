@@ -109,14 +109,12 @@ fn read_end(sheet: &[u8], k: usize, at: usize, a: usize) -> Sheet
             if from + 16 * l != sheet.len() {
                 return Sheet::Refused(2);
             }
-            return Sheet::Read(
-                Contents {
-                    calendars: k,
-                    at: at,
-                    activities: a,
-                    links: l,
-                },
-            );
+            return Sheet::Read(Contents {
+                calendars: k,
+                at: at,
+                activities: a,
+                links: l,
+            });
         }
     }
 }

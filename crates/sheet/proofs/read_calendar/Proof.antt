@@ -14,12 +14,12 @@ use Rattle.sheet.proofs.read_calendar.Tie as tie
 -- the W records counted, and so within the sheet
 weeks-are : (c : tie.After-known-told2)
     → let x = c .before .before .before .before .before .args in
-      weeksFrom (x .sheet .now) (x .at + 3) ≡ Count (c .before .weeks2 .given .0 .0)
+    weeksFrom (x .sheet .now) (x .at + 3) ≡ Count (c .before .weeks2 .given .0 .0)
 weeks-are c = sym (c .before .before .before .read-weeks .ensures) ∙ c .before .weeks2 .given .1
 
 weeks-end : (c : tie.After-known-told2)
     → let x = c .before .before .before .before .before .args in
-      x .at + 3 + 6 * c .before .weeks2 .given .0 .0 ≤ length (x .sheet .now)
+    x .at + 3 + 6 * c .before .weeks2 .given .0 .0 ≤ length (x .sheet .now)
 weeks-end c =
     let x = c .before .before .before .before .before .args in
     weeks-counted (x .sheet .now) (x .at + 3) (c .before .weeks2 .given .0 .0) (omega arith) (weeks-are c) .within
@@ -27,12 +27,12 @@ weeks-end c =
 -- the E records counted
 exceptions-are : (c : tie.After-known-told4)
     → let x = c .before .before .before .before .before .before .before .before .before .args in
-      exceptionsFrom (x .sheet .now) (x .at + 3 + 6 * c .before .before .before .before .before .weeks2 .given .0 .0) ≡ Count (c .before .exceptions2 .given .0 .0)
+    exceptionsFrom (x .sheet .now) (x .at + 3 + 6 * c .before .before .before .before .before .weeks2 .given .0 .0) ≡ Count (c .before .exceptions2 .given .0 .0)
 exceptions-are c = sym (c .before .before .before .read-exceptions .ensures) ∙ c .before .exceptions2 .given .1
 
 exceptions-end : (c : tie.After-known-told4)
     → let x = c .before .before .before .before .before .before .before .before .before .args in
-      x .at + 3 + 6 * c .before .before .before .before .before .weeks2 .given .0 .0 + 9 * c .before .exceptions2 .given .0 .0 ≤ length (x .sheet .now)
+    x .at + 3 + 6 * c .before .before .before .before .before .weeks2 .given .0 .0 + 9 * c .before .exceptions2 .given .0 .0 ≤ length (x .sheet .now)
 exceptions-end c =
     let x = c .before .before .before .before .before .before .before .before .before .args in
     let w = c .before .before .before .before .before .weeks2 .given .0 .0 in

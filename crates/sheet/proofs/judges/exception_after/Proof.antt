@@ -34,10 +34,14 @@ no-work-requires-2 c κs = search needs
 returns-2 : tie.Need-returns-2
 returns-2 c =
     let x = c .before .before .before .before .before .before .before .before .before .before .args in
-    rw
-    (c .before .before .no-work2 .ensures, c .before .before .before .no-work .ensures, c .before .before .before .before .exception-period2 .ensures,
-    c .before .before .before .before .before .exception-period .ensures, c .before .before .before .before .before .before .exception-day2 .ensures .0,
-    c .before .before .before .before .before .before .before .exception-day .ensures .0)
+    rw (
+      c .before .before .no-work2 .ensures,
+      c .before .before .before .no-work .ensures,
+      c .before .before .before .before .exception-period2 .ensures,
+      c .before .before .before .before .before .exception-period .ensures,
+      c .before .before .before .before .before .before .exception-day2 .ensures .0,
+      c .before .before .before .before .before .before .before .exception-day .ensures .0,
+    )
     (sym (exception-next (x .sheet .now) (x .at) (x .i) (x .i - 1) (omega arith)))
 
 pub exception-after-spec : {M : Type 1} → statement M
