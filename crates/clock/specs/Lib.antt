@@ -1,2 +1,5 @@
 -- The clock.
 pub mod Instances
+pub mod On
+pub mod Days
+pub mod Ways

@@ -1,1 +1,294 @@
-// Time on one calendar.
+// Time on one calendar, in minutes from the first day that an i32 can name. An activity starts at a worked minute and finishes at a closing one.
+// A calendar is its week, and its `n` E records from the byte `at` of the sheet on.
+use calendar::Found;
+use calendar::Period;
+use worktime::Walk;
+use worktime::Work;
+use worktime::Working;
+ghost use mathlib.Core.Path.{_≡_};
+ghost use Prim.Native.Nat.{ℕ, _+_, _*_, _^_, _≤_, _<_};
+ghost use Rattle.number.specs.Zed.{dn};
+ghost use Rattle.calendar.specs.Records.{Valid};
+ghost use Rattle.clock.specs.On.{workedOn};
+ghost use Rattle.worktime.specs.Worked.{count};
+ghost use Rattle.worktime.specs.Walks.{endMinute, nextStart, previousFinish, nextFinish, workingAt, previousStart, startBy, advance, retreat, shift, between, dayWork, workedBefore};
+
+// Row 8 of 01's table: too long.
+pub const TOO_LONG: u64 = 8;
+
+const FIRST_DAY: u64 = 2143112061;
+
+const LAST_DAY: u64 = 2150416544;
+
+// The least worked minute at or after `t`.
+pub fn next_start(week: [[Period; 8]; 7], sheet: &[u8], at: usize, n: usize, t: u64) -> Walk
+    requires { ⌜ Valid week (now sheet) at n ⌝ }
+    ensures { λ r. ⌜ r ≡ nextStart (workedOn week (now (sheet .entry)) at n) t ⌝ }
+{
+    let mut d = t / 1440;
+    let mut m = t % 1440;
+    if d < FIRST_DAY {
+        return Walk::Refused(TOO_LONG);
+    }
+    while d <= LAST_DAY {
+        let hours = calendar::periods_on(week, sheet, at, n, d);
+        match calendar::day_next(hours, sheet, m) {
+            Found::At(x) => {
+                return Walk::At(d * 1440 + x);
+            }
+            Found::Nothing => {}
+        }
+        d += 1;
+        m = 0;
+    }
+    Walk::Refused(TOO_LONG)
+}
+
+// The greatest closing minute at or before `t`.
+pub fn previous_finish(week: [[Period; 8]; 7], sheet: &[u8], at: usize, n: usize, t: u64) -> Walk
+    requires { ⌜ Valid week (now sheet) at n ⌝ }
+    ensures { λ r. ⌜ r ≡ previousFinish (workedOn week (now (sheet .entry)) at n) t ⌝ }
+{
+    let mut d = t / 1440;
+    let mut m = t % 1440;
+    if LAST_DAY < d {
+        return Walk::Refused(TOO_LONG);
+    }
+    while FIRST_DAY <= d {
+        let hours = calendar::periods_on(week, sheet, at, n, d);
+        let done = calendar::day_rank(hours, sheet, m);
+        if 0 < done {
+            return Walk::At(d * 1440 + calendar::day_select(hours, sheet, done));
+        }
+        d -= 1;
+        m = 1440;
+    }
+    Walk::Refused(TOO_LONG)
+}
+
+// Whether `t` is a worked minute.
+pub fn working_at(week: [[Period; 8]; 7], sheet: &[u8], at: usize, n: usize, t: u64) -> Working
+    requires { ⌜ Valid week (now sheet) at n ⌝ }
+    ensures { λ r. ⌜ r ≡ workingAt (workedOn week (now (sheet .entry)) at n) t ⌝ }
+{
+    let d = t / 1440;
+    let m = t % 1440;
+    if d < FIRST_DAY {
+        return Working::Refused(TOO_LONG);
+    }
+    if LAST_DAY < d {
+        return Working::Refused(TOO_LONG);
+    }
+    let hours = calendar::periods_on(week, sheet, at, n, d);
+    match calendar::day_next(hours, sheet, m) {
+        Found::At(x) => {
+            if x == m {
+                return Working::Is(true);
+            }
+            Working::Is(false)
+        }
+        Found::Nothing => Working::Is(false),
+    }
+}
+
+// `t` if it is closing, else the next start; `t`'s day is read, and the day of the minute before.
+pub fn next_finish(week: [[Period; 8]; 7], sheet: &[u8], at: usize, n: usize, t: u64) -> Walk
+    requires { ⌜ Valid week (now sheet) at n ⌝ }
+    ensures { λ r. ⌜ r ≡ nextFinish (workedOn week (now (sheet .entry)) at n) t ⌝ }
+{
+    let d = t / 1440;
+    if d < FIRST_DAY {
+        return Walk::Refused(TOO_LONG);
+    }
+    if LAST_DAY < d {
+        return Walk::Refused(TOO_LONG);
+    }
+    match working_at(week, sheet, at, n, t - 1) {
+        Working::Is(closing) => {
+            if closing {
+                return Walk::At(t);
+            }
+            next_start(week, sheet, at, n, t)
+        }
+        Working::Refused(k) => Walk::Refused(k),
+    }
+}
+
+// `t` if it is worked, else the next start: the same moment, since no work lies between.
+pub fn previous_start(week: [[Period; 8]; 7], sheet: &[u8], at: usize, n: usize, t: u64) -> Walk
+    requires { ⌜ Valid week (now sheet) at n ⌝ }
+    ensures { λ r. ⌜ r ≡ previousStart (workedOn week (now (sheet .entry)) at n) t ⌝ }
+{
+    match working_at(week, sheet, at, n, t) {
+        Working::Is(worked) => {
+            if worked {
+                return Walk::At(t);
+            }
+            next_start(week, sheet, at, n, t)
+        }
+        Working::Refused(k) => Walk::Refused(k),
+    }
+}
+
+// `t` if it is worked, else the minute before the previous finish: for a date that a start must not pass.
+pub fn start_by(week: [[Period; 8]; 7], sheet: &[u8], at: usize, n: usize, t: u64) -> Walk
+    requires { ⌜ Valid week (now sheet) at n ⌝ }
+    ensures { λ r. ⌜ r ≡ startBy (workedOn week (now (sheet .entry)) at n) t ⌝ }
+{
+    match working_at(week, sheet, at, n, t) {
+        Working::Is(worked) => {
+            if worked {
+                return Walk::At(t);
+            }
+            match previous_finish(week, sheet, at, n, t) {
+                Walk::At(f) => Walk::At(f - 1),
+                Walk::Refused(k) => Walk::Refused(k),
+            }
+        }
+        Working::Refused(k) => Walk::Refused(k),
+    }
+}
+
+// The closing minute with `work` worked minutes from `t`, and `t` itself for none.
+pub fn advance(week: [[Period; 8]; 7], sheet: &[u8], at: usize, n: usize, t: u64, work: u64) -> Walk
+    requires { ⌜ Valid week (now sheet) at n ⌝ }
+    ensures { λ r. ⌜ r ≡ advance (workedOn week (now (sheet .entry)) at n) t work ⌝ }
+{
+    if work == 0 {
+        return Walk::At(t);
+    }
+    let mut d = t / 1440;
+    let mut m = t % 1440;
+    let mut left = work;
+    if d < FIRST_DAY {
+        return Walk::Refused(TOO_LONG);
+    }
+    while d <= LAST_DAY {
+        let hours = calendar::periods_on(week, sheet, at, n, d);
+        let done = calendar::day_rank(hours, sheet, m);
+        let today = calendar::day_rank(hours, sheet, 1440) - done;
+        if left <= today {
+            return Walk::At(d * 1440 + calendar::day_select(hours, sheet, done + left));
+        }
+        left -= today;
+        d += 1;
+        m = 0;
+    }
+    Walk::Refused(TOO_LONG)
+}
+
+// The worked minute with `work` worked minutes from it up to `t`, and `t` itself for none.
+pub fn retreat(week: [[Period; 8]; 7], sheet: &[u8], at: usize, n: usize, t: u64, work: u64) -> Walk
+    requires { ⌜ Valid week (now sheet) at n ⌝ }
+    ensures { λ r. ⌜ r ≡ retreat (workedOn week (now (sheet .entry)) at n) t work ⌝ }
+{
+    if work == 0 {
+        return Walk::At(t);
+    }
+    let mut d = t / 1440;
+    let mut m = t % 1440;
+    let mut left = work;
+    if LAST_DAY < d {
+        return Walk::Refused(TOO_LONG);
+    }
+    while FIRST_DAY <= d {
+        let hours = calendar::periods_on(week, sheet, at, n, d);
+        let done = calendar::day_rank(hours, sheet, m);
+        if left <= done {
+            return Walk::At(d * 1440 + calendar::day_select(hours, sheet, done - left + 1) - 1);
+        }
+        left -= done;
+        d -= 1;
+        m = 1440;
+    }
+    Walk::Refused(TOO_LONG)
+}
+
+// `t` moved by `lag` worked minutes: forward for a lag, back for a lead.
+pub fn shift(week: [[Period; 8]; 7], sheet: &[u8], at: usize, n: usize, t: u64, lag: i64) -> Walk
+    requires { ⌜ Valid week (now sheet) at n × (dn lag < 2 ^ 63) ⌝ }
+    ensures { λ r. ⌜ r ≡ shift (workedOn week (now (sheet .entry)) at n) t lag ⌝ }
+{
+    let back = number::sign::downward(lag);
+    if back == 0 {
+        return advance(week, sheet, at, n, t, number::sign::upward(lag));
+    }
+    retreat(week, sheet, at, n, t, back)
+}
+
+// The minutes worked on day `d`.
+pub fn day_work(week: [[Period; 8]; 7], sheet: &[u8], at: usize, n: usize, d: u64) -> Work
+    requires { ⌜ Valid week (now sheet) at n ⌝ }
+    ensures { λ r. ⌜ r ≡ dayWork (workedOn week (now (sheet .entry)) at n) d ⌝ }
+{
+    if d < FIRST_DAY {
+        return Work::Refused(TOO_LONG);
+    }
+    if LAST_DAY < d {
+        return Work::Refused(TOO_LONG);
+    }
+    let hours = calendar::periods_on(week, sheet, at, n, d);
+    Work::Minutes(calendar::day_rank(hours, sheet, 1440) as i64)
+}
+
+// The minutes worked on `t`'s day before `t`.
+pub fn worked_before(week: [[Period; 8]; 7], sheet: &[u8], at: usize, n: usize, t: u64) -> Work
+    requires { ⌜ Valid week (now sheet) at n ⌝ }
+    ensures { λ r. ⌜ r ≡ workedBefore (workedOn week (now (sheet .entry)) at n) t ⌝ }
+{
+    let d = t / 1440;
+    let m = t % 1440;
+    if d < FIRST_DAY {
+        return Work::Refused(TOO_LONG);
+    }
+    if LAST_DAY < d {
+        return Work::Refused(TOO_LONG);
+    }
+    let hours = calendar::periods_on(week, sheet, at, n, d);
+    Work::Minutes(calendar::day_rank(hours, sheet, m) as i64)
+}
+
+// The minutes worked on the days from `d` up to but not `e`.
+fn days_work(week: [[Period; 8]; 7], sheet: &[u8], at: usize, n: usize, d: u64, e: u64) -> u64
+    requires { ⌜ Valid week (now sheet) at n × (d ≤ e) × (e < 4294967296) ⌝ }
+    ensures { λ r. ⌜ (count (workedOn week (now (sheet .entry)) at n) (d * 1440) + r ≡ count (workedOn week (now (sheet .entry)) at n) (e * 1440)) × (r ≤ 6184752906240) ⌝ }
+{
+    let mut sum: u64 = 0;
+    let mut i = d;
+    while i < e {
+        let hours = calendar::periods_on(week, sheet, at, n, i);
+        sum += calendar::day_rank(hours, sheet, 1440);
+        i += 1;
+    }
+    sum
+}
+
+// The minutes worked from `a` up to `b`, both in the years that may be read.
+fn work_to(week: [[Period; 8]; 7], sheet: &[u8], at: usize, n: usize, a: u64, b: u64) -> u64
+    requires { ⌜ Valid week (now sheet) at n × (a ≤ b) × (b < endMinute) ⌝ }
+    ensures { λ r. ⌜ (count (workedOn week (now (sheet .entry)) at n) a + r ≡ count (workedOn week (now (sheet .entry)) at n) b) × (r ≤ 6184752907680) ⌝ }
+{
+    let d = a / 1440;
+    let e = b / 1440;
+    let first = calendar::periods_on(week, sheet, at, n, d);
+    let last = calendar::periods_on(week, sheet, at, n, e);
+    days_work(week, sheet, at, n, d, e) + calendar::day_rank(last, sheet, b % 1440)
+        - calendar::day_rank(first, sheet, a % 1440)
+}
+
+// The minutes worked from `a` to `b`: negative where `b` comes first.
+pub fn between(week: [[Period; 8]; 7], sheet: &[u8], at: usize, n: usize, a: u64, b: u64) -> Work
+    requires { ⌜ Valid week (now sheet) at n ⌝ }
+    ensures { λ r. ⌜ r ≡ between (workedOn week (now (sheet .entry)) at n) a b ⌝ }
+{
+    if date::in_years(a / 1440) {
+        if date::in_years(b / 1440) {
+            if a <= b {
+                return Work::Minutes(work_to(week, sheet, at, n, a, b) as i64);
+            }
+            return Work::Minutes(number::sign::difference(work_to(week, sheet, at, n, b, a), 0));
+        }
+        return Work::Refused(TOO_LONG);
+    }
+    Work::Refused(TOO_LONG)
+}

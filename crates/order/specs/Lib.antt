@@ -1,0 +1,6 @@
+-- The checks before the passes.
+pub mod Plan
+pub mod Ids
+pub mod Lags
+pub mod Ties
+pub mod Checks

@@ -1,0 +1,2 @@
+-- Where an activity's work can begin and end.
+pub mod Placing
