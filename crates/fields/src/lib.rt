@@ -1,6 +1,6 @@
 // The tests of one record's fields: 3 of 01's table is given where one of them fails.
 ghost use mathlib.Core.Path.{_≡_};
-ghost use Prim.Native.Nat.{ℕ, _+_, _≤_, _<_};
+ghost use Prim.Native.Nat.{_+_, _≤_, _<_};
 ghost use lib.Dec.{leb};
 ghost use lib.ListN.{length};
 ghost use Rattle.number.specs.Bytes.{byteAt, biasedAt};

@@ -1,23 +1,21 @@
 -- Laws of the calendars' reading: its ways, one calendar at a time, and what is known of the calendars once they have ended.
 use mathlib.Core.Path.{_≡_, refl, sym, ap, _∙_}
-use mathlib.Core.Bool.{Bool, true, false}
 use mathlib.Core.Logic.{_⊎_, inl, inr, ⊎-elim}
 use mathlib.Core.List.{List}
 use Prim.Native.Nat.{ℕ, zero, suc, _+_, _-_, _*_, _≤_, _<_}
 use native.Mathlib.Omega.{arith}
 use native.Mathlib.Numerals.{add-one}
 use borrow.Author.Tests.{le-leb, lt-leb, eq-eqb, ne-eqb}
-use lib.Dec.{eqb, leb}
 use lib.ListN.{length}
 use Rattle.number.specs.Bytes.{byteAt}
 use Rattle.number.specs.Order.{lt-or-le, eq-or-ne}
-use Rattle.project.specs.Fields.{calendarKind, weekKind, exceptionKind, headerSize, calendarSize, weekSize, exceptionSize, calendarOk}
+use Rattle.project.specs.Fields.{calendarKind, weekKind, exceptionKind, headerSize, calendarSize, weekSize, exceptionSize}
 use Rattle.sheet.specs.declared.Run.{Run}
 use Rattle.sheet.specs.declared.Run.the-variants.{Count}
 use Rattle.sheet.specs.declared.Calendars.{Calendars}
 use Rattle.sheet.specs.declared.Calendars.the-variants.{Ended}
 use Rattle.sheet.specs.Reading.{misplaced, judgeCalendar, judgeWeek, judgeException, weeksFrom, exceptionsFrom, afterExceptions, afterWeeks, calendarsFrom}
-use Rattle.sheet.specs.Places.{countOf, weeksAt, weekCount, exceptionsAt, exceptionCount, nextCalendar, calendarAt, weekAt, exceptionsEnd, weeksEnd, calendarEnd}
+use Rattle.sheet.specs.Places.{countOf, weekCount, exceptionsAt, exceptionCount, nextCalendar, calendarAt, weekAt, exceptionsEnd, weeksEnd, calendarEnd}
 use Rattle.sheet.specs.Known.{CalendarRead}
 use Rattle.sheet.specs.RunLaws.{Row, two, never-counted, run-refuses}
 use Rattle.sheet.specs.JudgeLaws.{calendar-stands, calendar-row, week-row, exception-row}

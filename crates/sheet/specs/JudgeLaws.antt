@@ -1,14 +1,13 @@
 -- What the judges of one record say: each way of `judged`, and the facts of a record that may stand.
-use mathlib.Core.Path.{_≡_, refl, sym, _∙_}
-use mathlib.Core.Bool.{Bool, true, false, _&&_, _||_, not, true≢false}
+use mathlib.Core.Path.{_≡_, refl}
+use mathlib.Core.Bool.{Bool, true, false, _&&_, _||_, not}
 use mathlib.Core.Logic.{_⊎_, inl, inr, ⊎-elim}
 use mathlib.Core.List.{List}
-use Prim.Native.Nat.{ℕ, zero, suc, _+_, _*_, _≤_, _<_}
+use Prim.Native.Nat.{ℕ, suc, _+_, _*_, _≤_, _<_}
 use native.Mathlib.Omega.{arith}
-use borrow.Author.Tests.{ltb-true, leb-true, leb-false, eqb-true, lt-ltb, not-true}
+use borrow.Author.Tests.{ltb-true, leb-true, leb-false, eqb-true}
 use lib.Dec.{eqb, leb, ltb}
 use lib.ListN.{length}
-use Rattle.number.specs.Order.{cases, lt-or-le}
 use Rattle.number.specs.Tests.{and-both, or-either}
 use Rattle.calendar.specs.declared.Period.{Period}
 use Rattle.calendar.specs.Records.{weekdayAt, weekPeriodAt, weekPeriods, exceptionDay, exceptionPeriod}

@@ -1,17 +1,12 @@
 -- Each of the four runs is the one of its kind.
-use mathlib.Core.Path.{_≡_, refl, sym, ap, _∙_}
-use mathlib.Core.Bool.{Bool, true, false}
+use mathlib.Core.Path.{_≡_, refl}
 use mathlib.Core.List.{List}
-use Prim.Native.Nat.{ℕ, suc, _+_, _*_, _≤_}
+use Prim.Native.Nat.{ℕ, suc, _+_, _*_}
 use native.Mathlib.Omega.{arith}
 use native.Mathlib.Nat.{mul-suc}
-use native.Mathlib.Numerals.{add-one}
 use borrow.Author.Tests.{eq-eqb, ne-eqb}
-use lib.Dec.{eqb}
-use lib.ListN.{length}
 use Rattle.project.specs.Fields.{weekKind, exceptionKind, activityKind, linkKind, weekSize, exceptionSize, activitySize, linkSize}
-use Rattle.sheet.specs.declared.Run.{Run}
-use Rattle.sheet.specs.Reading.{judgeWeek, judgeException, judgeActivity, judgeLink, run, weeksFrom, exceptionsFrom, activitiesFrom, linksFrom}
+use Rattle.sheet.specs.Reading.{judgeWeek, judgeException, judgeActivity, judgeLink, weeksFrom, exceptionsFrom, activitiesFrom, linksFrom}
 use Rattle.sheet.specs.Kinds.{sizeOf, judgeOf, runOf}
 
 -- ---- by the kind's tests

@@ -1,5 +1,5 @@
 -- The runs of W, E, A and L records as one, by their byte of kind; any other byte counts as L's.
-use mathlib.Core.Bool.{Bool, true, false}
+use mathlib.Core.Bool.{true, false}
 use mathlib.Core.List.{List}
 use Prim.Native.Nat.{ℕ, suc}
 use lib.Dec.{eqb}

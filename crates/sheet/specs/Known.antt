@@ -1,13 +1,12 @@
 -- What is known of a sheet that was read: the promises that the layers above rest on, record by record.
 use mathlib.Core.Path.{_≡_}
-use mathlib.Core.Bool.{Bool, true}
+use mathlib.Core.Bool.{true}
 use mathlib.Core.List.{List}
 use Prim.Native.Nat.{ℕ, _+_, _*_, _≤_, _<_}
 use lib.ListN.{length}
 use Rattle.number.specs.Bytes.{byteAt}
 use Rattle.calendar.specs.Records.{weekdayAt, weekPeriods, Valid}
 use Rattle.project.specs.Fields.{headerKind, calendarKind, activityKind, linkKind, headerSize, calendarSize, weekSize, activitySize, linkSize, headerOk, calendarOk, activityOk, linkOk}
-use Rattle.sheet.specs.declared.Run.{Run}
 use Rattle.sheet.specs.declared.Run.the-variants.{Count}
 use Rattle.sheet.specs.declared.Contents.{Contents}
 use Rattle.sheet.specs.Reading.{weeksFrom, exceptionsFrom}

@@ -1,13 +1,11 @@
 -- Counting the records of a calendar that was read gives where they stand.
-use mathlib.Core.Path.{_≡_, refl, sym, ap, _∙_}
+use mathlib.Core.Path.{_≡_, sym, ap, _∙_}
 use mathlib.Core.List.{List}
-use Prim.Native.Nat.{ℕ, _+_, _*_, _≤_, _<_}
+use Prim.Native.Nat.{ℕ, _+_, _*_, _≤_}
 use native.Mathlib.Omega.{arith}
 use lib.ListN.{length}
 use Rattle.project.specs.Fields.{weekKind, exceptionKind}
-use Rattle.sheet.specs.declared.Run.{Run}
 use Rattle.sheet.specs.declared.Run.the-variants.{Count}
-use Rattle.sheet.specs.declared.Place.{Place}
 use Rattle.sheet.specs.Kinds.{runOf}
 use Rattle.sheet.specs.KindLaws.{weeks-are, exceptions-are}
 use Rattle.sheet.specs.Places.{countOf, weekCount, exceptionsAt, exceptionCount, nextCalendar, placeAt}

@@ -1,17 +1,15 @@
 -- Laws of the whole sheet's reading: its ways, what is known of a sheet that is read, and which rows refuse one.
-use mathlib.Core.Path.{_≡_, refl, sym, ap, _∙_}
-use mathlib.Core.Bool.{Bool, true, false, _&&_, not, true≢false}
-use mathlib.Core.Logic.{_⊎_, inl, inr, ⊎-elim}
+use mathlib.Core.Path.{_≡_, refl, sym, _∙_}
+use mathlib.Core.Bool.{true, false}
+use mathlib.Core.Logic.{⊎-elim}
 use mathlib.Core.List.{List}
-use Prim.Native.Nat.{ℕ, zero, suc, _+_, _-_, _*_, _≤_, _<_}
+use Prim.Native.Nat.{ℕ, suc, _+_, _*_, _≤_, _<_}
 use native.Mathlib.Omega.{arith}
-use borrow.Author.Tests.{le-leb, lt-leb, eq-eqb, ne-eqb, eqb-true, eqb-false, not-true}
-use lib.Dec.{eqb, leb}
+use borrow.Author.Tests.{le-leb, lt-leb, eq-eqb, ne-eqb}
 use lib.ListN.{length}
 use Rattle.number.specs.Bytes.{byteAt}
 use Rattle.number.specs.Order.{cases, lt-or-le, eq-or-ne}
-use Rattle.number.specs.Tests.{and-both}
-use Rattle.project.specs.Fields.{headerKind, activityKind, linkKind, headerSize, activitySize, linkSize, headerOk, activityOk, linkOk}
+use Rattle.project.specs.Fields.{headerKind, activityKind, linkKind, headerSize, activitySize, linkSize, headerOk}
 use Rattle.sheet.specs.declared.Run.{Run}
 use Rattle.sheet.specs.declared.Run.the-variants.{Count}
 use Rattle.sheet.specs.declared.Calendars.{Calendars}
@@ -20,11 +18,10 @@ use Rattle.sheet.specs.declared.Contents.{Contents}
 use Rattle.sheet.specs.declared.Sheet.{Sheet}
 use Rattle.sheet.specs.declared.Sheet.the-variants.{Read}
 use Rattle.sheet.specs.Reading.{misplaced, outOfRange, judgeActivity, judgeLink, activitiesFrom, linksFrom, calendarsFrom, afterLinks, afterActivities, afterCalendars, readSheet}
-use Rattle.sheet.specs.Places.{calendarAt}
-use Rattle.sheet.specs.Known.{HeaderRead, CalendarRead, ActivityRead, LinkRead, SheetRead}
+use Rattle.sheet.specs.Known.{HeaderRead, SheetRead}
 use Rattle.sheet.specs.RunLaws.{Row, two, Counted, run-counted, run-refuses}
 use Rattle.sheet.specs.JudgeLaws.{activity-stands, activity-row, link-stands, link-row}
-use Rattle.sheet.specs.CalendarLaws.{Counts, which, Rest, calendars-known, calendars-row}
+use Rattle.sheet.specs.CalendarLaws.{Rest, calendars-known, calendars-row}
 
 never-read : {r : ℕ} {c : Contents} → Sheet.Refused r ≡ Read c → ⊥
 never-read e = let z : _≡_ {A = ℕ} 0 1 = cc in omega arith

@@ -1,13 +1,11 @@
 -- Laws of a run of records: its ways, one record at a time, and what is known of the records once they are counted.
-use mathlib.Core.Path.{_≡_, refl, sym, _∙_}
-use mathlib.Core.Bool.{Bool, true, false}
+use mathlib.Core.Path.{_≡_, sym, _∙_}
 use mathlib.Core.Logic.{_⊎_, inl, inr, ⊎-elim}
 use mathlib.Core.List.{List}
 use Prim.Native.Nat.{ℕ, zero, suc, _+_, _-_, _*_, _≤_, _<_}
 use native.Mathlib.Omega.{arith}
 use native.Mathlib.Numerals.{add-one}
 use borrow.Author.Tests.{le-leb, lt-leb, eq-eqb, ne-eqb}
-use lib.Dec.{eqb, leb}
 use lib.ListN.{length}
 use Rattle.number.specs.Bytes.{byteAt}
 use Rattle.number.specs.Order.{lt-or-le, eq-or-ne}

@@ -1,8 +1,8 @@
 -- A run of records as the loop over it goes: what the loop keeps, and each of its ways.
-use mathlib.Core.Path.{_≡_, refl, sym, ap, _∙_}
-use mathlib.Core.Logic.{_⊎_, inl, inr, ⊎-elim}
+use mathlib.Core.Path.{_≡_, sym, ap, _∙_}
+use mathlib.Core.Logic.{⊎-elim}
 use mathlib.Core.List.{List}
-use Prim.Native.Nat.{ℕ, suc, _+_, _-_, _*_, _≤_, _<_}
+use Prim.Native.Nat.{ℕ, suc, _+_, _*_, _≤_, _<_}
 use native.Mathlib.Omega.{arith}
 use native.Mathlib.Nat.{mul-le-mul-left}
 use native.Mathlib.Numerals.{add-one}
@@ -11,7 +11,7 @@ use Rattle.number.specs.Bytes.{byteAt}
 use Rattle.number.specs.Order.{lt-or-le}
 use Rattle.sheet.specs.declared.Run.{Run}
 use Rattle.sheet.specs.declared.Run.the-variants.{Count}
-use Rattle.sheet.specs.Reading.{misplaced, run}
+use Rattle.sheet.specs.Reading.{misplaced}
 use Rattle.sheet.specs.Kinds.{sizeOf, judgeOf, runOf}
 use Rattle.sheet.specs.KindLaws.{next-record}
 use Rattle.sheet.specs.RunLaws.{Counted, run-counted, rest, rest-all, run-end, run-cut, run-refused, run-more}

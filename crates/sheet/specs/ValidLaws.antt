@@ -1,22 +1,19 @@
 -- What is known of a calendar once its W and E records are counted: just what the crate `calendar` asks of one.
-use mathlib.Core.Path.{_≡_, refl, sym, ap, _∙_}
-use mathlib.Core.Bool.{Bool, true, false}
-use mathlib.Core.Logic.{_⊎_, inl, inr, ⊎-elim}
+use mathlib.Core.Path.{_≡_, refl, ap, _∙_}
+use mathlib.Core.Bool.{true, false}
+use mathlib.Core.Logic.{⊎-elim}
 use mathlib.Core.List.{List, [], _∷_, _++_}
-use Prim.Native.Nat.{ℕ, zero, suc, _+_, _-_, _*_, _≤_, _<_}
+use Prim.Native.Nat.{ℕ, zero, suc, _-_, _≤_, _<_}
 use native.Mathlib.Omega.{arith}
-use native.Mathlib.Numerals.{add-one}
 use lib.Dec.{eqb}
 use lib.ListN.{length, getD, length-append}
-use Rattle.number.specs.Bytes.{byteAt}
 use Rattle.number.specs.Order.{lt-or-le, eq-or-ne, zero-or-pos}
 use Rattle.calendar.specs.declared.Period.{Period}
-use Rattle.calendar.specs.Hours.{none, Ordered}
-use Rattle.calendar.specs.Records.{weekday, weekdayAt, weekPeriodAt, weekPeriods, weekOf, exceptionDay, exceptionPeriod, exceptionsOn, hoursOn, Valid}
+use Rattle.calendar.specs.Hours.{Ordered}
+use Rattle.calendar.specs.Records.{weekday, weekdayAt, weekPeriodAt, weekPeriods, weekOf, exceptionDay, exceptionPeriod, exceptionsOn, Valid}
 use Rattle.calendar.specs.WeekLaws.{week-row}
 use Rattle.calendar.specs.DayLaws.{hours-week, hours-own}
 use Rattle.project.specs.Fields.{weekKind, exceptionKind, weekSize, exceptionSize}
-use Rattle.sheet.specs.declared.Run.{Run}
 use Rattle.sheet.specs.declared.Run.the-variants.{Count}
 use Rattle.sheet.specs.Reading.{judgeWeek, judgeException, weeksFrom, exceptionsFrom}
 use Rattle.sheet.specs.RunLaws.{Counted, run-counted}

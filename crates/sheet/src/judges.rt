@@ -1,7 +1,7 @@
 // The judges of one record: 4 or 3 of 01's table for one that is in its place and whole, 0 where it may stand.
 use calendar::Period;
 ghost use mathlib.Core.Path.{_≡_};
-ghost use Prim.Native.Nat.{ℕ, _+_, _*_, _≤_};
+ghost use Prim.Native.Nat.{_+_, _*_, _≤_};
 ghost use lib.ListN.{length};
 ghost use Rattle.calendar.specs.Records.{weekPeriods};
 ghost use Rattle.project.specs.Fields.{calendarSize};

@@ -1,6 +1,6 @@
 // Reading the sheet: rows 2, 3 and 4 of 01's table, and where every record stands.
 ghost use mathlib.Core.Path.{_≡_};
-ghost use Prim.Native.Nat.{ℕ, suc, _+_, _*_, _≤_, _<_};
+ghost use Prim.Native.Nat.{suc, _+_, _*_, _≤_, _<_};
 ghost use lib.ListN.{length};
 ghost use Rattle.project.specs.Fields.{headerSize, calendarSize, activitySize};
 ghost use Rattle.sheet.specs.Reading.{calendarsFrom, afterLinks, afterActivities, linksFrom, activitiesFrom, readSheet};

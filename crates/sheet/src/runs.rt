@@ -2,7 +2,7 @@
 use crate::Run;
 use crate::judges;
 ghost use mathlib.Core.Path.{_≡_};
-ghost use Prim.Native.Nat.{ℕ, _+_, _*_, _≤_, _<_};
+ghost use Prim.Native.Nat.{_+_, _*_, _≤_, _<_};
 ghost use lib.ListN.{length};
 ghost use Rattle.number.specs.Bytes.{byteAt};
 ghost use Rattle.sheet.specs.Reading.{weeksFrom, exceptionsFrom, activitiesFrom, linksFrom};

@@ -1,6 +1,5 @@
 // Reads the sheets of the file `sheets` and writes a line for each: what it holds, or the number of its refusal.
-ghost use mathlib.Core.Path.{_≡_};
-ghost use Prim.Native.Nat.{ℕ, _+_, _≤_};
+ghost use Prim.Native.Nat.{_+_, _≤_};
 ghost use lib.ListN.{length};
 use libc::STDOUT_FILENO;
 
@@ -22,14 +21,7 @@ fn copy(file: &[u8], from: usize, n: usize, sheet: &mut [u8], at: usize)
 }
 
 // Copies them `times` times in a row, while there is room, and answers where that ends.
-fn repeat(
-    file: &[u8],
-    from: usize,
-    n: usize,
-    times: usize,
-    sheet: &mut [u8],
-    at: usize,
-) -> usize
+fn repeat(file: &[u8], from: usize, n: usize, times: usize, sheet: &mut [u8], at: usize) -> usize
     requires { ⌜ (from + n ≤ length (now file)) × (at ≤ length (now sheet)) ⌝ }
     ensures { λ r. ⌜ r ≤ length (now (sheet .exit)) ⌝ }
 {
@@ -56,18 +48,27 @@ fn build(file: &[u8], from: usize, parts: usize, sheet: &mut [u8]) -> Built
     let mut i: usize = 0;
     while i < parts {
         if file.len() - q < 4 {
-            return Built { next: file.len(), size: size };
+            return Built {
+                next: file.len(),
+                size: size,
+            };
         }
         let times = number::read_u16(file, q) as usize;
         let n = number::read_u16(file, q + 2) as usize;
         if file.len() - q - 4 < n {
-            return Built { next: file.len(), size: size };
+            return Built {
+                next: file.len(),
+                size: size,
+            };
         }
         size = repeat(file, q + 4, n, times, sheet, size);
         q = q + 4 + n;
         i += 1;
     }
-    Built { next: q, size: size }
+    Built {
+        next: q,
+        size: size,
+    }
 }
 
 fn print(n: usize) {
