@@ -176,11 +176,11 @@ pub fn bounds_start(constraint: Constraint) -> bool
 pub fn status_of(actual_start: OptionalDate, actual_finish: OptionalDate) -> Status
     ensures { λ r. ⌜ r ≡ statusOf «actual_start» «actual_finish» ⌝ }
 {
-    match actual_finish {
-        OptionalDate::On(_) => Status::Completed,
-        OptionalDate::Absent => match actual_start {
-            OptionalDate::On(_) => Status::InProgress,
-            OptionalDate::Absent => Status::NotStarted,
-        },
-    }
+    let OptionalDate::Absent = actual_finish else {
+        return Status::Completed;
+    };
+    let OptionalDate::Absent = actual_start else {
+        return Status::InProgress;
+    };
+    Status::NotStarted
 }
