@@ -14,7 +14,8 @@ use Rattle.number.specs.Bytes.{u16At}
 use Rattle.calendar.specs.declared.Period.{Period}
 use Rattle.calendar.specs.declared.Hours.{Hours}
 use Rattle.calendar.specs.Hours.{none}
-use Rattle.calendar.specs.Records.{weekday, exceptionDay, exceptionPeriod, exceptionsOn, hoursOn, FirstFrom, recordPeriods, periodsOf}
+use Rattle.calendar.specs.Records.{exceptionDay, exceptionPeriod, exceptionsOn, hoursOn, FirstFrom, recordPeriods, periodsOf}
+use Rattle.date.specs.Days.{weekday}
 
 -- ---- exceptionsOn, a record at a time
 module _ (s : List ℕ) (at d i : ℕ) where

@@ -5,14 +5,11 @@ use mathlib.Core.List.{List, [], _∷_, _++_}
 use Prim.Native.Nat.{ℕ, zero, suc, _+_, _-_, _*_, _%_, _≤_, _<_}
 use lib.Dec.{eqb}
 use lib.ListN.{length, getD, replicate}
+use Rattle.date.specs.Days.{weekday}
 use Rattle.number.specs.Bytes.{byteAt, u16At, biasedAt}
 use Rattle.calendar.specs.declared.Period.{Period}
 use Rattle.calendar.specs.declared.Hours.{Hours}
 use Rattle.calendar.specs.Hours.{none, Ordered}
-
--- "weekday u8 (0 Monday; day 0 is a Thursday)": day 2 ^ 31 is 01's day 0
-abbrev pub weekday : ℕ → ℕ
-weekday d = (d + 1) % 7
 
 -- ---- W (6 bytes with its kind): weekday u8, from and to, u16
 abbrev pub weekdayAt : List ℕ → ℕ → ℕ → ℕ

@@ -8,7 +8,8 @@ use lib.ListN.{length, getD}
 use Rattle.calendar.specs.declared.Period.{Period}
 use Rattle.calendar.specs.declared.Hours.{Hours}
 use Rattle.calendar.specs.Hours.{held, worked, Ordered}
-use Rattle.calendar.specs.Records.{weekday, hoursOn, roundTheClock, Valid, periodsOf}
+use Rattle.calendar.specs.Records.{hoursOn, roundTheClock, Valid, periodsOf}
+use Rattle.date.specs.Days.{weekday}
 use Rattle.calendar.specs.WeekLaws.{clock-held, clock-ordered}
 use Rattle.calendar.specs.DayLaws.{hours-plain}
 

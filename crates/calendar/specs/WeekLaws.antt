@@ -13,7 +13,8 @@ use lib.Seq.{set-append-seam, ext-getD}
 use Rattle.number.specs.Order.{eq-or-ne}
 use Rattle.calendar.specs.declared.Period.{Period}
 use Rattle.calendar.specs.Hours.{none, held, Ordered}
-use Rattle.calendar.specs.Records.{weekday, weekdayAt, weekPeriodAt, weekPeriods, pad, weekOf, roundTheClock}
+use Rattle.calendar.specs.Records.{weekdayAt, weekPeriodAt, weekPeriods, pad, weekOf, roundTheClock}
+use Rattle.date.specs.Days.{weekday}
 use Rattle.calendar.specs.HoursLaws.{holds-in, held-here}
 
 pub pad-length : (ps : List Period) → length ps ≤ 8 → length (pad ps) ≡ 8

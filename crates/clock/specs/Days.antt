@@ -13,7 +13,8 @@ use Rattle.calendar.specs.declared.Found.{Found}
 use Rattle.calendar.specs.declared.Found.the-variants.{At, Nothing}
 use Rattle.calendar.specs.Hours.{held, worked, Ordered, rank, select, nextIn}
 use Rattle.calendar.specs.HoursLaws.{rank-none, rank-work, rank-rest, Selected, select-rank, NextIn, next-at, next-nothing}
-use Rattle.worktime.specs.Worked.{bit, count, closing}
+use Rattle.worktime.specs.Worked.{count, closing}
+use Rattle.number.specs.Bit.{bit}
 use Rattle.worktime.specs.Count.{count-worked-one, count-idle-one, count-mono, gap, closing-suc}
 
 is-false : (b : Bool) → (b ≡ true → ⊥) → b ≡ false

@@ -12,7 +12,8 @@ use lib.ListN.{getD}
 use Rattle.number.specs.Order.{eq-or-ne}
 use Rattle.number.specs.Zed.{up, dn}
 use Rattle.number.specs.ZedLaws.{same, add-is}
-use Rattle.date.specs.Gregorian.{leap, bit, lengths, sum, monthLength, daysBefore, yearsUp, yearsDown, newYear, IsDate}
+use Rattle.date.specs.Gregorian.{leap, lengths, sum, monthLength, daysBefore, yearsUp, yearsDown, newYear, IsDate}
+use Rattle.number.specs.Bit.{bit}
 use Rattle.date.specs.YearLaws.{divides, leap-bit, round-4, round-100, round-400, year-length, years-up, years-down, epoch, new-year-up, new-year-dn}
 use Rattle.date.specs.March.{march, InYear, Shifted, daysFromMarch}
 use Rattle.date.specs.MarchLaws.{hundreds-fours}

@@ -6,14 +6,11 @@ use Prim.Native.Nat.{ℕ, zero, suc, _+_, _-_, _%_, _≤_}
 use lib.Dec.{eqb}
 use lib.IntN.{ℤ, pos, negsuc, negℤ, natAbs, _+ℤ_}
 use lib.ListN.{getD, take}
+use Rattle.number.specs.Bit.{bit}
 
 -- every fourth year is a leap year, but a hundredth one only if it is a four-hundredth
 unfoldable pub leap : ℕ → Bool
 leap n = eqb (n % 4) 0 && (not (eqb (n % 100) 0) || eqb (n % 400) 0)
-
-abbrev pub bit : Bool → ℕ
-bit true = 1
-bit false = 0
 
 -- the lengths of the months, January's first, of a leap year and of a common one
 unfoldable pub lengths : Bool → List ℕ

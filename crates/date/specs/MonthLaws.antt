@@ -8,7 +8,8 @@ use borrow.Author.Tests.{eqb-true}
 use lib.Dec.{eqb}
 use lib.ListN.{getD, take}
 use Rattle.number.specs.Order.{eq-or-ne}
-use Rattle.date.specs.Gregorian.{bit, lengths, sum}
+use Rattle.date.specs.Gregorian.{lengths, sum}
+use Rattle.number.specs.Bit.{bit}
 use Rattle.date.specs.March.{daysFromMarch}
 
 -- ---- a test of each number below n, by evaluation

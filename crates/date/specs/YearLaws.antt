@@ -8,7 +8,8 @@ use lib.Dec.{eqb}
 use lib.IntN.{ℤ, pos, negsuc, natAbs}
 use Rattle.number.specs.Zed.{up, dn}
 use Rattle.number.specs.ZedLaws.{neg-up, neg-dn}
-use Rattle.date.specs.Gregorian.{leap, bit, lengths, sum, yearLength, yearsUp, yearsDown, newYear}
+use Rattle.date.specs.Gregorian.{leap, lengths, sum, yearLength, yearsUp, yearsDown, newYear}
+use Rattle.number.specs.Bit.{bit}
 
 -- ---- leap years, as three counts of multiples
 abbrev pub divides : ℕ → ℕ → ℕ

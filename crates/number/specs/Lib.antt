@@ -1,5 +1,6 @@
 -- The definitions of the numbers, and their laws.
 pub mod Order
+pub mod Bit
 pub mod Bytes
 pub mod Tests
 pub mod BytesLaws

@@ -10,7 +10,8 @@ use lib.ListN.{length, getD, length-append}
 use Rattle.number.specs.Order.{lt-or-le, eq-or-ne, zero-or-pos}
 use Rattle.calendar.specs.declared.Period.{Period}
 use Rattle.calendar.specs.Hours.{Ordered}
-use Rattle.calendar.specs.Records.{weekday, weekdayAt, weekPeriodAt, weekPeriods, weekOf, exceptionDay, exceptionPeriod, exceptionsOn, Valid}
+use Rattle.calendar.specs.Records.{weekdayAt, weekPeriodAt, weekPeriods, weekOf, exceptionDay, exceptionPeriod, exceptionsOn, Valid}
+use Rattle.date.specs.Days.{weekday}
 use Rattle.calendar.specs.WeekLaws.{week-row}
 use Rattle.calendar.specs.DayLaws.{hours-week, hours-own}
 use Rattle.project.specs.Fields.{weekKind, exceptionKind, weekSize, exceptionSize}

@@ -6,7 +6,8 @@ use Prim.Native.Nat.{ℕ, _+_, _≤_, _<_}
 use native.Mathlib.Nat.{le-antisymm}
 use native.Mathlib.Omega.{arith}
 use Rattle.number.specs.Order.{cases, lt-or-le}
-use Rattle.worktime.specs.Worked.{bit, count, closing, IsNextStart, IsPreviousFinish, IsNextFinish, IsAdvance, IsRetreat}
+use Rattle.worktime.specs.Worked.{count, closing, IsNextStart, IsPreviousFinish, IsNextFinish, IsAdvance, IsRetreat}
+use Rattle.number.specs.Bit.{bit}
 use Rattle.worktime.specs.Count.{count-mono, start-le, close-le, close-lt}
 use Rattle.worktime.specs.Relations.{next-start-of, previous-finish-of, next-finish-count, advance-of, advance-le, retreat-of, retreat-le}
 

@@ -8,7 +8,8 @@ use native.Mathlib.Decide.{le-ind}
 use native.Mathlib.Omega.{arith}
 use native.Mathlib.Numerals.{add-one}
 use Rattle.number.specs.Order.{cases, lt-or-le}
-use Rattle.worktime.specs.Worked.{bit, count, closing}
+use Rattle.worktime.specs.Worked.{count, closing}
+use Rattle.number.specs.Bit.{bit}
 use Rattle.worktime.specs.Walks.{spanned}
 
 pub bit-le : (b : Bool) → bit b ≤ 1

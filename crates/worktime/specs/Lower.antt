@@ -7,7 +7,8 @@ use native.Mathlib.Omega.{arith}
 use borrow.Author.Tests.{eqb-true, eqb-false}
 use lib.Dec.{eqb}
 use Rattle.number.specs.Order.{cases, lt-or-le}
-use Rattle.worktime.specs.Worked.{bit, count, IsNextStart, IsAdvance, IsRetreat}
+use Rattle.worktime.specs.Worked.{count, IsNextStart, IsAdvance, IsRetreat}
+use Rattle.number.specs.Bit.{bit}
 use Rattle.worktime.specs.Count.{count-zero, count-suc, count-worked, count-idle, count-mono, reach}
 use Rattle.worktime.specs.Exist.{next-start-below, advance-exists, retreat-above}
 

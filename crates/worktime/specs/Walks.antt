@@ -10,7 +10,8 @@ use Rattle.worktime.specs.declared.Work.{Work}
 use Rattle.worktime.specs.declared.Work.the-variants.{Minutes}
 use Rattle.worktime.specs.declared.Working.{Working}
 use Rattle.worktime.specs.declared.Working.the-variants.{Is}
-use Rattle.worktime.specs.Worked.{bit, closing}
+use Rattle.worktime.specs.Worked.{closing}
+use Rattle.number.specs.Bit.{bit}
 
 -- Row 8 of 01's table: too long.
 abbrev pub tooLong : ℕ

@@ -2,10 +2,7 @@
 use mathlib.Core.Path.{_≡_}
 use mathlib.Core.Bool.{Bool, true, false}
 use Prim.Native.Nat.{ℕ, zero, suc, _+_, _≤_, _<_}
-
-abbrev pub bit : Bool → ℕ
-bit true = 1
-bit false = 0
+use Rattle.number.specs.Bit.{bit}
 
 -- The worked minutes below t.
 unfoldable pub count : (ℕ → Bool) → ℕ → ℕ
