@@ -1,0 +1,3 @@
+-- The scheduling call.
+pub mod Results
+pub mod Outcome
