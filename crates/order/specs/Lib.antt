@@ -4,3 +4,5 @@ pub mod Ids
 pub mod Lags
 pub mod Ties
 pub mod Checks
+pub mod VerdictLaws
+pub mod IdLaws
