@@ -5,4 +5,5 @@ pub mod Lags
 pub mod Ties
 pub mod Checks
 pub mod VerdictLaws
+pub mod CheckLaws
 pub mod IdLaws
