@@ -7,3 +7,6 @@ pub mod Checks
 pub mod VerdictLaws
 pub mod CheckLaws
 pub mod IdLaws
+pub mod FineLaws
+pub mod ParentLaws
+pub mod TieLaws
