@@ -10,3 +10,4 @@ pub mod IdLaws
 pub mod FineLaws
 pub mod ParentLaws
 pub mod TieLaws
+pub mod LagLaws
