@@ -4,10 +4,14 @@ pub mod Ids
 pub mod Lags
 pub mod Ties
 pub mod Checks
+pub mod Demand
 pub mod VerdictLaws
 pub mod CheckLaws
+pub mod RowLaws
 pub mod IdLaws
 pub mod FineLaws
 pub mod ParentLaws
 pub mod TieLaws
 pub mod LagLaws
+pub mod LoopLaws
+pub mod ParentLoopLaws

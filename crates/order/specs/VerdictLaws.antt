@@ -28,6 +28,15 @@ module _ (v w : Verdict) where
     λ h. ap (λ (u : Verdict). u .number) (or-second (h .0)) ∙ h .1,
   )
 
+  -- a row that the first never gives is the second's, and one that the second never gives is the first's
+  pub or-skips : (n : ℕ) → v .number ≢ n → orElse v w .number ≡ n → (v .number ≡ 0) × (orElse v w ≡ w)
+  or-skips n h e =
+      ⊎-elim (λ z. (z, or-second z)) (λ m. absurd (h (ap (λ (u : Verdict). u .number) (sym (or-first m)) ∙ e))) (eq-or-ne (v .number) 0)
+
+  pub or-stays : (n : ℕ) → w .number ≢ n → orElse v w .number ≡ n → orElse v w ≡ v
+  or-stays n h e =
+      ⊎-elim (λ z. absurd (h (ap (λ (u : Verdict). u .number) (sym (or-second z)) ∙ e))) (λ m. or-first m) (eq-or-ne (v .number) 0)
+
   -- what holds of both holds of it
   pub or-both : (P : Verdict → Type 0) → P v → P w → P (orElse v w)
   or-both P a b =

@@ -1,0 +1,87 @@
+-- Row 12: the ids given name a loop of parents, upward from the first activity that lies on one; and which links are ignored, by ids.
+use mathlib.Core.Path.{_≡_, refl, sym, ap, _∙_}
+use mathlib.Core.Bool.{Bool, true, false, _&&_, _||_, true≢false}
+use mathlib.Core.List.{List, [], _∷_}
+use mathlib.Core.Logic.{_⊎_, inl, inr, ⊎-elim, _≢_, _↔_}
+use Prim.Native.Nat.{ℕ, zero, suc, _+_, _-_, _≤_, _<_}
+use native.Mathlib.Omega.{arith}
+use lib.ListN.{length, getD}
+use Rattle.number.specs.Order.{cases, lt-or-le, eq-or-ne, zero-or-pos}
+use Rattle.project.specs.Status.{isMilestone}
+use Rattle.network.specs.Links.{Linked, Loop, CloseLoop}
+use Rattle.network.specs.Kahn.{namedLoop}
+use Rattle.network.specs.Parents.{OnLoop, loopSteps, upward}
+use Rattle.network.specs.ParentLinks.{parentLinks, ParentsLoop}
+use Rattle.network.specs.ParentLoops.{loop-steps-back, loop-steps-le, loop-steps-on, loop-steps-iff, loop-steps-zero}
+use Rattle.network.specs.ParentRows.{parent-linked, linked-parent, length-upward, upward-at, upward-loop, upward-below, parents-close-iff}
+use Rattle.network.specs.Climbing.{climb-zero}
+use Rattle.order.specs.Plan.{Plan}
+use Rattle.order.specs.Ids.{idOf, indexOf, parentOf, summary}
+use Rattle.order.specs.Ties.{fromOf, toOf, ignored, keptLinks}
+use Rattle.order.specs.Checks.{Verdict, fine, refuse, refuseLoop, named, orElse, firstOf, judgeCalendar, judgeActivity, judgeParent, judgeSummary, judgeLink, judgeOrder, beforeOrdering, checked}
+use Rattle.order.specs.Demand.{LoopOf, Under, LoopOfParents, ParentsCloseLoop, IsParent}
+use Rattle.order.specs.IdLaws.{DistinctIds, index-below, index-id, index-of-id}
+use Rattle.order.specs.VerdictLaws.{or-second, or-first, or-skips, or-stays, Refusal, first-cases, first-each, first-fine}
+use Rattle.order.specs.CheckLaws.{SummaryFine, LinkFine, summary-milestone, summary-loop, summary-passes, summary-fine}
+use Rattle.order.specs.RowLaws.{calendar-rows, activity-rows, parent-rows, link-rows, order-rows}
+use Rattle.order.specs.FineLaws.{ActivitiesFine, ParentsKnown, LinksFine, PlanFine, plan-fine, activities-fine, parents-fine, fine-distinct}
+use Rattle.order.specs.ParentLaws.{ParentIs, parent-of-some, summary-iff, parent-le, parent-is, parent-by-id, no-parents-loop}
+use Rattle.order.specs.LoopLaws.{named-length, named-at, named-loop-of, loop-of, of-loop}
+
+module _ (p : Plan) where
+  abbrev toParents : ℕ → ℕ → Type 0
+  toParents = Linked (parentLinks (parentOf p) (p .activities))
+
+  -- ---- by ids and by the activities' numbers
+  module _ (parents : ParentsKnown p) where
+    linked-under : (i j : ℕ) → toParents i j → Under p (idOf p i) (idOf p j)
+    linked-under i j e =
+        let r = linked-parent (parentOf p) (p .activities) i j e in
+        let s = parent-is p parents i j (r .0) (r .1) in record {
+          activity = i;
+          within = r .0;
+          has = refl;
+          some = λ z. s .some (sym (s .id) ∙ z);
+          under = sym (s .id);
+        }
+
+    pub parent-loop-ids : (xs : List ℕ) → Loop (parentLinks (parentOf p) (p .activities)) xs → LoopOfParents p (named (idOf p) xs)
+    parent-loop-ids xs w = named-loop-of (idOf p) toParents (Under p) linked-under xs (loop-of (parentLinks (parentOf p) (p .activities)) xs w)
+
+  module _ (distinct : DistinctIds p) where
+    under-linked : (a b : ℕ) → Under p a b → toParents (indexOf p a) (indexOf p b)
+    under-linked a b u =
+        let e : indexOf p a ≡ u .activity = ap (indexOf p) (sym (u .has)) ∙ index-of-id p distinct (u .activity) (u .within) in
+        parent-linked (parentOf p) (p .activities) (indexOf p a) (indexOf p b) (omega (arith, u .within))
+        (ap (parentOf p) e ∙ parent-of-some p (u .activity) (λ z. u .some (sym (u .under) ∙ z)) ∙ ap (λ (id : ℕ). suc (indexOf p id)) (u .under))
+
+    pub ids-parent-loop : (xs : List ℕ) → LoopOfParents p xs → Loop (parentLinks (parentOf p) (p .activities)) (named (indexOf p) xs)
+    ids-parent-loop xs w =
+        of-loop (parentLinks (parentOf p) (p .activities)) (named (indexOf p) xs) (named-loop-of (indexOf p) (Under p) toParents under-linked xs w)
+
+  pub parents-close-ids : DistinctIds p → ParentsKnown p → ParentsLoop (parentOf p) (p .activities) ↔ ParentsCloseLoop p
+  parents-close-ids distinct parents = (
+    λ o. let w = parents-close-iff (parentOf p) (parent-le p parents) .1 o in (named (idOf p) (w .0), parent-loop-ids parents (w .0) (w .1)),
+    λ w. parents-close-iff (parentOf p) (parent-le p parents) .0 (named (indexOf p) (w .0), ids-parent-loop distinct (w .0) (w .1)),
+  )
+
+  -- ---- one activity: 12 where it lies on a loop, and is no milestone that is a parent
+  module _ (i : ℕ) where
+    pub summary-twelve : judgeSummary p i .number ≡ 12
+        → (0 < loopSteps (parentOf p) (p .activities) i)
+            × (judgeSummary p i ≡ refuseLoop 12 (named (idOf p) (upward (parentOf p) (loopSteps (parentOf p) (p .activities) i) i)))
+    summary-twelve e =
+        ⊎-elim (λ m. absurd (omega (arith, ap (λ (v : Verdict). v .number) (summary-milestone p i m))))
+        (λ task.
+        ⊎-elim (λ z. absurd (omega (arith, ap (λ (v : Verdict). v .number) (summary-passes p i task z))))
+        (λ n. (omega arith, summary-loop p i task n)) (eq-or-ne (loopSteps (parentOf p) (p .activities) i) 0))
+        (cases (summary p i && isMilestone (p .activity i .kind)))
+
+    pub summary-twelve-iff : ParentsKnown p → i < p .activities → (summary p i && isMilestone (p .activity i .kind)) ≡ false
+        → (judgeSummary p i .number ≡ 12) ↔ OnLoop (parentOf p) i
+    summary-twelve-iff parents l task = (
+      λ e. loop-steps-on (parentOf p) (p .activities) i (summary-twelve e .0),
+      λ o.
+          let s = loop-steps-iff (parentOf p) (parent-le p parents) i l .1 o in
+          ap (λ (v : Verdict). v .number) (summary-loop p i task (λ z. omega arith)),
+    )
