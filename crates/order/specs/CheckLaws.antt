@@ -15,7 +15,7 @@ use Rattle.network.specs.Parents.{loopSteps, upward}
 use Rattle.order.specs.Plan.{Plan}
 use Rattle.order.specs.Ids.{idOf, known, parentOf, summary}
 use Rattle.order.specs.Ties.{ignored, tieTooLong, keptLinks}
-use Rattle.order.specs.Checks.{Verdict, refuse, fine, named, refuseLoop, weekWorks, judgeCalendar, judgeActivity, judgeParent, judgeSummary, judgeLink, order, judgeOrder}
+use Rattle.order.specs.Checks.{Verdict, refuse, fine, firstOf, named, refuseLoop, weekWorks, judgeCalendar, judgeActivity, judgeParent, judgeSummary, judgeLink, order, judgeOrder}
 
 -- a check that refuses is not fine
 not-fine : {v : Verdict} (n : ℕ) {w : Verdict} → v ≡ w → w .number ≡ suc n → v .number ≡ 0 → ⊥
@@ -233,3 +233,19 @@ module _ (p : Plan) where
   unfolding judgeOrder
   order-loop h =
       let e : eqb (length (order p)) (p .activities) ≡ false = ne-eqb (length (order p)) (p .activities) h in simp (e, judgeOrder)
+
+  -- ---- the first refusal of each stage
+  abbrev pub calendarsFirst : Verdict
+  calendarsFirst = firstOf (judgeCalendar p) (p .calendars) 0
+
+  abbrev pub activitiesFirst : Verdict
+  activitiesFirst = firstOf (judgeActivity p) (p .activities) 0
+
+  abbrev pub parentsFirst : Verdict
+  parentsFirst = firstOf (judgeParent p) (p .activities) 0
+
+  abbrev pub summariesFirst : Verdict
+  summariesFirst = firstOf (judgeSummary p) (p .activities) 0
+
+  abbrev pub linksFirst : Verdict
+  linksFirst = firstOf (judgeLink p) (p .links) 0

@@ -12,6 +12,8 @@ pub mod IdLaws
 pub mod FineLaws
 pub mod ParentLaws
 pub mod TieLaws
+pub mod IgnoredLaws
 pub mod LagLaws
 pub mod LoopLaws
 pub mod ParentLoopLaws
+pub mod TwelveLaws

@@ -1,4 +1,4 @@
--- Row 12: the ids given name a loop of parents, upward from the first activity that lies on one; and which links are ignored, by ids.
+-- Loops of parents by ids and by the activities' numbers, and the one activity that row 12 is about.
 use mathlib.Core.Path.{_≡_, refl, sym, ap, _∙_}
 use mathlib.Core.Bool.{Bool, true, false, _&&_, _||_, true≢false}
 use mathlib.Core.List.{List, [], _∷_}
@@ -85,3 +85,8 @@ module _ (p : Plan) where
           let s = loop-steps-iff (parentOf p) (parent-le p parents) i l .1 o in
           ap (λ (v : Verdict). v .number) (summary-loop p i task (λ z. omega arith)),
     )
+
+    pub summary-refused : (summary p i && isMilestone (p .activity i .kind)) ≡ false → judgeSummary p i .number ≢ 0 → judgeSummary p i .number ≡ 12
+    summary-refused task n =
+        ⊎-elim (λ z. absurd (n (ap (λ (v : Verdict). v .number) (summary-passes p i task z))))
+        (λ m. ap (λ (v : Verdict). v .number) (summary-loop p i task m)) (eq-or-ne (loopSteps (parentOf p) (p .activities) i) 0)

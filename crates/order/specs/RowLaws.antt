@@ -16,6 +16,7 @@ use Rattle.order.specs.Ids.{idOf, known, parentOf, summary}
 use Rattle.order.specs.Ties.{ignored, tieTooLong, keptLinks}
 use Rattle.order.specs.Checks.{Verdict, refuse, fine, orElse, firstOf, named, refuseLoop, weekWorks, judgeCalendar, judgeActivity, judgeParent, judgeSummary, judgeLink, order, judgeOrder, beforeOrdering, checked}
 use Rattle.order.specs.VerdictLaws.{or-both, first-each}
+use Rattle.order.specs.CheckLaws.{calendarsFirst, activitiesFirst, parentsFirst, summariesFirst, linksFirst}
 
 -- ---- each check gives one of its rows
 module _ (P : Verdict → Type 0) where
@@ -134,46 +135,31 @@ module _ (p : Plan) where
   abbrev Row : Verdict → Type 0
   Row = RowTo 14
 
-  abbrev calendarsFirst : Verdict
-  calendarsFirst = firstOf (judgeCalendar p) (p .calendars) 0
-
-  abbrev activitiesFirst : Verdict
-  activitiesFirst = firstOf (judgeActivity p) (p .activities) 0
-
-  abbrev parentsFirst : Verdict
-  parentsFirst = firstOf (judgeParent p) (p .activities) 0
-
-  abbrev summariesFirst : Verdict
-  summariesFirst = firstOf (judgeSummary p) (p .activities) 0
-
-  abbrev linksFirst : Verdict
-  linksFirst = firstOf (judgeLink p) (p .links) 0
-
-  first-calendar : Row calendarsFirst
+  first-calendar : Row (calendarsFirst p)
   first-calendar =
       first-each (judgeCalendar p) (p .calendars) Row (row-fine 14)
       (λ k l. calendar-rows Row p k (row-fine 14) (row-none 14 5 (omega arith)))
 
-  first-activity : Row activitiesFirst
+  first-activity : Row (activitiesFirst p)
   first-activity =
       first-each (judgeActivity p) (p .activities) Row (row-fine 14)
       (λ i l.
       activity-rows Row p i (row-fine 14) (row-id 14 6 (idOf p i) (omega arith)) (row-id 14 7 (idOf p i) (omega arith))
       (row-none 14 8 (omega arith)) (row-id 14 9 (idOf p i) (omega arith)))
 
-  first-parent : Row parentsFirst
+  first-parent : Row (parentsFirst p)
   first-parent =
       first-each (judgeParent p) (p .activities) Row (row-fine 14)
       (λ i l. parent-rows Row p i (row-fine 14) (row-id 14 10 (idOf p i) (omega arith)))
 
-  first-summary : Row summariesFirst
+  first-summary : Row (summariesFirst p)
   first-summary =
       first-each (judgeSummary p) (p .activities) Row (row-fine 14)
       (λ i l.
       summary-rows Row p i (row-fine 14) (row-id 14 11 (idOf p i) (omega arith))
       (row-loop 14 12 (named (idOf p) (upward (parentOf p) (loopSteps (parentOf p) (p .activities) i) i)) (omega arith) (λ a b. a refl)))
 
-  first-link : Row linksFirst
+  first-link : Row (linksFirst p)
   first-link =
       first-each (judgeLink p) (p .links) Row (row-fine 14)
       (λ k l.
@@ -183,10 +169,10 @@ module _ (p : Plan) where
   pub before-rows : RowTo 14 (beforeOrdering p)
   unfolding beforeOrdering
   before-rows =
-      or-both calendarsFirst (orElse activitiesFirst (orElse parentsFirst (orElse summariesFirst linksFirst))) Row first-calendar
-      (or-both activitiesFirst (orElse parentsFirst (orElse summariesFirst linksFirst)) Row first-activity
-      (or-both parentsFirst (orElse summariesFirst linksFirst) Row first-parent
-      (or-both summariesFirst linksFirst Row first-summary first-link)))
+      or-both (calendarsFirst p) (orElse (activitiesFirst p) (orElse (parentsFirst p) (orElse (summariesFirst p) (linksFirst p)))) Row first-calendar
+      (or-both (activitiesFirst p) (orElse (parentsFirst p) (orElse (summariesFirst p) (linksFirst p))) Row first-activity
+      (or-both (parentsFirst p) (orElse (summariesFirst p) (linksFirst p)) Row first-parent
+      (or-both (summariesFirst p) (linksFirst p) Row first-summary first-link)))
 
   -- "rows 5 to 15": `checked` gives one of them, or none
   pub checked-rows : RowTo 15 (checked p)
