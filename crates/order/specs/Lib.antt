@@ -14,6 +14,7 @@ pub mod ParentLaws
 pub mod TieLaws
 pub mod IgnoredLaws
 pub mod LagLaws
+pub mod OpenLaws
 pub mod LoopLaws
 pub mod ParentLoopLaws
 pub mod TwelveLaws
