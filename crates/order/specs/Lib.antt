@@ -18,3 +18,4 @@ pub mod OpenLaws
 pub mod LoopLaws
 pub mod ParentLoopLaws
 pub mod TwelveLaws
+pub mod Examples
