@@ -1,16 +1,16 @@
 -- Each check of rows 5 to 15 by its ways, and what holds where it is fine.
-use mathlib.Core.Path.{_≡_, refl, sym, ap, _∙_}
-use mathlib.Core.Bool.{Bool, true, false, _&&_}
-use mathlib.Core.Logic.{_⊎_, ⊎-elim, _≢_, _↔_}
-use Prim.Native.Nat.{ℕ, suc, _+_, _≤_, _<_}
+use mathlib.Core.Path.{_≡_, refl, ap}
+use mathlib.Core.Bool.{true, false, _&&_}
+use mathlib.Core.Logic.{⊎-elim, _≢_, _↔_}
+use Prim.Native.Nat.{ℕ, suc, _≤_, _<_}
 use native.Mathlib.Omega.{arith}
-use borrow.Author.Tests.{eqb-true, eqb-false, eq-eqb, ne-eqb, leb-true, leb-false, le-leb, lt-leb, ltb-true, ltb-false, lt-ltb, le-ltb}
+use borrow.Author.Tests.{eq-eqb, ne-eqb, le-leb, lt-leb, lt-ltb, le-ltb}
 use lib.Dec.{eqb, ltb, leb}
 use lib.ListN.{length}
 use Rattle.number.specs.Zed.{up, dn}
 use Rattle.number.specs.Order.{cases, lt-or-le, eq-or-ne}
 use Rattle.project.specs.Status.{isMilestone}
-use Rattle.network.specs.Kahn.{kahn, namedLoop}
+use Rattle.network.specs.Kahn.{namedLoop}
 use Rattle.network.specs.Parents.{loopSteps, upward}
 use Rattle.order.specs.Plan.{Plan}
 use Rattle.order.specs.Ids.{idOf, known, parentOf, summary}

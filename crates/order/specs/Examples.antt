@@ -1,6 +1,5 @@
 -- 01's small examples of rows 5 to 15, on plans written by hand and by evaluation of the definitions.
 use mathlib.Core.Path.{_≡_, refl}
-use mathlib.Core.Bool.{true, false}
 use mathlib.Core.List.{List, [], _∷_}
 use Prim.Native.Nat.{ℕ}
 use lib.IntN.{ℤ, pos, negsuc}
@@ -198,7 +197,7 @@ pub turns-are : turns ≡ refuse 9 1 ∷ refuse 6 1 ∷ refuse 10 3 ∷ refuse 1
 unfolding turns known indexFrom indexOf parentOf parentAmong summary orElse firstOf weekWorks judgeCalendar judgeActivity judgeParent judgeSummary judgeLink beforeOrdering checked works isMilestone above climb stepsBack loopSteps upward
 turns-are = refl
 
--- open ends: both of 1 to 2, 2 to 3 but 2; with 1 a summary of 4 the link from it is ignored, and 2, 3 and 4 are open
+-- open ends: of 1 to 2 and 2 to 3 they are 1 and 3; where 1 is a summary with child 4, the link from it is ignored, and they are 2, 3 and 4
 pub open-both-ends : openEnds (plan (task 1 ∷ task 2 ∷ task 3 ∷ []) (link 1 2 ∷ link 2 3 ∷ [])) ≡ 2
 unfolding known indexFrom indexOf parentOf parentAmong summary ignored endsBelow isOpen openBelow having incoming outgoing
 open-both-ends = refl

@@ -1,11 +1,11 @@
 -- What holds of a plan that passes the checks before ordering.
-use mathlib.Core.Path.{_≡_, sym, _∙_}
-use mathlib.Core.Bool.{true, false}
+use mathlib.Core.Path.{_≡_}
+use mathlib.Core.Bool.{true}
 use mathlib.Core.Logic.{_≢_, _↔_}
 use Prim.Native.Nat.{ℕ, _<_}
 use Rattle.order.specs.Plan.{Plan}
 use Rattle.order.specs.Ids.{known}
-use Rattle.order.specs.Checks.{Verdict, orElse, firstOf, weekWorks, judgeCalendar, judgeActivity, judgeParent, judgeSummary, judgeLink, beforeOrdering}
+use Rattle.order.specs.Checks.{orElse, weekWorks, judgeCalendar, judgeActivity, judgeParent, judgeSummary, judgeLink, beforeOrdering}
 use Rattle.order.specs.VerdictLaws.{or-fine, first-fine}
 use Rattle.order.specs.IdLaws.{DistinctIds, distinct-ids}
 use Rattle.order.specs.CheckLaws.{calendarsFirst, activitiesFirst, parentsFirst, summariesFirst, linksFirst, ActivityFine, SummaryFine, LinkFine, calendar-fine, activity-fine, parent-fine, summary-fine, link-fine}

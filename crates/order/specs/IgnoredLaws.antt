@@ -1,19 +1,17 @@
 -- Which links are ignored, by ids: "ignored if an end is a summary (a parent of any activity), else kept".
-use mathlib.Core.Path.{_≡_, refl, sym, ap, _∙_}
-use mathlib.Core.Bool.{Bool, true, false, _||_, true≢false}
-use mathlib.Core.Logic.{_⊎_, inl, inr, ⊎-elim, _≢_, _↔_}
-use Prim.Native.Nat.{ℕ, suc, _<_}
-use native.Mathlib.Omega.{arith}
+use mathlib.Core.Path.{_≡_, refl, sym, _∙_}
+use mathlib.Core.Bool.{true, false, true≢false}
+use mathlib.Core.Logic.{⊎-elim, _↔_}
+use Prim.Native.Nat.{ℕ, _<_}
 use Rattle.number.specs.Order.{cases}
 use Rattle.order.specs.Plan.{Plan}
-use Rattle.order.specs.Ids.{idOf, parentOf, summary}
+use Rattle.order.specs.Ids.{idOf, summary}
 use Rattle.order.specs.Ties.{fromOf, toOf, ignored}
 use Rattle.order.specs.Checks.{beforeOrdering}
-use Rattle.order.specs.Demand.{Under, IsParent}
+use Rattle.order.specs.Demand.{IsParent}
 use Rattle.order.specs.IdLaws.{DistinctIds, index-id}
-use Rattle.order.specs.CheckLaws.{LinkFine}
-use Rattle.order.specs.FineLaws.{ParentsKnown, LinksFine, PlanFine, plan-fine, fine-distinct}
-use Rattle.order.specs.ParentLaws.{ParentIs, summary-iff, parent-is, parent-by-id}
+use Rattle.order.specs.FineLaws.{ParentsKnown, plan-fine, fine-distinct}
+use Rattle.order.specs.ParentLaws.{summary-iff, parent-is, parent-by-id}
 use Rattle.order.specs.TieLaws.{from-below, to-below}
 
 module _ (p : Plan) where

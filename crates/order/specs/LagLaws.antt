@@ -1,22 +1,24 @@
 -- The lags of kept links: within 144,000,000 minutes, and on a calendar of the plan or round the clock.
-use mathlib.Core.Path.{_≡_, refl, sym, ap, _∙_}
-use mathlib.Core.Bool.{Bool, true, false, _||_, true≢false}
-use mathlib.Core.Logic.{_⊎_, ⊎-elim, _↔_}
+use mathlib.Core.Path.{_≡_, sym, _∙_}
+use mathlib.Core.Bool.{true, false, true≢false}
+use mathlib.Core.Logic.{⊎-elim}
 use Prim.Native.Nat.{ℕ, _+_, _≤_, _<_}
 use native.Mathlib.Omega.{arith}
-use borrow.Author.Tests.{ltb-false, ltb-true, lt-ltb, le-ltb}
-use lib.Dec.{ltb}
-use lib.IntN.{ℤ}
+use borrow.Author.Tests.{ltb-false, ltb-true}
+use lib.IntN.{ℤ, pos, natAbs, _*ℤ_}
+use native.Mathlib.Nat.{mul-le-mul}
 use Rattle.number.specs.Zed.{up, dn}
+use Rattle.number.specs.ZedLaws.{abs-is}
+use Rattle.number.specs.QuotLaws.{abs-mul}
+use Rattle.number.specs.SignLaws.{percent-size}
 use Rattle.number.specs.Order.{cases}
 use Rattle.project.specs.declared.LagKind.{LagKind}
 use Rattle.project.specs.declared.LagKind.the-variants.{WorkingDays, WorkingMinutes, ElapsedDays, ElapsedMinutes, Percent}
 use Rattle.project.specs.declared.LagCalendar.{LagCalendar}
 use Rattle.project.specs.declared.LagCalendar.the-variants.{Predecessor, Successor, TwentyFourHour}
 use Rattle.order.specs.Plan.{Plan}
-use Rattle.order.specs.Lags.{beyond, minutesLimit, workingCalendar, lagCalendar, lagMinutes, lagBefore, lagTooLong}
+use Rattle.order.specs.Lags.{beyond, daysLimit, minutesLimit, workingCalendar, lagCalendar, lagMinutes, lagBefore, lagTooLong}
 use Rattle.order.specs.Ties.{fromOf, toOf, ignored, calendarOf, tieCalendar, tieTooLong, tieOf}
-use Rattle.order.specs.CheckLaws.{ActivityFine, LinkFine}
 use Rattle.order.specs.FineLaws.{ActivitiesFine, LinksFine}
 use Rattle.order.specs.TieLaws.{from-below, to-below}
 
@@ -49,6 +51,21 @@ module _ (lag : LagKind) (dayLength : ℕ) (duration : ℤ) where
       ⊎-elim (λ f. absurd (true≢false (sym (lag-long-after e f) ∙ h)))
       (λ f. not-beyond minutesLimit (lagMinutes lag dayLength duration) f) (cases (beyond minutesLimit (lagMinutes lag dayLength duration))))
       (cases (lagBefore lag))
+
+-- ---- before the last test a lag fits far within 64 bits: days by a day length, or a share of at most 48,000,000 minutes
+days-size : (n : ℤ) (d : ℕ) → up n + dn n ≤ 100000 → d ≤ 1440 → up (n *ℤ pos d) + dn (n *ℤ pos d) ≤ 144000000
+days-size n d a b =
+    let h : natAbs n ≤ 100000 = omega (arith, abs-is n) in
+    omega (arith, abs-is (n *ℤ pos d), abs-mul n (pos d), mul-le-mul h b)
+
+module _ (dayLength : ℕ) (duration : ℤ) (day : dayLength ≤ 1440) (short : up duration + dn duration ≤ 48000000) where
+  pub lag-size : (lag : LagKind) → lagBefore lag ≡ false → up (lagMinutes lag dayLength duration) + dn (lagMinutes lag dayLength duration) ≤ 4800000000
+  unfolding lagBefore lagMinutes
+  lag-size (WorkingDays n) e = omega (arith, days-size n dayLength (not-beyond daysLimit n e) day)
+  lag-size (WorkingMinutes n) e = omega (arith, not-beyond minutesLimit n e)
+  lag-size (ElapsedDays n) e = omega (arith, days-size n 1440 (not-beyond daysLimit n e) (omega arith))
+  lag-size (ElapsedMinutes n) e = omega (arith, not-beyond minutesLimit n e)
+  lag-size (Percent n) e = percent-size duration n short
 
 -- ---- the calendar
 module _ (pred succ last : ℕ) (a : pred ≤ last) (b : succ ≤ last) where

@@ -1,29 +1,26 @@
 -- Demand 3, the loops: a plan that passes the checks before ordering is refused with 15 exactly where its kept links close a loop, the ids
 -- given name such a loop, and otherwise the order is one.
 use mathlib.Core.Path.{_≡_, refl, sym, ap, _∙_}
-use mathlib.Core.Bool.{Bool, true, false, true≢false}
 use mathlib.Core.List.{List, [], _∷_}
-use mathlib.Core.Logic.{_⊎_, inl, inr, ⊎-elim, _≢_, _↔_}
+use mathlib.Core.Logic.{⊎-elim, _≢_, _↔_}
 use Prim.Native.Nat.{ℕ, zero, suc, _+_, _-_, _≤_, _<_}
 use native.Mathlib.Omega.{arith}
 use lib.ListN.{length, getD}
-use Rattle.number.specs.Order.{cases, lt-or-le, eq-or-ne}
+use Rattle.number.specs.Order.{eq-or-ne}
 use Rattle.network.specs.Links.{Link, Linked, Row, Loop, CloseLoop, Ordered}
 use Rattle.network.specs.Kahn.{namedLoop}
-use Rattle.network.specs.Pending.{Ranged}
 use Rattle.network.specs.KahnLaws.{kahn-le, kahn-iff, kahn-ordered, named-loop, named-loop-le, named-loop-below}
-use Rattle.network.specs.ParentRows.{row-places}
 use Rattle.order.specs.Plan.{Plan}
-use Rattle.order.specs.Ids.{idOf, known, indexOf}
-use Rattle.order.specs.Ties.{ignored, fromOf, toOf, keptLinks}
+use Rattle.order.specs.Ids.{idOf, indexOf}
+use Rattle.order.specs.Ties.{keptLinks}
 use Rattle.order.specs.Checks.{Verdict, refuseLoop, named, order, judgeOrder, beforeOrdering, checked}
 use Rattle.order.specs.Demand.{Steps, LoopOf, KeptLink, LoopOfIds, KeptLinksCloseLoop}
 use Rattle.order.specs.IdLaws.{index-id}
 use Rattle.order.specs.VerdictLaws.{or-first, or-second, or-fine}
-use Rattle.order.specs.CheckLaws.{LinkFine, order-whole, order-loop}
+use Rattle.order.specs.CheckLaws.{order-whole, order-loop}
 use Rattle.order.specs.RowLaws.{before-rows}
-use Rattle.order.specs.FineLaws.{LinksFine, PlanFine, plan-fine}
-use Rattle.order.specs.TieLaws.{KeptFrom, linked-kept, kept-linked, kept-ranged}
+use Rattle.order.specs.FineLaws.{LinksFine, plan-fine}
+use Rattle.order.specs.TieLaws.{linked-kept, kept-linked, kept-ranged}
 
 -- ---- rows of names
 module _ (f : ℕ → ℕ) where

@@ -1,16 +1,16 @@
 -- Open ends: a non-summary is none exactly where some kept link enters it and some kept link leaves it.
 use mathlib.Core.Path.{_≡_, refl, sym, ap, _∙_}
-use mathlib.Core.Bool.{Bool, true, false, _||_, not, _&&_, true≢false}
-use mathlib.Core.List.{List, [], _∷_}
-use mathlib.Core.Logic.{_⊎_, ⊎-elim, _≢_, _↔_}
+use mathlib.Core.Bool.{true, false, true≢false}
+use mathlib.Core.List.{List}
+use mathlib.Core.Logic.{⊎-elim, _≢_, _↔_}
 use Prim.Native.Nat.{ℕ, zero, suc, _+_, _-_, _≤_, _<_}
 use native.Mathlib.Omega.{arith}
 use native.Mathlib.Numerals.{add-one}
 use borrow.Author.Tests.{eq-eqb, ne-eqb}
 use lib.Dec.{eqb}
-use lib.ListN.{length, getD}
+use lib.ListN.{length}
 use Rattle.number.specs.Order.{cases, eq-or-ne}
-use Rattle.network.specs.Links.{Link, noLink, Linked}
+use Rattle.network.specs.Links.{Link, Linked}
 use Rattle.network.specs.Outgoing.{having, fromAt, toAt, incoming, outgoing}
 use Rattle.network.specs.OutgoingLaws.{having-end, having-hit, having-miss}
 use Rattle.order.specs.Plan.{Plan}
@@ -95,8 +95,8 @@ module _ (p : Plan) where
             simp (e, f, g, isOpen)
 
       -- "non-summaries with no kept incoming or no kept outgoing link"
-      pub shut-iff : (isOpen p i ≡ false) ↔ (((j : ℕ) × KeptFrom p j i) × ((j : ℕ) × KeptFrom p i j))
-      shut-iff = (
+      pub not-open-iff : (isOpen p i ≡ false) ↔ (((j : ℕ) × KeptFrom p j i) × ((j : ℕ) × KeptFrom p i j))
+      not-open-iff = (
         λ h.
             ⊎-elim (λ z. absurd (true≢false (sym (open-in z) ∙ h)))
             (λ n.

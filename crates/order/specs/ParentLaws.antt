@@ -1,21 +1,20 @@
 -- Parents and summaries: a parent is an activity, a summary has a child, and where no activity is refused with 12 every climb ends.
 use mathlib.Core.Path.{_≡_, refl, sym, ap, _∙_}
-use mathlib.Core.Bool.{Bool, true, false, _||_, true≢false}
-use mathlib.Core.Logic.{_⊎_, inl, inr, ⊎-elim, _≢_, _↔_}
-use Prim.Native.Nat.{ℕ, zero, suc, _+_, _-_, _≤_, _<_}
+use mathlib.Core.Bool.{true, false, true≢false}
+use mathlib.Core.Logic.{⊎-elim, _≢_, _↔_}
+use Prim.Native.Nat.{ℕ, zero, suc, _+_, _≤_, _<_}
 use native.Mathlib.Omega.{arith}
 use native.Mathlib.Numerals.{add-one}
-use borrow.Author.Tests.{eqb-true, eqb-false, eq-eqb, ne-eqb}
+use borrow.Author.Tests.{eq-eqb, ne-eqb}
 use lib.Dec.{eqb}
-use Rattle.number.specs.Order.{cases, lt-or-le, eq-or-ne}
-use Rattle.network.specs.Parents.{climb, OnLoop, loopSteps}
+use Rattle.number.specs.Order.{eq-or-ne}
+use Rattle.network.specs.Parents.{climb, OnLoop}
 use Rattle.network.specs.ParentLinks.{ParentsLoop, depth}
 use Rattle.network.specs.ParentLoops.{loop-steps-zero, climb-ends}
 use Rattle.network.specs.Depth.{Deep, depth-deep, depth-child, depth-top}
 use Rattle.order.specs.Plan.{Plan}
-use Rattle.order.specs.Ids.{idOf, known, indexOf, parentOf, parentAmong, summary}
-use Rattle.order.specs.IdLaws.{DistinctIds, has-known, index-below, index-id, index-of-id}
-use Rattle.order.specs.CheckLaws.{SummaryFine}
+use Rattle.order.specs.Ids.{idOf, indexOf, parentOf, parentAmong, summary}
+use Rattle.order.specs.IdLaws.{DistinctIds, index-below, index-id, index-of-id}
 use Rattle.order.specs.FineLaws.{ParentsKnown, SummariesFine}
 
 module _ (p : Plan) where

@@ -1,32 +1,26 @@
 -- Loops of parents by ids and by the activities' numbers, and the one activity that row 12 is about.
 use mathlib.Core.Path.{_≡_, refl, sym, ap, _∙_}
-use mathlib.Core.Bool.{Bool, true, false, _&&_, _||_, true≢false}
-use mathlib.Core.List.{List, [], _∷_}
-use mathlib.Core.Logic.{_⊎_, inl, inr, ⊎-elim, _≢_, _↔_}
-use Prim.Native.Nat.{ℕ, zero, suc, _+_, _-_, _≤_, _<_}
+use mathlib.Core.Bool.{false, _&&_}
+use mathlib.Core.List.{List}
+use mathlib.Core.Logic.{⊎-elim, _≢_, _↔_}
+use Prim.Native.Nat.{ℕ, suc, _<_}
 use native.Mathlib.Omega.{arith}
-use lib.ListN.{length, getD}
-use Rattle.number.specs.Order.{cases, lt-or-le, eq-or-ne, zero-or-pos}
+use Rattle.number.specs.Order.{cases, eq-or-ne}
 use Rattle.project.specs.Status.{isMilestone}
-use Rattle.network.specs.Links.{Linked, Loop, CloseLoop}
-use Rattle.network.specs.Kahn.{namedLoop}
+use Rattle.network.specs.Links.{Linked, Loop}
 use Rattle.network.specs.Parents.{OnLoop, loopSteps, upward}
 use Rattle.network.specs.ParentLinks.{parentLinks, ParentsLoop}
-use Rattle.network.specs.ParentLoops.{loop-steps-back, loop-steps-le, loop-steps-on, loop-steps-iff, loop-steps-zero}
-use Rattle.network.specs.ParentRows.{parent-linked, linked-parent, length-upward, upward-at, upward-loop, upward-below, parents-close-iff}
-use Rattle.network.specs.Climbing.{climb-zero}
+use Rattle.network.specs.ParentLoops.{loop-steps-on, loop-steps-iff}
+use Rattle.network.specs.ParentRows.{parent-linked, linked-parent, parents-close-iff}
 use Rattle.order.specs.Plan.{Plan}
 use Rattle.order.specs.Ids.{idOf, indexOf, parentOf, summary}
-use Rattle.order.specs.Ties.{fromOf, toOf, ignored, keptLinks}
-use Rattle.order.specs.Checks.{Verdict, fine, refuse, refuseLoop, named, orElse, firstOf, judgeCalendar, judgeActivity, judgeParent, judgeSummary, judgeLink, judgeOrder, beforeOrdering, checked}
-use Rattle.order.specs.Demand.{LoopOf, Under, LoopOfParents, ParentsCloseLoop, IsParent}
-use Rattle.order.specs.IdLaws.{DistinctIds, index-below, index-id, index-of-id}
-use Rattle.order.specs.VerdictLaws.{or-second, or-first, or-skips, or-stays, Refusal, first-cases, first-each, first-fine}
-use Rattle.order.specs.CheckLaws.{SummaryFine, LinkFine, summary-milestone, summary-loop, summary-passes, summary-fine}
-use Rattle.order.specs.RowLaws.{calendar-rows, activity-rows, parent-rows, link-rows, order-rows}
-use Rattle.order.specs.FineLaws.{ActivitiesFine, ParentsKnown, LinksFine, PlanFine, plan-fine, activities-fine, parents-fine, fine-distinct}
-use Rattle.order.specs.ParentLaws.{ParentIs, parent-of-some, summary-iff, parent-le, parent-is, parent-by-id, no-parents-loop}
-use Rattle.order.specs.LoopLaws.{named-length, named-at, named-loop-of, loop-of, of-loop}
+use Rattle.order.specs.Checks.{Verdict, refuseLoop, named, judgeSummary}
+use Rattle.order.specs.Demand.{Under, LoopOfParents, ParentsCloseLoop}
+use Rattle.order.specs.IdLaws.{DistinctIds, index-of-id}
+use Rattle.order.specs.CheckLaws.{summary-milestone, summary-loop, summary-passes}
+use Rattle.order.specs.FineLaws.{ParentsKnown}
+use Rattle.order.specs.ParentLaws.{parent-of-some, parent-le, parent-is}
+use Rattle.order.specs.LoopLaws.{named-loop-of, loop-of, of-loop}
 
 module _ (p : Plan) where
   abbrev toParents : ℕ → ℕ → Type 0
@@ -69,7 +63,7 @@ module _ (p : Plan) where
   module _ (i : ℕ) where
     pub summary-twelve : judgeSummary p i .number ≡ 12
         → (0 < loopSteps (parentOf p) (p .activities) i)
-            × (judgeSummary p i ≡ refuseLoop 12 (named (idOf p) (upward (parentOf p) (loopSteps (parentOf p) (p .activities) i) i)))
+        × (judgeSummary p i ≡ refuseLoop 12 (named (idOf p) (upward (parentOf p) (loopSteps (parentOf p) (p .activities) i) i)))
     summary-twelve e =
         ⊎-elim (λ m. absurd (omega (arith, ap (λ (v : Verdict). v .number) (summary-milestone p i m))))
         (λ task.

@@ -1,5 +1,5 @@
 -- The rows that the checks give: 5 to 15 or none, no id with 5 and 8, and ids of a loop only with 12 and 15.
-use mathlib.Core.Path.{_≡_, refl, sym, ap, _∙_}
+use mathlib.Core.Path.{_≡_, refl}
 use mathlib.Core.Bool.{Bool, true, false, _&&_}
 use mathlib.Core.List.{List, []}
 use mathlib.Core.Logic.{_≢_}
@@ -14,7 +14,7 @@ use Rattle.network.specs.Parents.{loopSteps, upward}
 use Rattle.order.specs.Plan.{Plan}
 use Rattle.order.specs.Ids.{idOf, known, parentOf, summary}
 use Rattle.order.specs.Ties.{ignored, tieTooLong, keptLinks}
-use Rattle.order.specs.Checks.{Verdict, refuse, fine, orElse, firstOf, named, refuseLoop, weekWorks, judgeCalendar, judgeActivity, judgeParent, judgeSummary, judgeLink, order, judgeOrder, beforeOrdering, checked}
+use Rattle.order.specs.Checks.{Verdict, refuse, fine, orElse, named, refuseLoop, weekWorks, judgeCalendar, judgeActivity, judgeParent, judgeSummary, judgeLink, order, judgeOrder, beforeOrdering, checked}
 use Rattle.order.specs.VerdictLaws.{or-both, first-each}
 use Rattle.order.specs.CheckLaws.{calendarsFirst, activitiesFirst, parentsFirst, summariesFirst, linksFirst}
 

@@ -1,9 +1,9 @@
 -- The kept links and the ignored ones: each link is one of the two, in rising order, and the kept ones lead from and to activities.
 use mathlib.Core.Path.{_≡_, refl, sym, ap, _∙_}
-use mathlib.Core.Bool.{Bool, true, false, _||_, true≢false}
+use mathlib.Core.Bool.{Bool, true, false, true≢false}
 use mathlib.Core.List.{List, [], _∷_, _++_}
-use mathlib.Core.Logic.{_⊎_, inl, inr, ⊎-elim, _≢_, _↔_}
-use Prim.Native.Nat.{ℕ, zero, suc, _+_, _-_, _≤_, _<_}
+use mathlib.Core.Logic.{⊎-elim, _≢_, _↔_}
+use Prim.Native.Nat.{ℕ, zero, suc, _+_, _≤_, _<_}
 use native.Mathlib.Omega.{arith}
 use native.Mathlib.Numerals.{add-one}
 use lib.ListN.{length, getD, length-append, List·getD-append}
@@ -14,7 +14,6 @@ use Rattle.network.specs.Pending.{Ranged}
 use Rattle.order.specs.Plan.{Plan}
 use Rattle.order.specs.Ties.{fromOf, toOf, ignored, keptBelow, ignoredBelow, endsBelow, keptLinks}
 use Rattle.order.specs.IdLaws.{index-below}
-use Rattle.order.specs.CheckLaws.{LinkFine}
 use Rattle.order.specs.FineLaws.{LinksFine}
 
 module _ (p : Plan) where
@@ -87,19 +86,31 @@ module _ (p : Plan) where
       (λ (e : ignored p k ≡ true).
       omega (arith, ends-length k, ap length (ends-suc-ignored k e), ap length (kept-suc-ignored k e)))
       (λ (e : ignored p k ≡ false).
-      omega (arith, ends-length k, ap length (ends-suc-kept k e) ∙ length-append (endsBelow p k) (endsOf k ∷ []),
-      ap length (kept-suc-kept k e) ∙ length-append (keptBelow p k) (k ∷ []))) (cases (ignored p k))
+      omega (
+        arith,
+        ends-length k,
+        ap length (ends-suc-kept k e) ∙ length-append (endsBelow p k) (endsOf k ∷ []),
+        ap length (kept-suc-kept k e) ∙ length-append (keptBelow p k) (k ∷ []),
+      )) (cases (ignored p k))
 
   pub kept-and-ignored : (l : ℕ) → length (keptBelow p l) + length (ignoredBelow p l) ≡ l
   kept-and-ignored zero = omega (arith, ap length kept-none, ap length ignored-none)
   kept-and-ignored (suc k) =
       ⊎-elim
       (λ (e : ignored p k ≡ true).
-      omega (arith, kept-and-ignored k, ap length (kept-suc-ignored k e),
-      ap length (ignored-suc-ignored k e) ∙ length-append (ignoredBelow p k) (k ∷ [])))
+      omega (
+        arith,
+        kept-and-ignored k,
+        ap length (kept-suc-ignored k e),
+        ap length (ignored-suc-ignored k e) ∙ length-append (ignoredBelow p k) (k ∷ []),
+      ))
       (λ (e : ignored p k ≡ false).
-      omega (arith, kept-and-ignored k, ap length (ignored-suc-kept k e),
-      ap length (kept-suc-kept k e) ∙ length-append (keptBelow p k) (k ∷ []))) (cases (ignored p k))
+      omega (
+        arith,
+        kept-and-ignored k,
+        ap length (ignored-suc-kept k e),
+        ap length (kept-suc-kept k e) ∙ length-append (keptBelow p k) (k ∷ []),
+      )) (cases (ignored p k))
 
   pub ignored-le : (l : ℕ) → length (ignoredBelow p l) ≤ l
   ignored-le l = omega (arith, kept-and-ignored l)
@@ -147,10 +158,13 @@ module _ (p : Plan) where
     where
       longer : length (xs ++ (l ∷ [])) ≡ length xs + 1
       longer = length-append xs (l ∷ [])
+
       end : (q : ℕ) → q < length (xs ++ (l ∷ [])) → length xs ≤ q → q ≡ length xs
       end q h a = omega (arith, longer)
+
       before : (q : ℕ) → q < length xs → getD (xs ++ (l ∷ [])) q 0 ≡ getD xs q 0
       before q h = List·getD-append xs (l ∷ []) 0 q h
+
       last : (q : ℕ) → q ≡ length xs → getD (xs ++ (l ∷ [])) q 0 ≡ l
       last q h = getD-at xs l [] 0 q (sym h)
 

@@ -1,27 +1,25 @@
 -- Row 12: refused so exactly where parents close a loop, which is named upward from the first activity that lies on one.
-use mathlib.Core.Path.{_≡_, refl, sym, ap, _∙_}
-use mathlib.Core.Bool.{true, false, _&&_}
-use mathlib.Core.List.{List}
-use mathlib.Core.Logic.{_⊎_, ⊎-elim, _≢_, _↔_}
-use Prim.Native.Nat.{ℕ, _+_, _-_, _≤_, _<_}
+use mathlib.Core.Path.{_≡_, sym, ap, _∙_}
+use mathlib.Core.Bool.{false, _&&_}
+use mathlib.Core.Logic.{⊎-elim, _≢_, _↔_}
+use Prim.Native.Nat.{ℕ, _+_, _≤_, _<_}
 use native.Mathlib.Omega.{arith}
 use lib.ListN.{length, getD}
-use Rattle.number.specs.Order.{eq-or-ne}
 use Rattle.project.specs.Status.{isMilestone}
 use Rattle.network.specs.Links.{Loop}
 use Rattle.network.specs.Parents.{OnLoop, loopSteps, upward}
-use Rattle.network.specs.ParentLinks.{parentLinks, ParentsLoop}
+use Rattle.network.specs.ParentLinks.{parentLinks}
 use Rattle.network.specs.ParentLoops.{loop-steps-back, loop-steps-le, loop-steps-on, loop-steps-zero}
 use Rattle.network.specs.ParentRows.{length-upward, upward-at, upward-loop, upward-below}
 use Rattle.network.specs.Climbing.{climb-zero}
 use Rattle.order.specs.Plan.{Plan}
 use Rattle.order.specs.Ids.{idOf, parentOf, summary}
-use Rattle.order.specs.Checks.{Verdict, refuseLoop, named, orElse, firstOf, judgeCalendar, judgeActivity, judgeParent, judgeSummary, judgeLink, judgeOrder, beforeOrdering, checked}
+use Rattle.order.specs.Checks.{Verdict, refuseLoop, named, orElse, judgeCalendar, judgeActivity, judgeParent, judgeSummary, judgeLink, judgeOrder, beforeOrdering, checked}
 use Rattle.order.specs.Demand.{LoopOfParents, ParentsCloseLoop}
 use Rattle.order.specs.VerdictLaws.{or-first, or-second, or-skips, or-stays, Refusal, first-cases, first-each}
-use Rattle.order.specs.CheckLaws.{calendarsFirst, activitiesFirst, parentsFirst, summariesFirst, linksFirst, SummaryFine, summary-fine}
+use Rattle.order.specs.CheckLaws.{calendarsFirst, activitiesFirst, parentsFirst, summariesFirst, linksFirst, summary-fine}
 use Rattle.order.specs.RowLaws.{calendar-rows, activity-rows, parent-rows, link-rows, order-rows}
-use Rattle.order.specs.FineLaws.{ParentsKnown, PlanFine, plan-fine, activities-fine, parents-fine, fine-distinct}
+use Rattle.order.specs.FineLaws.{ParentsKnown, plan-fine, activities-fine, parents-fine, fine-distinct}
 use Rattle.order.specs.ParentLaws.{parent-le, no-parents-loop}
 use Rattle.order.specs.LoopLaws.{named-length, named-at}
 use Rattle.order.specs.ParentLoopLaws.{parent-loop-ids, parents-close-ids, summary-twelve, summary-refused}
@@ -123,15 +121,20 @@ module _ (p : Plan) where
             (summary-fine p j .0 (refusal .first j (omega arith) l) .free);
       },
       ap (λ (v : Verdict). v .id) twelve-loop
-      ∙ named-at (idOf p) (upward (parentOf p) steps place) 0 (omega (arith, length-upward (parentOf p) steps place))
-      ∙ ap (idOf p) (omega (arith, upward-at (parentOf p) steps place 0 (omega arith), climb-zero (parentOf p) place)),
+          ∙ named-at (idOf p) (upward (parentOf p) steps place) 0 (omega (arith, length-upward (parentOf p) steps place))
+          ∙ ap (idOf p) (omega (arith, upward-at (parentOf p) steps place 0 (omega arith), climb-zero (parentOf p) place)),
     )
 
     -- there is room for it in `names`
     pub parent-loop-fits : length (checked p .loop) ≤ p .activities + 1
     parent-loop-fits =
-        omega (arith, ap (λ (v : Verdict). length (v .loop)) twelve-loop, named-length (idOf p) (upward (parentOf p) steps place),
-        length-upward (parentOf p) steps place, loop-steps-le (parentOf p) (p .activities) place)
+        omega (
+          arith,
+          ap (λ (v : Verdict). length (v .loop)) twelve-loop,
+          named-length (idOf p) (upward (parentOf p) steps place),
+          length-upward (parentOf p) steps place,
+          loop-steps-le (parentOf p) (p .activities) place,
+        )
 
     -- what holds of every activity's id, such as that it is not 0, holds of each of them
     pub parent-loop-each : (P : ℕ → Type 0) → ((i : ℕ) → i < p .activities → P (idOf p i)) → (q : ℕ) → q < length (checked p .loop)
