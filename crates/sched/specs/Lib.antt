@@ -1,3 +1,4 @@
 -- The scheduling call.
 pub mod Results
 pub mod Outcome
+pub mod Example
