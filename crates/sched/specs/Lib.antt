@@ -2,3 +2,4 @@
 pub mod Results
 pub mod Outcome
 pub mod Example
+pub mod ExampleSheet
