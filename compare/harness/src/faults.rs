@@ -1,0 +1,44 @@
+//! Shows that the corpus sees deliberate faults in copies of the Rust.
+
+use std::time::{Duration, Instant};
+
+use reference::{FAULTS, Fault};
+
+use crate::corpus::Corpus;
+use crate::oracle::{Verdict, answer, answer_by};
+
+/// A sheet that takes longer is tried only on faults not seen yet.
+const SLOW: Duration = Duration::from_millis(5);
+
+pub fn named(name: &str) -> Option<&'static Fault> {
+    FAULTS.iter().find(|f| f.name == name)
+}
+
+/// Whether the copy with the fault answers otherwise; a copy that panics does.
+pub fn sees(fault: &Fault, bytes: &[u8], verdict: &Verdict) -> bool {
+    std::panic::catch_unwind(|| answer_by(bytes, fault.schedule)).map_or(true, |found| found.answer != verdict.answer)
+}
+
+/// Prints for each fault how many sheets see it; gives how many faults none sees.
+pub fn print(corpus: &Corpus) -> std::io::Result<usize> {
+    let mut seen = vec![0usize; FAULTS.len()];
+    let mut tried = vec![0usize; FAULTS.len()];
+    corpus.each(|_, _, bytes| {
+        let begun = Instant::now();
+        let verdict = answer(bytes);
+        let slow = begun.elapsed() > SLOW;
+        if !verdict.agrees || verdict.need.is_none() {
+            return;
+        }
+        for (k, fault) in FAULTS.iter().enumerate() {
+            if !slow || seen[k] == 0 {
+                tried[k] += 1;
+                seen[k] += usize::from(sees(fault, bytes, &verdict));
+            }
+        }
+    })?;
+    for (k, fault) in FAULTS.iter().enumerate() {
+        println!("{:7} of {:6} sheets see {}: {}", seen[k], tried[k], fault.name, fault.what);
+    }
+    Ok(seen.iter().filter(|n| **n == 0).count())
+}

@@ -1,0 +1,50 @@
+//! The recorded answers: a fixed list of sheets with what `plan` prints and what names holds.
+
+use crate::cases::{FILES, cases};
+use crate::generator::{Theme, sheet};
+use crate::oracle::{Lent, PLAN_BYTES, answer};
+
+const SEED: u64 = 2026;
+const NUMBERS: usize = 5_000;
+
+/// Appends a sheet with its answer: lengths and names as u32, little-endian.
+fn append(list: &mut Vec<u8>, bytes: &[u8]) {
+    let verdict = answer(bytes);
+    let text = verdict.plan_text(bytes);
+    let answer = verdict.lent(&Lent::PLAN);
+    let names = if bytes.len() > PLAN_BYTES { &[] } else { answer.names() };
+    let number = |n: usize| (n as u32).to_le_bytes();
+    list.extend_from_slice(&number(bytes.len()));
+    list.extend_from_slice(bytes);
+    list.extend_from_slice(&number(text.len()));
+    list.extend_from_slice(text.as_bytes());
+    list.extend_from_slice(&number(names.len()));
+    names.iter().for_each(|n| list.extend_from_slice(&n.to_le_bytes()));
+}
+
+/// Whether a sheet belongs into the list: nearly all small ones, a few larger, walks to the end of the years rarely.
+fn belongs(number: usize, theme: Theme, length: usize) -> bool {
+    let rare = number.is_multiple_of(16);
+    match theme {
+        Theme::Way => number < 1_000,
+        _ if length > PLAN_BYTES => length < PLAN_BYTES + 8_000 && number < 1_000,
+        _ => length <= 800 || rare,
+    }
+}
+
+/// The hand-written cases first, then sheets of the generator.
+pub fn list() -> (Vec<u8>, usize) {
+    let (mut list, mut count) = (Vec::new(), 0);
+    for case in FILES.iter().flat_map(|(_, text)| cases(text)) {
+        append(&mut list, &case.sheet);
+        count += 1;
+    }
+    for number in 0..NUMBERS {
+        let (theme, bytes) = sheet(SEED, number);
+        if belongs(number, theme, bytes.len()) {
+            append(&mut list, &bytes);
+            count += 1;
+        }
+    }
+    (list, count)
+}
