@@ -6,5 +6,11 @@ fn main() {
         source::write_unchanged(&out.join(format!("{name}.rs")), &format!("crates/sched/src/{name}.rs"));
     }
     source::write_stand_ins(&out);
-    source::write(&out.join("modules.rs"), &format!("#[path = {:?}]\nmod unchanged;\npub use unchanged::*;\n", out.join("lib.rs")));
+    source::write(
+        &out.join("modules.rs"),
+        &format!(
+            "#[path = {:?}]\nmod unchanged;\npub use unchanged::*;\n",
+            out.join("lib.rs")
+        ),
+    );
 }

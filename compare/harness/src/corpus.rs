@@ -13,7 +13,9 @@ pub enum Corpus {
 
 impl Corpus {
     pub fn named(word: &str) -> Corpus {
-        let made = word.split_once(':').and_then(|(seed, count)| Some(Corpus::Seed(seed.parse().ok()?, count.parse().ok()?)));
+        let made = word
+            .split_once(':')
+            .and_then(|(seed, count)| Some(Corpus::Seed(seed.parse().ok()?, count.parse().ok()?)));
         made.unwrap_or_else(|| Corpus::File(word.to_string()))
     }
 

@@ -38,7 +38,10 @@ pub fn print(corpus: &Corpus) -> std::io::Result<usize> {
         }
     })?;
     for (k, fault) in FAULTS.iter().enumerate() {
-        println!("{:7} of {:6} sheets see {}: {}", seen[k], tried[k], fault.name, fault.what);
+        println!(
+            "{:7} of {:6} sheets see {}: {}",
+            seen[k], tried[k], fault.name, fault.what
+        );
     }
     Ok(seen.iter().filter(|n| **n == 0).count())
 }

@@ -55,13 +55,22 @@ pub fn sheet(seed: u64, number: usize) -> (Theme, Vec<u8>) {
             let two = [r.within(2, 15) as u8, r.within(2, 15) as u8];
             (Theme::TwoFaults, faulty(r, &two))
         }
-        40..43 => (Theme::Cut, damaged(r, |r, bytes| bytes.truncate(r.below(bytes.len() + 1)))),
+        40..43 => (
+            Theme::Cut,
+            damaged(r, |r, bytes| bytes.truncate(r.below(bytes.len() + 1))),
+        ),
         43..48 => (Theme::Flipped, damaged(r, flip)),
         48..50 => (Theme::RandomBytes, random_bytes(r)),
         50..58 | 90..98 => (Theme::Limit, encoded(r, edges::limits)),
         58 => (Theme::Large, encoded(r, |r| large(r, 500, 1_000))),
-        59 => (Theme::Large, encoded(r, |r| large(r, MAX_ACTIVITIES, if even { MAX_LINKS } else { 4_000 }))),
-        60 => (Theme::Large, encoded(r, |r| large(r, 40, if even { MAX_LINKS } else { MAX_LINKS + 1 }))),
+        59 => (
+            Theme::Large,
+            encoded(r, |r| large(r, MAX_ACTIVITIES, if even { MAX_LINKS } else { 4_000 })),
+        ),
+        60 => (
+            Theme::Large,
+            encoded(r, |r| large(r, 40, if even { MAX_LINKS } else { MAX_LINKS + 1 })),
+        ),
         61 if even => (Theme::Large, encoded(r, |r| large(r, MAX_ACTIVITIES + 1, 10))),
         62 => (Theme::Large, encoded(r, more_than_plan_lends)),
         63 | 86 => {
@@ -69,7 +78,9 @@ pub fn sheet(seed: u64, number: usize) -> (Theme, Vec<u8>) {
             (Theme::Way, encode(&records(&edges::way(r, way))))
         }
         k @ 64.. if k < 64 + fast => (Theme::Way, encode(&records(&edges::way(r, k - 64)))),
-        k @ 80.. if even && fast + k - 80 < edges::WAYS => (Theme::Way, encode(&records(&edges::way(r, fast + k - 80)))),
+        k @ 80.. if even && fast + k - 80 < edges::WAYS => {
+            (Theme::Way, encode(&records(&edges::way(r, fast + k - 80))))
+        }
         81 => (Theme::Way, encode(&records(&edges::way(r, fast + 1)))),
         87 => (Theme::Ordinary, encoded(r, |r| plan_of(r, 64))),
         88 => (Theme::Ordinary, encoded(r, |r| plan_of(r, 40))),
@@ -93,7 +104,11 @@ fn encoded(r: &mut Random, make: impl Fn(&mut Random) -> Sheet) -> Vec<u8> {
 /// One record more than the program `plan` has memory for, or some.
 fn more_than_plan_lends(r: &mut Random) -> Sheet {
     let more = 1 + r.below(60);
-    if r.percent(50) { large(r, 64 + more, 50) } else { large(r, 64, 128 + more) }
+    if r.percent(50) {
+        large(r, 64 + more, 50)
+    } else {
+        large(r, 64, 128 + more)
+    }
 }
 
 fn faulty(r: &mut Random, rows: &[u8]) -> Vec<u8> {
@@ -125,7 +140,11 @@ fn flip(r: &mut Random, bytes: &mut Vec<u8>) {
 
 /// Bytes that begin like a sheet now and then.
 fn random_bytes(r: &mut Random) -> Vec<u8> {
-    let mut bytes = if r.percent(50) { encode(&[Record::P(plan_of(r, 0).plan)]) } else { Vec::new() };
+    let mut bytes = if r.percent(50) {
+        encode(&[Record::P(plan_of(r, 0).plan)])
+    } else {
+        Vec::new()
+    };
     for _ in 0..r.below(200) {
         let any = r.next() as u8;
         bytes.push(r.pick(&[any, any, 0, b'C', b'W', b'E', b'A', b'L']));

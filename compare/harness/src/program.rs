@@ -8,7 +8,10 @@ use crate::oracle::answer;
 
 /// What a program prints for a sheet on its standard input.
 pub fn output(program: &str, sheet: &[u8]) -> std::io::Result<Vec<u8>> {
-    let mut child = Command::new(program).stdin(Stdio::piped()).stdout(Stdio::piped()).spawn()?;
+    let mut child = Command::new(program)
+        .stdin(Stdio::piped())
+        .stdout(Stdio::piped())
+        .spawn()?;
     if let Some(mut input) = child.stdin.take() {
         // A program may answer before it has read all.
         let _ = input.write_all(sheet);

@@ -19,7 +19,16 @@ pub struct Plan {
 
 impl Default for Plan {
     fn default() -> Self {
-        Plan { start: 0, data: ABSENT, must_finish: ABSENT, lag_calendar: 0, float_kind: 0, progress: 0, critical_by: 0, threshold: 0 }
+        Plan {
+            start: 0,
+            data: ABSENT,
+            must_finish: ABSENT,
+            lag_calendar: 0,
+            float_kind: 0,
+            progress: 0,
+            critical_by: 0,
+            threshold: 0,
+        }
     }
 }
 
@@ -144,8 +153,16 @@ impl Record {
                 threshold: f.i32(),
             }),
             b'C' => Record::C(f.u16()),
-            b'W' => Record::W(Hours { day: i32::from(f.u8()), from: f.u16(), to: f.u16() }),
-            b'E' => Record::E(Hours { day: f.i32(), from: f.u16(), to: f.u16() }),
+            b'W' => Record::W(Hours {
+                day: i32::from(f.u8()),
+                from: f.u16(),
+                to: f.u16(),
+            }),
+            b'E' => Record::E(Hours {
+                day: f.i32(),
+                from: f.u16(),
+                to: f.u16(),
+            }),
             b'A' => Record::A(Activity {
                 id: f.u32(),
                 kind: f.u8(),

@@ -8,8 +8,14 @@ const FOLDER: &str = "MKPERTH_SRC";
 
 /// The modules that lib.rs names and that aren't given, each with the smallest text that compiles.
 pub const STAND_INS: [(&str, &str); 10] = [
-    ("baseline", "pub enum Variance {}\npub fn variances() {}\npub fn working_days_between() {}\n"),
-    ("budget", "pub enum BudgetLine {}\npub fn budget() {}\npub fn funding() {}\npub fn spending_by_month() {}\n"),
+    (
+        "baseline",
+        "pub enum Variance {}\npub fn variances() {}\npub fn working_days_between() {}\n",
+    ),
+    (
+        "budget",
+        "pub enum BudgetLine {}\npub fn budget() {}\npub fn funding() {}\npub fn spending_by_month() {}\n",
+    ),
     (
         "costs",
         "pub enum ActualByKind {}\npub enum Cost {}\npub fn actual_by_kind() {}\npub fn costs() {}\npub fn project_cost() {}\npub fn spending() {}\n",
@@ -20,17 +26,27 @@ pub const STAND_INS: [(&str, &str); 10] = [
     ),
     ("explain", include_str!("explain.rs")),
     ("latex", "pub fn escape() {}\n"),
-    ("level", "pub enum Levelling {}\npub enum Overload {}\npub const MAX_ROUNDS: usize = 0;\npub fn level() {}\npub fn overloads() {}\n"),
-    ("pert", "pub enum PertActivity {}\npub enum PertAnalysis {}\npub fn normal() {}\npub fn pert() {}\n"),
+    (
+        "level",
+        "pub enum Levelling {}\npub enum Overload {}\npub const MAX_ROUNDS: usize = 0;\npub fn level() {}\npub fn overloads() {}\n",
+    ),
+    (
+        "pert",
+        "pub enum PertActivity {}\npub enum PertAnalysis {}\npub fn normal() {}\npub fn pert() {}\n",
+    ),
     ("together", "pub enum Link {}\npub fn schedule_together() {}\n"),
-    ("usage", "pub fn by_week() {}\npub fn capacity() {}\npub fn usage() {}\n"),
+    (
+        "usage",
+        "pub fn by_week() {}\npub fn capacity() {}\npub fn usage() {}\n",
+    ),
 ];
 
 /// A file by its path in the Rust's repository, such as `crates/sched/src/clock.rs`; the flat name
 /// `src--crates--sched--src--clock.rs.txt` does as well.
 pub fn read(path: &str) -> String {
     println!("cargo::rerun-if-env-changed={FOLDER}");
-    let folder = PathBuf::from(env::var(FOLDER).unwrap_or_else(|_| panic!("{FOLDER} must name the folder of the Rust's files")));
+    let folder =
+        PathBuf::from(env::var(FOLDER).unwrap_or_else(|_| panic!("{FOLDER} must name the folder of the Rust's files")));
     let flat = format!("src--{}.txt", path.replace('/', "--"));
     let Some(file) = [folder.join(path), folder.join(flat)].into_iter().find(|f| f.is_file()) else {
         panic!("{FOLDER} has no {path}");
@@ -48,7 +64,11 @@ pub fn out_folder() -> PathBuf {
 pub fn write_unchanged(file: &Path, path: &str) {
     let given = read(path);
     write(file, &given);
-    assert!(fs::read(file).expect("just written") == given.as_bytes(), "{} isn't the given text", file.display());
+    assert!(
+        fs::read(file).expect("just written") == given.as_bytes(),
+        "{} isn't the given text",
+        file.display()
+    );
 }
 
 pub fn write(file: &Path, text: &str) {

@@ -21,11 +21,20 @@ fn is_link(r: &Record) -> bool {
 }
 
 /// A record of this kind, put in at the end of its kind's place if there is none.
-fn some<'a>(r: &mut Random, records: &'a mut Records, kind: fn(&Record) -> bool, make: impl Fn() -> Record) -> &'a mut Record {
+fn some<'a>(
+    r: &mut Random,
+    records: &'a mut Records,
+    kind: fn(&Record) -> bool,
+    make: impl Fn() -> Record,
+) -> &'a mut Record {
     let found = places(records, kind);
     let at = if found.is_empty() {
         let made = make();
-        let at = if is_link(&made) { records.len() } else { records.iter().position(is_link).unwrap_or(records.len()) };
+        let at = if is_link(&made) {
+            records.len()
+        } else {
+            records.iter().position(is_link).unwrap_or(records.len())
+        };
         records.insert(at, made);
         at
     } else {
@@ -35,7 +44,13 @@ fn some<'a>(r: &mut Random, records: &'a mut Records, kind: fn(&Record) -> bool,
 }
 
 fn activity<'a>(r: &mut Random, records: &'a mut Records) -> &'a mut Activity {
-    match some(r, records, is_activity, || Record::A(Activity { id: 1, minutes: 480, ..Activity::default() })) {
+    match some(r, records, is_activity, || {
+        Record::A(Activity {
+            id: 1,
+            minutes: 480,
+            ..Activity::default()
+        })
+    }) {
         Record::A(a) => a,
         _ => unreachable!(),
     }
@@ -47,7 +62,14 @@ fn activities(records: &mut Records, count: u32) -> Vec<usize> {
         if places(records, is_activity).len() < count as usize {
             let id = 4_000_000_000 + k;
             let at = records.iter().position(is_link).unwrap_or(records.len());
-            records.insert(at, Record::A(Activity { id, minutes: 60, ..Activity::default() }));
+            records.insert(
+                at,
+                Record::A(Activity {
+                    id,
+                    minutes: 60,
+                    ..Activity::default()
+                }),
+            );
         }
     }
     places(records, is_activity)
@@ -63,7 +85,15 @@ fn at(records: &mut Records, place: usize) -> &mut Activity {
 fn link(r: &mut Random, records: &mut Records, predecessor: u32, successor: u32) {
     let first = records.iter().position(is_link).unwrap_or(records.len());
     let place = first + r.below(records.len() - first + 1);
-    records.insert(place, Record::L(Link { predecessor, successor, kind: r.below(4) as u8, ..Link::default() }));
+    records.insert(
+        place,
+        Record::L(Link {
+            predecessor,
+            successor,
+            kind: r.below(4) as u8,
+            ..Link::default()
+        }),
+    );
 }
 
 /// Brings about `row` (or, for what another fault hides, would).
@@ -100,7 +130,12 @@ pub fn refuse(r: &mut Random, records: &mut Records, row: u8) {
         13 => {
             let id = at_some_id(r, records);
             let unknown = r.pick(&[0, 3_999_999_999]);
-            let (p, s) = r.pick(&[(unknown, id), (id, unknown), (unknown, unknown), (unknown, 3_999_999_998)]);
+            let (p, s) = r.pick(&[
+                (unknown, id),
+                (id, unknown),
+                (unknown, unknown),
+                (unknown, 3_999_999_998),
+            ]);
             link(r, records, p, s);
         }
         14 => {
@@ -126,18 +161,42 @@ fn misplace(r: &mut Random, records: &mut Records) {
         }
         2 => records.retain(|x| !matches!(x, Record::C(_) | Record::W(_) | Record::E(_))),
         3 => records.insert(1 + r.below(length), records[0].clone()),
-        4 => records.insert(r.below(length + 1), Record::Raw(vec![r.pick(&[0u8, b'p', b'Q', b'D', 255])])),
+        4 => records.insert(
+            r.below(length + 1),
+            Record::Raw(vec![r.pick(&[0u8, b'p', b'Q', b'D', 255])]),
+        ),
         5 => {
             let mut bytes = crate::record::encode(&[records.pop().expect("a plan has a P")]);
             bytes.truncate(1 + r.below(bytes.len() - 1));
             records.push(Record::Raw(bytes));
         }
         6 => records.push(Record::C(480)),
-        7 => records.push(Record::A(Activity { id: 77, minutes: 1, ..Activity::default() })),
+        7 => records.push(Record::A(Activity {
+            id: 77,
+            minutes: 1,
+            ..Activity::default()
+        })),
         8 => {
-            let c = records.iter().rposition(|x| matches!(x, Record::C(_) | Record::W(_) | Record::E(_))).unwrap_or(0);
-            records.insert(c + 1, Record::E(Hours { day: LAST_DAY, from: 0, to: 0 }));
-            records.insert(c + 2, Record::W(Hours { day: 6, from: 1_439, to: 1_440 }));
+            let c = records
+                .iter()
+                .rposition(|x| matches!(x, Record::C(_) | Record::W(_) | Record::E(_)))
+                .unwrap_or(0);
+            records.insert(
+                c + 1,
+                Record::E(Hours {
+                    day: LAST_DAY,
+                    from: 0,
+                    to: 0,
+                }),
+            );
+            records.insert(
+                c + 2,
+                Record::W(Hours {
+                    day: 6,
+                    from: 1_439,
+                    to: 1_440,
+                }),
+            );
         }
         _ => records.insert(1, Record::W(Hours { day: 0, from: 0, to: 1 })),
     }
@@ -182,8 +241,14 @@ fn spoil(r: &mut Random, records: &mut Records) {
         21 => activity(r, records).constraints[r.below(2)] = (r.within(1, 8) as u8, bad_or_absent),
         _ => {
             let id = at_some_id(r, records);
-            let l = Link { predecessor: id, successor: id, ..Link::default() };
-            let Record::L(l) = some(r, records, is_link, || Record::L(l.clone())) else { return };
+            let l = Link {
+                predecessor: id,
+                successor: id,
+                ..Link::default()
+            };
+            let Record::L(l) = some(r, records, is_link, || Record::L(l.clone())) else {
+                return;
+            };
             match r.below(3) {
                 0 => l.kind = r.pick(&[4, 255]),
                 1 => l.basis = r.pick(&[3, 255]),
@@ -233,7 +298,10 @@ fn spoil_calendar(r: &mut Random, records: &mut Records, what: usize, bad: i32) 
         made.extend(r.pick(days).iter().copied().map(Record::E));
     }
     if cs.len() == crate::read::MAX_CALENDARS {
-        let end = records.iter().rposition(|x| matches!(x, Record::C(_) | Record::W(_) | Record::E(_))).unwrap_or(last);
+        let end = records
+            .iter()
+            .rposition(|x| matches!(x, Record::C(_) | Record::W(_) | Record::E(_)))
+            .unwrap_or(last);
         records.drain(last..=end);
         records.splice(last..last, made);
     } else {
@@ -249,14 +317,27 @@ fn exceed(r: &mut Random, records: &mut Records) {
     match r.below(3) {
         0 => (cs.len()..=crate::read::MAX_CALENDARS).for_each(|_| records.insert(end, Record::C(1_440))),
         1 => {
-            let made = (0..9).map(|k| Record::W(Hours { day: 0, from: 100 + k * 20, to: 110 + k * 20 }));
+            let made = (0..9).map(|k| {
+                Record::W(Hours {
+                    day: 0,
+                    from: 100 + k * 20,
+                    to: 110 + k * 20,
+                })
+            });
             records.splice(end..end, made);
         }
         _ => {
             // The last is out of order too: row 4 comes first.
             let first = if r.percent(50) { 0 } else { 1 };
-            let made: Vec<Record> =
-                (0..257).map(|k| Record::E(Hours { day: if k == 256 { first } else { k + 1 }, from: 0, to: 0 })).collect();
+            let made: Vec<Record> = (0..257)
+                .map(|k| {
+                    Record::E(Hours {
+                        day: if k == 256 { first } else { k + 1 },
+                        from: 0,
+                        to: 0,
+                    })
+                })
+                .collect();
             while matches!(records.get(end), Some(Record::W(_) | Record::E(_))) {
                 records.remove(end);
             }
@@ -276,7 +357,14 @@ fn empty_week(r: &mut Random, records: &mut Records) {
         records.remove(c);
     }
     if r.percent(50) && !matches!(records.get(c), Some(Record::E(_))) {
-        records.insert(c, Record::E(Hours { day: 20_000, from: 480, to: 960 }));
+        records.insert(
+            c,
+            Record::E(Hours {
+                day: 20_000,
+                from: 480,
+                to: 960,
+            }),
+        );
     }
 }
 
@@ -301,7 +389,14 @@ fn too_long(r: &mut Random, records: &mut Records) {
         }
     };
     at(records, all[0]).parent = 0;
-    let l = Link { predecessor: a, successor: b, kind: r.below(4) as u8, basis, unit, lag };
+    let l = Link {
+        predecessor: a,
+        successor: b,
+        kind: r.below(4) as u8,
+        basis,
+        unit,
+        lag,
+    };
     let first = records.iter().position(is_link).unwrap_or(records.len());
     records.insert(first, Record::L(l));
 }
