@@ -372,7 +372,7 @@ fn too_long(r: &mut Random, records: &mut Records) {
     let all = activities(records, 2);
     let (a, b) = (at(records, all[0]).id, at(records, all[1]).id);
     let sign = r.pick(&[1, -1]);
-    let (basis, unit, lag) = match r.below(5) {
+    let (basis, unit, lag) = match r.below(6) {
         0 => {
             let x = activity(r, records);
             (x.kind, x.minutes) = (0, r.pick(&[48_000_001, 144_000_001, i32::MAX]));
