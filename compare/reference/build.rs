@@ -44,6 +44,11 @@ fn main() {
         &clock,
     );
     modules += &add_copy("sited", &with_sites(&lib), &clock_with_site(&clock));
+    modules += &add_copy(
+        "other_order",
+        &source::patch(&lib, "ready.pop_front()", "ready.pop_back()", 1),
+        &clock,
+    );
     modules += "/// The deliberate faults, each in a copy of its own.\npub const FAULTS: &[Fault] = &[\n";
     let mut copies = String::new();
     for f in &FAULTS {

@@ -59,7 +59,7 @@ pub fn sheet(seed: u64, number: usize) -> (Theme, Vec<u8>) {
             Theme::Cut,
             damaged(r, |r, bytes| bytes.truncate(r.below(bytes.len() + 1))),
         ),
-        43..48 => (Theme::Flipped, damaged(r, flip)),
+        43..48 => (Theme::Flipped, damaged(r, |r, bytes| flip(r, bytes))),
         48..50 => (Theme::RandomBytes, random_bytes(r)),
         50..58 | 90..98 => (Theme::Limit, encoded(r, edges::limits)),
         58 => (Theme::Large, encoded(r, |r| large(r, 500, 1_000))),
@@ -131,7 +131,7 @@ fn damaged(r: &mut Random, damage: impl Fn(&mut Random, &mut Vec<u8>)) -> Vec<u8
     bytes
 }
 
-fn flip(r: &mut Random, bytes: &mut Vec<u8>) {
+fn flip(r: &mut Random, bytes: &mut [u8]) {
     for _ in 0..1 + r.below(3) {
         let at = r.below(bytes.len());
         bytes[at] ^= 1 << r.below(8);

@@ -59,10 +59,10 @@ fn renumber(best: &mut Vec<Record>, differs: &impl Fn(&[u8]) -> bool) {
 }
 
 /// Takes plainer values, field by field.
-fn plainer(best: &mut Vec<Record>, differs: &impl Fn(&[u8]) -> bool) {
+fn plainer(best: &mut [Record], differs: &impl Fn(&[u8]) -> bool) {
     for k in 0..best.len() {
         while let Some(record) = candidates(&best[k]).into_iter().find(|c| {
-            let mut tried = best.clone();
+            let mut tried = best.to_vec();
             tried[k] = c.clone();
             differs(&encode(&tried))
         }) {

@@ -203,10 +203,13 @@ fn accepted(sheet: &Sheet, dates: Dates) -> Answer {
             into.insert(l.successor);
         }
     }
-    let open = |i: &usize| {
-        !summary[*i] && !(into.contains(&sheet.activities[*i].id) && out_of.contains(&sheet.activities[*i].id))
-    };
-    let open_ends = (0..summary.len()).filter(open).count();
+    let linked = |id: &u32| into.contains(id) && out_of.contains(id);
+    let ends = sheet
+        .activities
+        .iter()
+        .zip(&summary)
+        .filter(|(a, summary)| !**summary && !linked(&a.id));
+    let open_ends = ends.count();
     let fields = dates
         .fields
         .iter()

@@ -6,9 +6,11 @@ use std::process::{Command, Stdio};
 use crate::corpus::Corpus;
 use crate::oracle::answer;
 
-/// What a program prints for a sheet on its standard input.
+/// What a program prints for a sheet on its standard input; words after its name are arguments.
 pub fn output(program: &str, sheet: &[u8]) -> std::io::Result<Vec<u8>> {
-    let mut child = Command::new(program)
+    let mut words = program.split_whitespace();
+    let mut child = Command::new(words.next().unwrap_or_default())
+        .args(words)
         .stdin(Stdio::piped())
         .stdout(Stdio::piped())
         .spawn()?;

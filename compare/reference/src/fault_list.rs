@@ -68,7 +68,7 @@ pub const FAULTS: [FaultPatch; 20] = [
         "lag-moment-kept",
         "no next start after a lag back",
         "else { lag.next_start(v) }",
-        "else { Ok(v) }",
+        "else { bounded(v) }",
     ),
     lib(
         "span-strict",
@@ -128,7 +128,7 @@ pub const FAULTS: [FaultPatch; 20] = [
         "loop-last-predecessor",
         "a loop along last predecessors",
         ".find(|&p| stuck(p))",
-        ".filter(|&p| stuck(p)).last()",
+        ".rfind(|&p| stuck(p))",
     ),
     clock(
         "finish-at-closing",

@@ -7,7 +7,7 @@ use std::{env, fs};
 const FOLDER: &str = "MKPERTH_SRC";
 
 /// The modules that lib.rs names and that aren't given, each with the smallest text that compiles.
-pub const STAND_INS: [(&str, &str); 10] = [
+pub const STAND_INS: [(&str, &str); 11] = [
     (
         "baseline",
         "pub enum Variance {}\npub fn variances() {}\npub fn working_days_between() {}\n",
@@ -34,6 +34,7 @@ pub const STAND_INS: [(&str, &str); 10] = [
         "pert",
         "pub enum PertActivity {}\npub enum PertAnalysis {}\npub fn normal() {}\npub fn pert() {}\n",
     ),
+    ("tests", ""),
     ("together", "pub enum Link {}\npub fn schedule_together() {}\n"),
     (
         "usage",

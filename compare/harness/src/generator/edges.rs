@@ -187,7 +187,7 @@ fn years(r: &mut Random, way: usize) -> Sheet {
         }
         // A lag into completed work: first walked backward if its predecessor isn't completed, else in free float.
         _ => {
-            let (after, completed) = (way % 2 == 0, way >= 16);
+            let (after, completed) = (way.is_multiple_of(2), way >= 16);
             let start = if after { LAST_DAY - 20 } else { FIRST_DAY + 20 };
             let mut done = task(2, 0);
             done.actual_finish = start;

@@ -224,7 +224,7 @@ fn spoil(r: &mut Random, records: &mut Records) {
         4 => p.float_kind = r.pick(&[3, 255]),
         5 => p.progress = r.pick(&[2, 255]),
         6 => p.critical_by = r.pick(&[2, 255]),
-        7..13 => return spoil_calendar(r, records, what, bad_or_absent),
+        7..13 => spoil_calendar(r, records, what, bad_or_absent),
         13..20 => {
             let a = activity(r, records);
             match what {
