@@ -10,7 +10,7 @@ use crate::read::{MAX_ACTIVITIES, MAX_LINKS, Sheet};
 use crate::record::{Record, encode};
 use plans::{large, ordinary, plan_of, records};
 use random::Random;
-use refusals::{ROWS, refuse};
+use refusals::{ROWS, one_past, refuse};
 
 /// What a sheet was made for.
 #[derive(Debug, Clone, Copy, PartialEq, Eq)]
@@ -62,6 +62,12 @@ pub fn sheet(seed: u64, number: usize) -> (Theme, Vec<u8>) {
         43..48 => (Theme::Flipped, damaged(r, |r, bytes| flip(r, bytes))),
         48..50 => (Theme::RandomBytes, random_bytes(r)),
         50..58 | 90..98 => (Theme::Limit, encoded(r, edges::limits)),
+        98..104 => {
+            let count = r.below(12);
+            let mut made = records(&plan_of(r, count));
+            one_past(r, &mut made);
+            (Theme::Limit, encode(&made))
+        }
         58 => (Theme::Large, encoded(r, |r| large(r, 500, 1_000))),
         59 => (
             Theme::Large,

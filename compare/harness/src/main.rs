@@ -21,7 +21,8 @@ compare faults CORPUS                      how many sheets see each deliberate f
 compare minimise (PROGRAM | --library | --fault NAME) [SHEET]   a smaller sheet that still differs, as text
 compare ratio ROUNDS [SHEET]               times of `schedule` and of the linked library
 compare record FILE                        writes the recorded answers
-A CORPUS is a file, or SEED:COUNT. A SHEET or TEXT that isn't named is read from standard input.
+A CORPUS is a file, SEED:COUNT, or `bytes`: a small plan cut everywhere and with every byte at every value.
+A SHEET or TEXT that isn't named is read from standard input.
 Without the feature `sched` the oracle stands in for the library.";
 
 type Outcome = Result<ExitCode, String>;

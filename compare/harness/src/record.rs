@@ -136,6 +136,19 @@ impl Fields<'_> {
 }
 
 impl Record {
+    /// Its byte of kind; none for what is no record.
+    pub fn kind(&self) -> Option<u8> {
+        Some(match self {
+            Record::P(_) => b'P',
+            Record::C(_) => b'C',
+            Record::W(_) => b'W',
+            Record::E(_) => b'E',
+            Record::A(_) => b'A',
+            Record::L(_) => b'L',
+            Record::Raw(_) => return None,
+        })
+    }
+
     /// The record at the front of `bytes` and its length; none where no whole record stands.
     pub fn first(bytes: &[u8]) -> Option<(Record, usize)> {
         let kind = *bytes.first()?;

@@ -5,14 +5,14 @@ use crate::generator::{Theme, sheet};
 use crate::oracle::{Lent, PLAN_BYTES, answer};
 
 const SEED: u64 = 2026;
-const NUMBERS: usize = 5_000;
+const NUMBERS: usize = 7_000;
 
 /// Appends a sheet with its answer: lengths and names as u32, little-endian.
 fn append(list: &mut Vec<u8>, bytes: &[u8]) {
     let verdict = answer(bytes);
     let text = verdict.plan_text(bytes);
     let answer = verdict.lent(&Lent::PLAN);
-    let names = if bytes.len() > PLAN_BYTES { &[] } else { answer.names() };
+    let names = answer.names();
     let number = |n: usize| (n as u32).to_le_bytes();
     list.extend_from_slice(&number(bytes.len()));
     list.extend_from_slice(bytes);
@@ -22,13 +22,12 @@ fn append(list: &mut Vec<u8>, bytes: &[u8]) {
     names.iter().for_each(|n| list.extend_from_slice(&n.to_le_bytes()));
 }
 
-/// Whether a sheet belongs into the list: nearly all small ones, a few larger, walks to the end of the years rarely.
+/// Whether a sheet belongs into the list: nearly all small ones, a few larger, none too big, long walks rarely.
 fn belongs(number: usize, theme: Theme, length: usize) -> bool {
-    let rare = number.is_multiple_of(16);
     match theme {
+        _ if length > PLAN_BYTES => false,
         Theme::Way => number < 1_000,
-        _ if length > PLAN_BYTES => length < PLAN_BYTES + 8_000 && number < 1_000,
-        _ => length <= 800 || rare,
+        _ => length <= 800 || number.is_multiple_of(17),
     }
 }
 

@@ -1,6 +1,6 @@
 //! What a corpus covers, item by item, with the least that each should have among 20,000 sheets.
 
-use std::collections::{BTreeMap, HashMap};
+use std::collections::BTreeMap;
 
 use reference::way_to_too_long;
 
@@ -9,7 +9,7 @@ use crate::generator::Theme;
 use crate::oracle::{Answer, Lent, PLAN_BYTES, Verdict, answer, summaries};
 use crate::project::project;
 use crate::read::{Calendar, Sheet, read};
-use crate::record::{ABSENT, Activity, FIRST_DAY, Hours, LAST_DAY, Link};
+use crate::record::{ABSENT, Activity, FIRST_DAY, Hours, LAST_DAY, Link, Record, decode};
 
 /// A sheet with all that is known of it.
 struct Seen<'a> {
@@ -17,9 +17,29 @@ struct Seen<'a> {
     bytes: &'a [u8],
     verdict: Verdict,
     sheet: Sheet,
-    /// Records counted by kind, also of a sheet that isn't read to its end.
-    records: HashMap<u8, usize>,
+    /// All records, also of a sheet that isn't read to its end.
+    records: Vec<Record>,
     summary: Vec<bool>,
+}
+
+impl Seen<'_> {
+    fn count(&self, kind: u8) -> usize {
+        self.records.iter().filter(|r| r.kind() == Some(kind)).count()
+    }
+
+    /// Whether `row` refuses the sheet and a record of it is such a one.
+    fn refused_with(&self, row: u8, holds: impl Fn(&Record) -> bool) -> bool {
+        self.verdict.answer.number() == row && self.records.iter().any(holds)
+    }
+
+    /// The most records of a calendar that `counts` takes.
+    fn most_of_a_calendar(&self, counts: impl Fn(&Record) -> bool) -> usize {
+        let calendars = self.records.split(|r| matches!(r, Record::C(_)));
+        calendars
+            .map(|c| c.iter().filter(|r| counts(r)).count())
+            .max()
+            .unwrap_or(0)
+    }
 }
 
 type Item = (String, usize, Box<dyn Fn(&Seen) -> bool>);
@@ -72,7 +92,7 @@ fn items() -> Items {
     let mut all = Items::default();
     for kind in *b"PCWEAL" {
         all.add(format!("record {}", char::from(kind)), FEATURE, move |s| {
-            s.records.contains_key(&kind)
+            s.count(kind) > 0
         });
     }
     plan_items(&mut all);
@@ -254,7 +274,44 @@ fn limit_items(all: &mut Items) {
     all.plan("16,384 L", |s| s.links.len() == 16_384);
     for (name, kind, limit) in [("16 C", b'C', 15), ("4,097 A", b'A', 4_096), ("16,385 L", b'L', 16_384)] {
         all.add(format!("{name}: row 4"), REFUSAL, move |s| {
-            s.verdict.answer.number() == 4 && s.records.get(&kind).is_some_and(|n| *n > limit)
+            s.verdict.answer.number() == 4 && s.count(kind) > limit
+        });
+    }
+    all.add("9th period of a weekday: row 4", REFUSAL, |s| {
+        let of = |d| s.most_of_a_calendar(|r| matches!(r, Record::W(h) if h.day == d));
+        s.verdict.answer.number() == 4 && (0..7).any(|d| of(d) > 8)
+    });
+    all.add("257 E: row 4", REFUSAL, |s| {
+        s.verdict.answer.number() == 4 && s.most_of_a_calendar(|r| matches!(r, Record::E(_))) > 256
+    });
+    all.add("day just outside the range: row 3", REFUSAL, |s| {
+        let outside = |day: i32| day == FIRST_DAY - 1 || day == LAST_DAY + 1;
+        s.refused_with(3, |r| match r {
+            Record::P(p) => [p.start, p.data, p.must_finish].into_iter().any(outside),
+            Record::E(h) => outside(h.day),
+            Record::A(a) => {
+                let days = [a.actual_start, a.actual_finish, a.expected_finish, a.levelled];
+                days.into_iter().chain(a.constraints.map(|c| c.1)).any(outside)
+            }
+            _ => false,
+        })
+    });
+    all.add("1,441 minutes a day: row 3", REFUSAL, |s| {
+        s.refused_with(3, |r| match r {
+            Record::C(length) => *length == 1_441,
+            Record::W(h) | Record::E(h) => h.to == 1_441,
+            _ => false,
+        })
+    });
+    all.add("task of 48,000,001: row 8", REFUSAL, |s| {
+        s.refused_with(8, |r| matches!(r, Record::A(a) if a.minutes == 48_000_001))
+    });
+    for (name, unit, lag) in [("100,001 days", 0, 100_001), ("144,000,001 minutes", 1, 144_000_001)] {
+        all.add(format!("lag of {name}: row 8"), REFUSAL, move |s| {
+            s.refused_with(
+                8,
+                |r| matches!(r, Record::L(l) if l.basis < 2 && l.unit == unit && l.lag.unsigned_abs() == lag),
+            )
         });
     }
     all.plan("first day of the range", |s| s.plan.start == FIRST_DAY);
@@ -263,10 +320,10 @@ fn limit_items(all: &mut Items) {
         s.activities.iter().any(|a| a.minutes == 48_000_000)
     });
     all.link("lag of 100,000 days", |l| {
-        l.basis < 2 && l.unit == 0 && l.lag.abs() == 100_000
+        l.basis < 2 && l.unit == 0 && l.lag.unsigned_abs() == 100_000
     });
     all.link("lag of 144,000,000 minutes", |l| {
-        l.basis < 2 && l.unit == 1 && l.lag.abs() == 144_000_000
+        l.basis < 2 && l.unit == 1 && l.lag.unsigned_abs() == 144_000_000
     });
     all.link("percent at or beyond its clamp", |l| {
         l.basis == 2 && l.lag.unsigned_abs() >= 1_000_000
@@ -293,10 +350,6 @@ pub fn print(corpus: &Corpus) -> std::io::Result<()> {
     corpus.each(|_, theme, bytes| {
         let verdict = answer(bytes);
         let sheet = read(bytes).unwrap_or_default();
-        let mut records = HashMap::new();
-        for r in crate::record::decode(bytes) {
-            *records.entry(crate::record::encode(&[r])[0]).or_default() += 1;
-        }
         if verdict.answer.number() == 8 && verdict.agrees {
             let way = way_to_too_long(&project(&sheet)).map_or("?".into(), |(pass, site)| format!("{pass}: {site}"));
             *ways.entry(way).or_default() += 1;
@@ -307,7 +360,7 @@ pub fn print(corpus: &Corpus) -> std::io::Result<()> {
             bytes,
             verdict,
             sheet,
-            records,
+            records: decode(bytes),
             summary,
         };
         sheets += 1;

@@ -147,6 +147,61 @@ pub fn refuse(r: &mut Random, records: &mut Records, row: u8) {
     }
 }
 
+/// One past a limit or a range.
+pub fn one_past(r: &mut Random, records: &mut Records) {
+    let all = activities(records, 2);
+    let (a, b) = (at(records, all[0]).id, at(records, all[1]).id);
+    all.iter().for_each(|&k| at(records, k).parent = 0);
+    match r.below(10) {
+        unit @ 0..2 => {
+            let lag = r.pick(&[1, -1]) * [100_001, 144_000_001][unit];
+            let l = Link {
+                predecessor: a,
+                successor: b,
+                kind: 0,
+                basis: r.pick(&[0, 1]),
+                unit: unit as u8,
+                lag,
+            };
+            let first = records.iter().position(is_link).unwrap_or(records.len());
+            records.insert(first, Record::L(l));
+        }
+        2..4 => {
+            let x = activity(r, records);
+            (x.kind, x.minutes) = (0, 48_000_001);
+        }
+        4..6 => {
+            let day = r.pick(&[FIRST_DAY - 1, LAST_DAY + 1]);
+            let x = activity(r, records);
+            match r.below(4) {
+                0 => x.actual_start = day,
+                1 => x.levelled = day,
+                2 => x.constraints[0] = (1, day),
+                _ => x.expected_finish = day,
+            }
+        }
+        6..8 => {
+            let c = records
+                .iter()
+                .position(|x| matches!(x, Record::C(_)))
+                .expect("a plan has a calendar");
+            if r.percent(50) {
+                records[c] = Record::C(1_441);
+            } else {
+                records.insert(
+                    c + 1,
+                    Record::W(Hours {
+                        day: 0,
+                        from: 480,
+                        to: 1_441,
+                    }),
+                );
+            }
+        }
+        _ => exceed(r, records),
+    }
+}
+
 fn at_some_id(r: &mut Random, records: &mut Records) -> u32 {
     let all = activities(records, 1);
     at(records, r.pick(&all)).id
