@@ -38,17 +38,9 @@ fn main() {
     let clock = source::patch(&clock, "use crate::ScheduleError;", "use super::ScheduleError;", 1);
 
     let mut modules = add_copy("with_times", &lib, &clock);
-    modules += &add_copy(
-        "own_lengths",
-        &source::patch(&lib, "c.day_minutes()", "crate::day_length(c)", 5),
-        &clock,
-    );
+    modules += &add_copy("own_lengths", &source::patch(&lib, "c.day_minutes()", "crate::day_length(c)", 5), &clock);
     modules += &add_copy("sited", &with_sites(&lib), &clock_with_site(&clock));
-    modules += &add_copy(
-        "other_order",
-        &source::patch(&lib, "ready.pop_front()", "ready.pop_back()", 1),
-        &clock,
-    );
+    modules += &add_copy("other_order", &source::patch(&lib, "ready.pop_front()", "ready.pop_back()", 1), &clock);
     modules += "/// The deliberate faults, each in a copy of its own.\npub const FAULTS: &[Fault] = &[\n";
     let mut copies = String::new();
     for f in &FAULTS {
@@ -58,10 +50,7 @@ fn main() {
             File::Clock => (lib.clone(), source::patch(&clock, f.old, f.new, 1)),
         };
         copies += &add_copy(&name, &lib, &clock);
-        modules += &format!(
-            "    Fault {{ name: {:?}, what: {:?}, schedule: {name}::answer }},\n",
-            f.name, f.what
-        );
+        modules += &format!("    Fault {{ name: {:?}, what: {:?}, schedule: {name}::answer }},\n", f.name, f.what);
     }
     modules += "];\n";
     source::write(&source::out_folder().join("modules.rs"), &(modules + &copies));
@@ -106,9 +95,9 @@ fn with_sites(lib: &str) -> String {
         ("    // Free float, successors", "free float"),
         ("    // The longest path: from", "longest path"),
     ];
-    passes.iter().fold(text, |t, (comment, pass)| {
-        source::patch(&t, comment, &format!("crate::enter({pass:?});\n{comment}"), 1)
-    })
+    passes
+        .iter()
+        .fold(text, |t, (comment, pass)| source::patch(&t, comment, &format!("crate::enter({pass:?});\n{comment}"), 1))
 }
 
 /// clock.rs with a walk that leaves the years marking itself.

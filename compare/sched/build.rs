@@ -8,9 +8,6 @@ fn main() {
     source::write_stand_ins(&out);
     source::write(
         &out.join("modules.rs"),
-        &format!(
-            "#[path = {:?}]\nmod unchanged;\npub use unchanged::*;\n",
-            out.join("lib.rs")
-        ),
+        &format!("#[path = {:?}]\nmod unchanged;\npub use unchanged::*;\n", out.join("lib.rs")),
     );
 }

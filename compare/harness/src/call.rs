@@ -58,22 +58,13 @@ impl Memory {
     }
 
     pub fn lent(&self) -> Lent {
-        Lent {
-            results: self.results.len(),
-            names: self.names.len(),
-            work: self.work.len(),
-        }
+        Lent { results: self.results.len(), names: self.names.len(), work: self.work.len() }
     }
 
     /// What document 01 leaves here once `answer` is given.
     pub fn take(&mut self, answer: &Answer) {
         self.answer = match answer {
-            Answer::Accepted {
-                finish,
-                fields,
-                ignored,
-                open_ends,
-            } => {
+            Answer::Accepted { finish, fields, ignored, open_ends } => {
                 vec![0, *finish, fields.len() as i64, ignored.len() as i64, *open_ends as i64]
             }
             Answer::Refused { number, id, .. } => vec![1, i64::from(*number), i64::from(*id), 0, 0],
@@ -85,22 +76,12 @@ impl Memory {
         self.names.fill(0);
         self.names[..answer.names().len()].copy_from_slice(answer.names());
         if let Answer::Accepted { fields, .. } = answer {
-            self.results
-                .iter_mut()
-                .zip(fields.iter().flatten())
-                .for_each(|(cell, value)| *cell = *value);
+            self.results.iter_mut().zip(fields.iter().flatten()).for_each(|(cell, value)| *cell = *value);
         }
     }
 
     pub fn call(&mut self, schedule: Schedule, sheet: &[u8]) {
-        invoke(
-            schedule,
-            sheet,
-            &mut self.results,
-            &mut self.names,
-            &mut self.work,
-            &mut self.answer,
-        );
+        invoke(schedule, sheet, &mut self.results, &mut self.names, &mut self.work, &mut self.answer);
     }
 }
 
@@ -156,12 +137,8 @@ pub unsafe extern "C" fn oracle_schedule(
             std::slice::from_raw_parts_mut(answer_to, answer_len),
         )
     };
-    let mut after = Memory {
-        results: results.to_vec(),
-        names: names.to_vec(),
-        work: work.to_vec(),
-        answer: answer_to.to_vec(),
-    };
+    let mut after =
+        Memory { results: results.to_vec(), names: names.to_vec(), work: work.to_vec(), answer: answer_to.to_vec() };
     after.take(&answer(sheet).lent(&after.lent()));
     results.copy_from_slice(&after.results);
     names.copy_from_slice(&after.names);

@@ -44,13 +44,7 @@ impl Case {
         let verdict: Verdict = answer(&self.sheet);
         let mut lines: Vec<String> = verdict.plan_text(&self.sheet).lines().map(String::from).collect();
         if self.expected.last().is_some_and(|l| l.starts_with("names")) {
-            lines.push(
-                verdict
-                    .answer
-                    .names()
-                    .iter()
-                    .fold("names".into(), |t, n| format!("{t} {n}")),
-            );
+            lines.push(verdict.answer.names().iter().fold("names".into(), |t, n| format!("{t} {n}")));
         }
         lines
     }

@@ -25,9 +25,8 @@ impl Corpus {
         if word == "bytes" {
             return Corpus::Bytes;
         }
-        let made = word
-            .split_once(':')
-            .and_then(|(seed, count)| Some(Corpus::Seed(seed.parse().ok()?, count.parse().ok()?)));
+        let made =
+            word.split_once(':').and_then(|(seed, count)| Some(Corpus::Seed(seed.parse().ok()?, count.parse().ok()?)));
         made.unwrap_or_else(|| Corpus::File(word.to_string()))
     }
 

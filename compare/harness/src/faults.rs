@@ -23,7 +23,8 @@ pub fn sees(fault: &Fault, bytes: &[u8], verdict: &Verdict) -> bool {
 pub fn print(corpus: &Corpus) -> std::io::Result<usize> {
     let mut seen = vec![0usize; FAULTS.len()];
     let mut tried = vec![0usize; FAULTS.len()];
-    corpus.each(|_, _, bytes| {
+    let mut first = vec![None; FAULTS.len()];
+    corpus.each(|number, _, bytes| {
         let begun = Instant::now();
         let verdict = answer(bytes);
         let slow = begun.elapsed() > SLOW;
@@ -33,15 +34,16 @@ pub fn print(corpus: &Corpus) -> std::io::Result<usize> {
         for (k, fault) in FAULTS.iter().enumerate() {
             if !slow || seen[k] == 0 {
                 tried[k] += 1;
-                seen[k] += usize::from(sees(fault, bytes, &verdict));
+                if sees(fault, bytes, &verdict) {
+                    seen[k] += 1;
+                    first[k].get_or_insert(number);
+                }
             }
         }
     })?;
     for (k, fault) in FAULTS.iter().enumerate() {
-        println!(
-            "{:7} of {:6} sheets see {}: {}",
-            seen[k], tried[k], fault.name, fault.what
-        );
+        let from = first[k].map_or("none".into(), |n| format!("first {n}"));
+        println!("{:7} of {:6} sheets ({from}) see {}: {}", seen[k], tried[k], fault.name, fault.what);
     }
     Ok(seen.iter().filter(|n| **n == 0).count())
 }

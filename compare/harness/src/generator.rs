@@ -5,6 +5,7 @@ mod edges;
 mod plans;
 mod random;
 mod refusals;
+mod sheet_faults;
 
 use crate::read::{MAX_ACTIVITIES, MAX_LINKS, Sheet};
 use crate::record::{Record, encode};
@@ -55,10 +56,7 @@ pub fn sheet(seed: u64, number: usize) -> (Theme, Vec<u8>) {
             let two = [r.within(2, 15) as u8, r.within(2, 15) as u8];
             (Theme::TwoFaults, faulty(r, &two))
         }
-        40..43 => (
-            Theme::Cut,
-            damaged(r, |r, bytes| bytes.truncate(r.below(bytes.len() + 1))),
-        ),
+        40..43 => (Theme::Cut, damaged(r, |r, bytes| bytes.truncate(r.below(bytes.len() + 1)))),
         43..48 => (Theme::Flipped, damaged(r, |r, bytes| flip(r, bytes))),
         48..50 => (Theme::RandomBytes, random_bytes(r)),
         50..58 | 90..98 => (Theme::Limit, encoded(r, edges::limits)),
@@ -69,14 +67,8 @@ pub fn sheet(seed: u64, number: usize) -> (Theme, Vec<u8>) {
             (Theme::Limit, encode(&made))
         }
         58 => (Theme::Large, encoded(r, |r| large(r, 500, 1_000))),
-        59 => (
-            Theme::Large,
-            encoded(r, |r| large(r, MAX_ACTIVITIES, if even { MAX_LINKS } else { 4_000 })),
-        ),
-        60 => (
-            Theme::Large,
-            encoded(r, |r| large(r, 40, if even { MAX_LINKS } else { MAX_LINKS + 1 })),
-        ),
+        59 => (Theme::Large, encoded(r, |r| large(r, MAX_ACTIVITIES, if even { MAX_LINKS } else { 4_000 }))),
+        60 => (Theme::Large, encoded(r, |r| large(r, 40, if even { MAX_LINKS } else { MAX_LINKS + 1 }))),
         61 if even => (Theme::Large, encoded(r, |r| large(r, MAX_ACTIVITIES + 1, 10))),
         62 => (Theme::Large, encoded(r, more_than_plan_lends)),
         63 | 86 => {
@@ -110,11 +102,7 @@ fn encoded(r: &mut Random, make: impl Fn(&mut Random) -> Sheet) -> Vec<u8> {
 /// One record more than the program `plan` has memory for, or some.
 fn more_than_plan_lends(r: &mut Random) -> Sheet {
     let more = 1 + r.below(60);
-    if r.percent(50) {
-        large(r, 64 + more, 50)
-    } else {
-        large(r, 64, 128 + more)
-    }
+    if r.percent(50) { large(r, 64 + more, 50) } else { large(r, 64, 128 + more) }
 }
 
 fn faulty(r: &mut Random, rows: &[u8]) -> Vec<u8> {
@@ -146,11 +134,7 @@ fn flip(r: &mut Random, bytes: &mut [u8]) {
 
 /// Bytes that begin like a sheet now and then.
 fn random_bytes(r: &mut Random) -> Vec<u8> {
-    let mut bytes = if r.percent(50) {
-        encode(&[Record::P(plan_of(r, 0).plan)])
-    } else {
-        Vec::new()
-    };
+    let mut bytes = if r.percent(50) { encode(&[Record::P(plan_of(r, 0).plan)]) } else { Vec::new() };
     for _ in 0..r.below(200) {
         let any = r.next() as u8;
         bytes.push(r.pick(&[any, any, 0, b'C', b'W', b'E', b'A', b'L']));

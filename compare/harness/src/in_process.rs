@@ -39,20 +39,8 @@ fn difference(schedule: Schedule, bytes: &[u8], verdict: &Verdict, lent: Lent) -
     inner(&mut expected.work).copy_from_slice(&inside.work);
     inner(&mut expected.answer).copy_from_slice(&inside.answer);
     let sheet = bytes.to_vec();
-    let Memory {
-        results,
-        names,
-        work,
-        answer,
-    } = &mut found;
-    invoke(
-        schedule,
-        &sheet,
-        inner(results),
-        inner(names),
-        inner(work),
-        inner(answer),
-    );
+    let Memory { results, names, work, answer } = &mut found;
+    invoke(schedule, &sheet, inner(results), inner(names), inner(work), inner(answer));
     if sheet != bytes {
         return Some("the sheet was written".into());
     }
@@ -69,42 +57,13 @@ fn difference(schedule: Schedule, bytes: &[u8], verdict: &Verdict, lent: Lent) -
 
 /// Calls with just enough, with more, and with each slice one short; says what differs first.
 pub fn differs(schedule: Schedule, bytes: &[u8], verdict: &Verdict) -> Option<String> {
-    let need = verdict.need.unwrap_or(Lent {
-        results: 3,
-        names: 3,
-        work: 3,
-    });
-    let more = Lent {
-        results: need.results + 17,
-        names: need.names + 5,
-        work: need.work + 9,
-    };
+    let need = verdict.need.unwrap_or(Lent { results: 3, names: 3, work: 3 });
+    let more = Lent { results: need.results + 17, names: need.names + 5, work: need.work + 9 };
     let mut tried = vec![("just enough", need), ("more", more)];
     let shorter = |what, length: usize, lent: Lent| (length > 0).then_some((what, lent));
-    tried.extend(shorter(
-        "one result short",
-        need.results,
-        Lent {
-            results: need.results.wrapping_sub(1),
-            ..need
-        },
-    ));
-    tried.extend(shorter(
-        "one name short",
-        need.names,
-        Lent {
-            names: need.names.wrapping_sub(1),
-            ..need
-        },
-    ));
-    tried.extend(shorter(
-        "one work cell short",
-        need.work,
-        Lent {
-            work: need.work.wrapping_sub(1),
-            ..need
-        },
-    ));
+    tried.extend(shorter("one result short", need.results, Lent { results: need.results.wrapping_sub(1), ..need }));
+    tried.extend(shorter("one name short", need.names, Lent { names: need.names.wrapping_sub(1), ..need }));
+    tried.extend(shorter("one work cell short", need.work, Lent { work: need.work.wrapping_sub(1), ..need }));
     tried
         .into_iter()
         .find_map(|(what, lent)| difference(schedule, bytes, verdict, lent).map(|d| format!("{what} lent: {d}")))

@@ -50,11 +50,7 @@ fn done(result: std::io::Result<()>) -> Outcome {
 fn compared(result: std::io::Result<(usize, usize, usize)>) -> Outcome {
     let (sheets, differing, apart) = result.map_err(|e| e.to_string())?;
     println!("{sheets} sheets, {apart} of them by their own day lengths, {differing} differ");
-    Ok(if differing == 0 {
-        ExitCode::SUCCESS
-    } else {
-        ExitCode::FAILURE
-    })
+    Ok(if differing == 0 { ExitCode::SUCCESS } else { ExitCode::FAILURE })
 }
 
 fn smallest(sheet: &[u8], differs: impl Fn(&[u8]) -> bool) -> Outcome {
@@ -72,10 +68,7 @@ fn run(words: &[&str]) -> Outcome {
         }
         ["answer", "--names", sheet @ ..] => {
             let answer = oracle::answer(&input(sheet)?).answer;
-            let names = answer
-                .names()
-                .iter()
-                .fold("names".to_string(), |t, n| format!("{t} {n}"));
+            let names = answer.names().iter().fold("names".to_string(), |t, n| format!("{t} {n}"));
             print(format!("{}{names}\n", answer.text()).as_bytes())
         }
         ["answer", sheet @ ..] => print(oracle::answer(&input(sheet)?).answer.text().as_bytes()),
@@ -100,21 +93,15 @@ fn run(words: &[&str]) -> Outcome {
         ["library", corpus] => compared(in_process::compare(OURS, &Corpus::named(corpus))),
         ["faults", corpus] => {
             let unseen = faults::print(&Corpus::named(corpus)).map_err(|e| e.to_string())?;
-            Ok(if unseen == 0 {
-                ExitCode::SUCCESS
-            } else {
-                ExitCode::FAILURE
-            })
+            Ok(if unseen == 0 { ExitCode::SUCCESS } else { ExitCode::FAILURE })
         }
         ["minimise", "--fault", name, sheet @ ..] => {
             let fault = faults::named(name).ok_or("no such fault")?;
-            smallest(&input(sheet)?, |bytes| {
-                faults::sees(fault, bytes, &oracle::answer(bytes))
-            })
+            smallest(&input(sheet)?, |bytes| faults::sees(fault, bytes, &oracle::answer(bytes)))
         }
-        ["minimise", "--library", sheet @ ..] => smallest(&input(sheet)?, |bytes| {
-            in_process::differs(OURS, bytes, &oracle::answer(bytes)).is_some()
-        }),
+        ["minimise", "--library", sheet @ ..] => {
+            smallest(&input(sheet)?, |bytes| in_process::differs(OURS, bytes, &oracle::answer(bytes)).is_some())
+        }
         ["minimise", name, sheet @ ..] => smallest(&input(sheet)?, |bytes| program::differs(name, bytes)),
         ["ratio", rounds, sheet @ ..] => {
             let rounds = rounds.parse().map_err(|_| USAGE)?;

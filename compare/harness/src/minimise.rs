@@ -42,10 +42,7 @@ fn remove(best: &mut Vec<Record>, differs: &impl Fn(&[u8]) -> bool) {
 
 /// Gives the activities the ids 1, 2, 3 and so on, everywhere at once.
 fn renumber(best: &mut Vec<Record>, differs: &impl Fn(&[u8]) -> bool) {
-    let ids: Vec<u32> = best
-        .iter()
-        .filter_map(|r| if let Record::A(a) = r { Some(a.id) } else { None })
-        .collect();
+    let ids: Vec<u32> = best.iter().filter_map(|r| if let Record::A(a) = r { Some(a.id) } else { None }).collect();
     let new = |id: u32| ids.iter().position(|x| *x == id).map_or(id, |k| k as u32 + 1);
     let mut tried = best.clone();
     for r in &mut tried {
@@ -73,52 +70,23 @@ fn plainer(best: &mut [Record], differs: &impl Fn(&[u8]) -> bool) {
 
 /// Nearer to 0, in few steps from any number.
 fn smaller(n: i32) -> Vec<i32> {
-    vec![
-        0,
-        n / 2,
-        n - n / 16,
-        if n.unsigned_abs() < 32 { n - n.signum() } else { n },
-    ]
+    vec![0, n / 2, n - n / 16, if n.unsigned_abs() < 32 { n - n.signum() } else { n }]
 }
 
 fn candidates(record: &Record) -> Vec<Record> {
     let mut made = Vec::new();
     match record {
         Record::P(p) => {
-            let d = Plan {
-                start: p.start,
-                ..Plan::default()
-            };
+            let d = Plan { start: p.start, ..Plan::default() };
             made.extend(
                 [
-                    Plan {
-                        data: d.data,
-                        ..p.clone()
-                    },
-                    Plan {
-                        must_finish: d.must_finish,
-                        ..p.clone()
-                    },
-                    Plan {
-                        lag_calendar: 0,
-                        ..p.clone()
-                    },
-                    Plan {
-                        float_kind: 0,
-                        ..p.clone()
-                    },
-                    Plan {
-                        progress: 0,
-                        ..p.clone()
-                    },
-                    Plan {
-                        critical_by: 0,
-                        ..p.clone()
-                    },
-                    Plan {
-                        threshold: 0,
-                        ..p.clone()
-                    },
+                    Plan { data: d.data, ..p.clone() },
+                    Plan { must_finish: d.must_finish, ..p.clone() },
+                    Plan { lag_calendar: 0, ..p.clone() },
+                    Plan { float_kind: 0, ..p.clone() },
+                    Plan { progress: 0, ..p.clone() },
+                    Plan { critical_by: 0, ..p.clone() },
+                    Plan { threshold: 0, ..p.clone() },
                 ]
                 .into_iter()
                 .map(Record::P),
@@ -130,68 +98,29 @@ fn candidates(record: &Record) -> Vec<Record> {
             made.extend(
                 [
                     Activity { kind: 0, ..a.clone() },
-                    Activity {
-                        calendar: 0,
-                        ..a.clone()
-                    },
+                    Activity { calendar: 0, ..a.clone() },
                     Activity { parent: 0, ..a.clone() },
-                    Activity {
-                        actual_start: d.actual_start,
-                        ..a.clone()
-                    },
-                    Activity {
-                        actual_finish: d.actual_finish,
-                        ..a.clone()
-                    },
-                    Activity {
-                        remaining: d.remaining,
-                        ..a.clone()
-                    },
-                    Activity {
-                        expected_finish: d.expected_finish,
-                        ..a.clone()
-                    },
-                    Activity {
-                        constraints: [(0, 0), marks[1]],
-                        ..a.clone()
-                    },
-                    Activity {
-                        constraints: [marks[0], (0, 0)],
-                        ..a.clone()
-                    },
-                    Activity {
-                        constraints: [marks[1], (0, 0)],
-                        ..a.clone()
-                    },
-                    Activity {
-                        levelled: d.levelled,
-                        ..a.clone()
-                    },
+                    Activity { actual_start: d.actual_start, ..a.clone() },
+                    Activity { actual_finish: d.actual_finish, ..a.clone() },
+                    Activity { remaining: d.remaining, ..a.clone() },
+                    Activity { expected_finish: d.expected_finish, ..a.clone() },
+                    Activity { constraints: [(0, 0), marks[1]], ..a.clone() },
+                    Activity { constraints: [marks[0], (0, 0)], ..a.clone() },
+                    Activity { constraints: [marks[1], (0, 0)], ..a.clone() },
+                    Activity { levelled: d.levelled, ..a.clone() },
                 ]
                 .into_iter()
                 .map(Record::A),
             );
-            made.extend(
-                smaller(a.minutes)
-                    .into_iter()
-                    .map(|minutes| Record::A(Activity { minutes, ..a.clone() })),
-            );
+            made.extend(smaller(a.minutes).into_iter().map(|minutes| Record::A(Activity { minutes, ..a.clone() })));
         }
         Record::L(l) => {
             made.extend(
-                [
-                    Link { kind: 0, ..l.clone() },
-                    Link { basis: 0, ..l.clone() },
-                    Link { unit: 0, ..l.clone() },
-                ]
-                .into_iter()
-                .map(Record::L),
-            );
-            made.extend(
-                smaller(l.lag)
+                [Link { kind: 0, ..l.clone() }, Link { basis: 0, ..l.clone() }, Link { unit: 0, ..l.clone() }]
                     .into_iter()
-                    .map(|lag| Record::L(Link { lag, ..l.clone() })),
+                    .map(Record::L),
             );
+            made.extend(smaller(l.lag).into_iter().map(|lag| Record::L(Link { lag, ..l.clone() })));
         }
         _ => {}
     }

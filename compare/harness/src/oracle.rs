@@ -11,26 +11,13 @@ use crate::read::{Sheet, read};
 /// What a call hands back.
 #[derive(Debug, Clone, PartialEq, Eq)]
 pub enum Answer {
-    Accepted {
-        finish: i64,
-        fields: Vec<[i64; 15]>,
-        ignored: Vec<u32>,
-        open_ends: usize,
-    },
-    Refused {
-        number: u8,
-        id: u32,
-        names: Vec<u32>,
-    },
+    Accepted { finish: i64, fields: Vec<[i64; 15]>, ignored: Vec<u32>, open_ends: usize },
+    Refused { number: u8, id: u32, names: Vec<u32> },
 }
 
 impl Answer {
     pub fn refused(number: u8) -> Answer {
-        Answer::Refused {
-            number,
-            id: 0,
-            names: Vec::new(),
-        }
+        Answer::Refused { number, id: 0, names: Vec::new() }
     }
 
     /// The row that refuses; 0 for an accepted plan.
@@ -52,12 +39,7 @@ impl Answer {
     pub fn text(&self) -> String {
         let mut text = String::new();
         match self {
-            Answer::Accepted {
-                finish,
-                fields,
-                ignored,
-                open_ends,
-            } => {
+            Answer::Accepted { finish, fields, ignored, open_ends } => {
                 let _ = writeln!(text, "plan {finish} {} {} {open_ends}", fields.len(), ignored.len());
                 for row in fields {
                     let words: Vec<String> = row.iter().map(i64::to_string).collect();
@@ -83,19 +65,11 @@ pub struct Lent {
 impl Lent {
     /// What `a` activities and `l` links need.
     pub fn need(a: usize, l: usize) -> Lent {
-        Lent {
-            results: 15 * a,
-            names: (a + 1).max(l),
-            work: 64 * a + 16 * l,
-        }
+        Lent { results: 15 * a, names: (a + 1).max(l), work: 64 * a + 16 * l }
     }
 
     /// What the program `plan` lends.
-    pub const PLAN: Lent = Lent {
-        results: 960,
-        names: 128,
-        work: 64 * 64 + 16 * 128,
-    };
+    pub const PLAN: Lent = Lent { results: 960, names: 128, work: 64 * 64 + 16 * 128 };
 
     pub fn covers(&self, need: &Lent) -> bool {
         self.results >= need.results && self.names >= need.names && self.work >= need.work
@@ -126,11 +100,7 @@ impl Verdict {
 
     /// What the program `plan` prints for the `bytes` of this sheet.
     pub fn plan_text(&self, bytes: &[u8]) -> String {
-        if bytes.len() > PLAN_BYTES {
-            "too big\n".into()
-        } else {
-            self.lent(&Lent::PLAN).text()
-        }
+        if bytes.len() > PLAN_BYTES { "too big\n".into() } else { self.lent(&Lent::PLAN).text() }
     }
 }
 
@@ -138,10 +108,7 @@ impl Verdict {
 fn run(project: &Project) -> Outcome {
     let (given, timed) = (unchanged::answer(project), with_times::answer(project));
     let untimed = timed.clone().map(|d| Dates { times: Vec::new(), ..d });
-    assert_eq!(
-        given, untimed,
-        "the copy that exposes the times differs from the text as given"
-    );
+    assert_eq!(given, untimed, "the copy that exposes the times differs from the text as given");
     timed
 }
 
@@ -155,35 +122,19 @@ pub fn answer_by(bytes: &[u8], schedule: fn(&Project) -> Outcome) -> Verdict {
     let sheet = match read(bytes) {
         Ok(sheet) => sheet,
         Err(row) => {
-            return Verdict {
-                answer: Answer::refused(row),
-                need: None,
-                agrees: true,
-            };
+            return Verdict { answer: Answer::refused(row), need: None, agrees: true };
         }
     };
     let need = Some(Lent::need(sheet.activities.len(), sheet.links.len()));
     if sheet.calendars.iter().any(|c| c.week.is_empty()) {
-        return Verdict {
-            answer: Answer::refused(5),
-            need,
-            agrees: true,
-        };
+        return Verdict { answer: Answer::refused(5), need, agrees: true };
     }
     let project = project(&sheet);
     let agrees = day_lengths_agree(&sheet, &project);
-    let outcome = if agrees {
-        schedule(&project)
-    } else {
-        own_lengths::answer(&project)
-    };
+    let outcome = if agrees { schedule(&project) } else { own_lengths::answer(&project) };
     let answer = match outcome {
         Ok(dates) => accepted(&sheet, dates),
-        Err(r) => Answer::Refused {
-            number: r.number,
-            id: r.id,
-            names: r.names,
-        },
+        Err(r) => Answer::Refused { number: r.number, id: r.id, names: r.names },
     };
     Verdict { answer, need, agrees }
 }
@@ -204,29 +155,15 @@ fn accepted(sheet: &Sheet, dates: Dates) -> Answer {
         }
     }
     let linked = |id: &u32| into.contains(id) && out_of.contains(id);
-    let ends = sheet
-        .activities
-        .iter()
-        .zip(&summary)
-        .filter(|(a, summary)| !**summary && !linked(&a.id));
+    let ends = sheet.activities.iter().zip(&summary).filter(|(a, summary)| !**summary && !linked(&a.id));
     let open_ends = ends.count();
-    let fields = dates
-        .fields
-        .iter()
-        .zip(&dates.times)
-        .zip(&summary)
-        .map(|((row, &(es, ef)), &summary)| {
-            let mut all = [0; 15];
-            all[..13].copy_from_slice(row);
-            if !summary {
-                (all[13], all[14]) = (es, ef);
-            }
-            all
-        });
-    Answer::Accepted {
-        finish: dates.finish,
-        fields: fields.collect(),
-        ignored: dates.ignored,
-        open_ends,
-    }
+    let fields = dates.fields.iter().zip(&dates.times).zip(&summary).map(|((row, &(es, ef)), &summary)| {
+        let mut all = [0; 15];
+        all[..13].copy_from_slice(row);
+        if !summary {
+            (all[13], all[14]) = (es, ef);
+        }
+        all
+    });
+    Answer::Accepted { finish: dates.finish, fields: fields.collect(), ignored: dates.ignored, open_ends }
 }

@@ -23,11 +23,7 @@ fn coded<T: Copy>(code: u8, values: &[T]) -> T {
 }
 
 fn calendar(k: usize, c: &read::Calendar) -> Calendar {
-    let mut made = Calendar {
-        name: calendar_name(k, c.day_length),
-        week: [false; 7],
-        ..Calendar::default()
-    };
+    let mut made = Calendar { name: calendar_name(k, c.day_length), week: [false; 7], ..Calendar::default() };
     for w in &c.week {
         let weekday = usize::try_from(w.day).expect("checked");
         made.week[weekday] = true;
@@ -62,14 +58,7 @@ fn activity(sheet: &Sheet, a: &record::Activity) -> Activity {
     let k = usize::from(a.calendar);
     Activity {
         id: a.id.to_string(),
-        kind: coded(
-            a.kind,
-            &[
-                ActivityKind::Task,
-                ActivityKind::StartMilestone,
-                ActivityKind::FinishMilestone,
-            ],
-        ),
+        kind: coded(a.kind, &[ActivityKind::Task, ActivityKind::StartMilestone, ActivityKind::FinishMilestone]),
         // Negative minutes are row 7, which the Rust says of days.
         duration: i64::from(a.minutes.min(0)),
         duration_minutes: (a.minutes >= 0).then_some(i64::from(a.minutes)),
@@ -81,10 +70,7 @@ fn activity(sheet: &Sheet, a: &record::Activity) -> Activity {
         secondary_constraint: constraint(a.constraints[1]),
         calendar: Some(calendar_name(k, sheet.calendars.get(k).map_or(0, |c| c.day_length))),
         parent: (a.parent != 0).then(|| a.parent.to_string()),
-        levelled: day(a.levelled).map(|start| Levelled {
-            start,
-            resource: String::new(),
-        }),
+        levelled: day(a.levelled).map(|start| Levelled { start, resource: String::new() }),
         ..Activity::default()
     }
 }
@@ -106,38 +92,19 @@ fn relationship(l: &record::Link) -> Relationship {
 
 pub fn project(sheet: &Sheet) -> Project {
     let p = &sheet.plan;
-    let mut calendars: Vec<Calendar> = sheet
-        .calendars
-        .iter()
-        .enumerate()
-        .map(|(k, c)| calendar(k, c))
-        .collect();
+    let mut calendars: Vec<Calendar> = sheet.calendars.iter().enumerate().map(|(k, c)| calendar(k, c)).collect();
     Project {
         start: date(p.start),
         calendar: calendars.remove(0),
         calendars,
         lag_calendar: coded(
             p.lag_calendar,
-            &[
-                LagCalendar::Predecessor,
-                LagCalendar::Successor,
-                LagCalendar::TwentyFourHour,
-                LagCalendar::Project,
-            ],
+            &[LagCalendar::Predecessor, LagCalendar::Successor, LagCalendar::TwentyFourHour, LagCalendar::Project],
         ),
-        float_kind: coded(
-            p.float_kind,
-            &[FloatKind::Finish, FloatKind::Start, FloatKind::Smallest],
-        ),
-        critical_by: coded(
-            p.critical_by,
-            &[CriticalBy::TotalFloat(i64::from(p.threshold)), CriticalBy::LongestPath],
-        ),
+        float_kind: coded(p.float_kind, &[FloatKind::Finish, FloatKind::Start, FloatKind::Smallest]),
+        critical_by: coded(p.critical_by, &[CriticalBy::TotalFloat(i64::from(p.threshold)), CriticalBy::LongestPath]),
         data_date: day(p.data),
-        progress_mode: coded(
-            p.progress,
-            &[ProgressMode::RetainedLogic, ProgressMode::ProgressOverride],
-        ),
+        progress_mode: coded(p.progress, &[ProgressMode::RetainedLogic, ProgressMode::ProgressOverride]),
         must_finish_by: day(p.must_finish),
         activities: sheet.activities.iter().map(|a| activity(sheet, a)).collect(),
         relationships: sheet.links.iter().map(relationship).collect(),
@@ -167,9 +134,5 @@ pub fn project(sheet: &Sheet) -> Project {
 /// Whether the Rust's `day_minutes` gives the sheet's day length on every calendar.
 pub fn day_lengths_agree(sheet: &Sheet, project: &Project) -> bool {
     let calendars = std::iter::once(&project.calendar).chain(&project.calendars);
-    sheet
-        .calendars
-        .iter()
-        .zip(calendars)
-        .all(|(c, made)| i64::from(c.day_length) == made.day_minutes())
+    sheet.calendars.iter().zip(calendars).all(|(c, made)| i64::from(c.day_length) == made.day_minutes())
 }

@@ -32,10 +32,6 @@ pub fn print(schedule: Schedule, bytes: &[u8], rounds: usize) -> Result<(), Stri
     let ours = least(rounds, || memory.call(schedule, bytes));
     let ratio = |other: Duration| other.as_secs_f64() / ours.as_secs_f64();
     println!("schedule {rust:?}, with the sheet's reading {with_reading:?}, ours {ours:?}");
-    println!(
-        "ratio {:.3}, with the sheet's reading {:.3}",
-        ratio(rust),
-        ratio(with_reading)
-    );
+    println!("ratio {:.3}, with the sheet's reading {:.3}", ratio(rust), ratio(with_reading));
     Ok(())
 }

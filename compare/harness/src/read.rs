@@ -60,10 +60,7 @@ fn is_day_or_absent(day: i32) -> bool {
 
 fn check_plan(p: &Plan) -> Result<(), u8> {
     let days = is_day(p.start) && is_day_or_absent(p.data) && is_day_or_absent(p.must_finish);
-    require(
-        3,
-        days && p.lag_calendar <= 3 && p.float_kind <= 2 && p.progress <= 1 && p.critical_by <= 1,
-    )
+    require(3, days && p.lag_calendar <= 3 && p.float_kind <= 2 && p.progress <= 1 && p.critical_by <= 1)
 }
 
 /// Hours within a day.
@@ -80,10 +77,7 @@ impl Sheet {
                 require(2, before_activities)?;
                 require(4, self.calendars.len() < MAX_CALENDARS)?;
                 require(3, day_length <= 1_440)?;
-                self.calendars.push(Calendar {
-                    day_length,
-                    ..Calendar::default()
-                });
+                self.calendars.push(Calendar { day_length, ..Calendar::default() });
             }
             Record::W(h) => {
                 require(2, before_activities)?;
@@ -91,10 +85,7 @@ impl Sheet {
                 require(2, calendar.exceptions.is_empty())?;
                 let of_weekday = calendar.week.iter().filter(|w| w.day == h.day).count();
                 require(4, h.day > 6 || of_weekday < MAX_PERIODS)?;
-                let in_order = calendar
-                    .week
-                    .last()
-                    .is_none_or(|w| w.day < h.day || (w.day == h.day && w.to <= h.from));
+                let in_order = calendar.week.last().is_none_or(|w| w.day < h.day || (w.day == h.day && w.to <= h.from));
                 require(3, h.day <= 6 && are_hours(&h) && in_order)?;
                 calendar.week.push(h);
             }
@@ -103,7 +94,6 @@ impl Sheet {
                 let calendar = self.calendars.last_mut().ok_or(2u8)?;
                 require(4, calendar.exceptions.len() < MAX_EXCEPTIONS)?;
                 let closed = h.from == 0 && h.to == 0;
-
                 let in_order = calendar
                     .exceptions
                     .last()
@@ -121,10 +111,7 @@ impl Sheet {
                     _ => false,
                 });
                 let minutes = a.kind == 0 || a.minutes == 0;
-                require(
-                    3,
-                    a.id != 0 && a.kind <= 2 && minutes && days.into_iter().all(is_day_or_absent) && marks,
-                )?;
+                require(3, a.id != 0 && a.kind <= 2 && minutes && days.into_iter().all(is_day_or_absent) && marks)?;
                 self.activities.push(a);
             }
             Record::L(l) => {

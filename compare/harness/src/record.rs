@@ -166,16 +166,8 @@ impl Record {
                 threshold: f.i32(),
             }),
             b'C' => Record::C(f.u16()),
-            b'W' => Record::W(Hours {
-                day: i32::from(f.u8()),
-                from: f.u16(),
-                to: f.u16(),
-            }),
-            b'E' => Record::E(Hours {
-                day: f.i32(),
-                from: f.u16(),
-                to: f.u16(),
-            }),
+            b'W' => Record::W(Hours { day: i32::from(f.u8()), from: f.u16(), to: f.u16() }),
+            b'E' => Record::E(Hours { day: f.i32(), from: f.u16(), to: f.u16() }),
             b'A' => Record::A(Activity {
                 id: f.u32(),
                 kind: f.u8(),

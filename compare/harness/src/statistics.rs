@@ -35,10 +35,7 @@ impl Seen<'_> {
     /// The most records of a calendar that `counts` takes.
     fn most_of_a_calendar(&self, counts: impl Fn(&Record) -> bool) -> usize {
         let calendars = self.records.split(|r| matches!(r, Record::C(_)));
-        calendars
-            .map(|c| c.iter().filter(|r| counts(r)).count())
-            .max()
-            .unwrap_or(0)
+        calendars.map(|c| c.iter().filter(|r| counts(r)).count()).max().unwrap_or(0)
     }
 }
 
@@ -58,9 +55,7 @@ impl Items {
 
     /// An item of accepted plans.
     fn plan(&mut self, name: impl Into<String>, holds: impl Fn(&Sheet) -> bool + 'static) {
-        self.add(name, FEATURE, move |s| {
-            s.verdict.answer.number() == 0 && holds(&s.sheet)
-        });
+        self.add(name, FEATURE, move |s| s.verdict.answer.number() == 0 && holds(&s.sheet));
     }
 
     fn calendar(&mut self, name: &str, holds: impl Fn(&Calendar) -> bool + 'static) {
@@ -91,29 +86,22 @@ fn weekday(day: i32) -> i32 {
 fn items() -> Items {
     let mut all = Items::default();
     for kind in *b"PCWEAL" {
-        all.add(format!("record {}", char::from(kind)), FEATURE, move |s| {
-            s.count(kind) > 0
-        });
+        all.add(format!("record {}", char::from(kind)), FEATURE, move |s| s.count(kind) > 0);
     }
     plan_items(&mut all);
     calendar_items(&mut all);
     activity_items(&mut all);
     link_items(&mut all);
-    for (name, least, agrees) in [
-        ("day lengths agree", FEATURE, true),
-        ("day lengths differ (compared apart)", FEATURE, false),
-    ] {
-        all.add(name, least, move |s| {
-            s.verdict.need.is_some() && s.verdict.agrees == agrees
-        });
+    for (name, least, agrees) in
+        [("day lengths agree", FEATURE, true), ("day lengths differ (compared apart)", FEATURE, false)]
+    {
+        all.add(name, least, move |s| s.verdict.need.is_some() && s.verdict.agrees == agrees);
     }
     for count in [0, 1, 40, 64, 500, 4_096] {
         all.plan(format!("{count} activities"), move |s| s.activities.len() == count);
     }
     for row in 2..=15 {
-        all.add(format!("refused by row {row}"), REFUSAL, move |s| {
-            s.verdict.answer.number() == row
-        });
+        all.add(format!("refused by row {row}"), REFUSAL, move |s| s.verdict.answer.number() == row);
     }
     all.add("refused by row 1 where `plan` lends", REFUSAL, |s| {
         s.bytes.len() <= PLAN_BYTES && s.verdict.lent(&Lent::PLAN).number() == 1
@@ -144,9 +132,7 @@ fn plan_items(all: &mut Items) {
     }
     all.plan("threshold not 0", |s| s.plan.critical_by == 0 && s.plan.threshold != 0);
     all.plan("data day", |s| s.plan.data != ABSENT);
-    all.plan("data day before the start", |s| {
-        s.plan.data != ABSENT && s.plan.data < s.plan.start
-    });
+    all.plan("data day before the start", |s| s.plan.data != ABSENT && s.plan.data < s.plan.start);
     all.plan("must-finish day", |s| s.plan.must_finish != ABSENT);
     all.plan("start before 1970", |s| s.plan.start < 0);
 }
@@ -156,39 +142,21 @@ fn calendar_items(all: &mut Items) {
         all.plan(format!("{count} calendars"), move |s| s.calendars.len() == count);
     }
     all.calendar("split shift", |c| (0..7).any(|d| of_day(&c.week, d) > 1));
-    all.calendar("touching hours", |c| {
-        c.week.windows(2).any(|w| w[0].day == w[1].day && w[0].to == w[1].from)
-    });
+    all.calendar("touching hours", |c| c.week.windows(2).any(|w| w[0].day == w[1].day && w[0].to == w[1].from));
     all.calendar("week to 24:00", |c| c.week.iter().any(|w| w.to == 1_440));
-    all.calendar("one minute a week", |c| {
-        c.week.iter().map(|w| w.to - w.from).sum::<u16>() == 1
-    });
-    all.calendar("closed day", |c| {
-        c.exceptions
-            .iter()
-            .any(|e| e.to == 0 && of_day(&c.week, weekday(e.day)) > 0)
-    });
-    all.calendar("extra day", |c| {
-        c.exceptions
-            .iter()
-            .any(|e| e.to > 0 && of_day(&c.week, weekday(e.day)) == 0)
-    });
+    all.calendar("one minute a week", |c| c.week.iter().map(|w| w.to - w.from).sum::<u16>() == 1);
+    all.calendar("closed day", |c| c.exceptions.iter().any(|e| e.to == 0 && of_day(&c.week, weekday(e.day)) > 0));
+    all.calendar("extra day", |c| c.exceptions.iter().any(|e| e.to > 0 && of_day(&c.week, weekday(e.day)) == 0));
     all.calendar("day with its own hours", |c| {
-        c.exceptions
-            .iter()
-            .any(|e| e.to > 0 && of_day(&c.week, weekday(e.day)) > 0)
+        c.exceptions.iter().any(|e| e.to > 0 && of_day(&c.week, weekday(e.day)) > 0)
     });
-    all.calendar("day of more than 8 periods", |c| {
-        c.exceptions.iter().any(|e| of_day(&c.exceptions, e.day) > 8)
-    });
+    all.calendar("day of more than 8 periods", |c| c.exceptions.iter().any(|e| of_day(&c.exceptions, e.day) > 8));
     all.calendar("day to 24:00", |c| c.exceptions.iter().any(|e| e.to == 1_440));
     all.calendar("day length 0", |c| c.day_length == 0);
 }
 
 fn activity_items(all: &mut Items) {
-    all.add("summary", FEATURE, |s| {
-        s.verdict.answer.number() == 0 && s.summary.contains(&true)
-    });
+    all.add("summary", FEATURE, |s| s.verdict.answer.number() == 0 && s.summary.contains(&true));
     all.add("nested summaries", FEATURE, |s| {
         let mut of = s.sheet.activities.iter().zip(&s.summary);
         s.verdict.answer.number() == 0 && of.any(|(a, &summary)| summary && a.parent != 0)
@@ -203,53 +171,30 @@ fn activity_items(all: &mut Items) {
             });
         }
     }
-    all.activity("levelled start", |a| {
-        a.levelled != ABSENT && a.actual_start == ABSENT && a.actual_finish == ABSENT
-    });
+    all.activity("levelled start", |a| a.levelled != ABSENT && a.actual_start == ABSENT && a.actual_finish == ABSENT);
     all.activity("completed", |a| a.actual_start != ABSENT && a.actual_finish != ABSENT);
-    all.activity("completed, only a finish", |a| {
-        a.actual_start == ABSENT && a.actual_finish != ABSENT
-    });
-    all.activity("completed, finish before start", |a| {
-        a.actual_finish != ABSENT && a.actual_finish < a.actual_start
-    });
+    all.activity("completed, only a finish", |a| a.actual_start == ABSENT && a.actual_finish != ABSENT);
+    all.activity("completed, finish before start", |a| a.actual_finish != ABSENT && a.actual_finish < a.actual_start);
     let in_progress = |a: &Activity| a.actual_start != ABSENT && a.actual_finish == ABSENT;
-    all.activity("in progress with remaining", move |a| {
-        in_progress(a) && a.remaining != ABSENT
-    });
-    all.activity("in progress without remaining", move |a| {
-        in_progress(a) && a.remaining == ABSENT
-    });
+    all.activity("in progress with remaining", move |a| in_progress(a) && a.remaining != ABSENT);
+    all.activity("in progress without remaining", move |a| in_progress(a) && a.remaining == ABSENT);
     all.activity("in progress, negative remaining", move |a| {
         in_progress(a) && a.remaining < 0 && a.remaining != ABSENT
     });
-    all.activity("milestone in progress with remaining", move |a| {
-        in_progress(a) && a.kind != 0 && a.remaining > 0
-    });
-    all.activity("expected finish", |a| {
-        a.kind == 0 && a.actual_finish == ABSENT && a.expected_finish != ABSENT
-    });
-    all.activity("expected finish in progress", move |a| {
-        a.kind == 0 && in_progress(a) && a.expected_finish != ABSENT
-    });
+    all.activity("milestone in progress with remaining", move |a| in_progress(a) && a.kind != 0 && a.remaining > 0);
+    all.activity("expected finish", |a| a.kind == 0 && a.actual_finish == ABSENT && a.expected_finish != ABSENT);
+    all.activity("expected finish in progress", move |a| a.kind == 0 && in_progress(a) && a.expected_finish != ABSENT);
 }
 
 fn link_items(all: &mut Items) {
     for code in 0..4 {
         all.link(format!("link type {code}"), move |l| l.kind == code);
     }
-    for (basis, unit, name) in [
-        (0, 0, "working days"),
-        (0, 1, "working minutes"),
-        (1, 0, "elapsed days"),
-        (1, 1, "elapsed minutes"),
-    ] {
-        all.link(format!("lag in {name}"), move |l| {
-            l.basis == basis && l.unit == unit && l.lag > 0
-        });
-        all.link(format!("lead in {name}"), move |l| {
-            l.basis == basis && l.unit == unit && l.lag < 0
-        });
+    for (basis, unit, name) in
+        [(0, 0, "working days"), (0, 1, "working minutes"), (1, 0, "elapsed days"), (1, 1, "elapsed minutes")]
+    {
+        all.link(format!("lag in {name}"), move |l| l.basis == basis && l.unit == unit && l.lag > 0);
+        all.link(format!("lead in {name}"), move |l| l.basis == basis && l.unit == unit && l.lag < 0);
     }
     all.link("percent lag", |l| l.basis == 2 && l.lag > 0);
     all.link("percent lead", |l| l.basis == 2 && l.lag < 0);
@@ -273,9 +218,7 @@ fn limit_items(all: &mut Items) {
     all.calendar("256 E", |c| c.exceptions.len() == 256);
     all.plan("16,384 L", |s| s.links.len() == 16_384);
     for (name, kind, limit) in [("16 C", b'C', 15), ("4,097 A", b'A', 4_096), ("16,385 L", b'L', 16_384)] {
-        all.add(format!("{name}: row 4"), REFUSAL, move |s| {
-            s.verdict.answer.number() == 4 && s.count(kind) > limit
-        });
+        all.add(format!("{name}: row 4"), REFUSAL, move |s| s.verdict.answer.number() == 4 && s.count(kind) > limit);
     }
     all.add("9th period of a weekday: row 4", REFUSAL, |s| {
         let of = |d| s.most_of_a_calendar(|r| matches!(r, Record::W(h) if h.day == d));
@@ -316,21 +259,11 @@ fn limit_items(all: &mut Items) {
     }
     all.plan("first day of the range", |s| s.plan.start == FIRST_DAY);
     all.plan("last day of the range", |s| s.plan.start == LAST_DAY);
-    all.plan("task of 48,000,000", |s| {
-        s.activities.iter().any(|a| a.minutes == 48_000_000)
-    });
-    all.link("lag of 100,000 days", |l| {
-        l.basis < 2 && l.unit == 0 && l.lag.unsigned_abs() == 100_000
-    });
-    all.link("lag of 144,000,000 minutes", |l| {
-        l.basis < 2 && l.unit == 1 && l.lag.unsigned_abs() == 144_000_000
-    });
-    all.link("percent at or beyond its clamp", |l| {
-        l.basis == 2 && l.lag.unsigned_abs() >= 1_000_000
-    });
-    all.activity("remaining at or beyond its clamp", |a| {
-        a.actual_start != ABSENT && a.remaining >= 144_000_000
-    });
+    all.plan("task of 48,000,000", |s| s.activities.iter().any(|a| a.minutes == 48_000_000));
+    all.link("lag of 100,000 days", |l| l.basis < 2 && l.unit == 0 && l.lag.unsigned_abs() == 100_000);
+    all.link("lag of 144,000,000 minutes", |l| l.basis < 2 && l.unit == 1 && l.lag.unsigned_abs() == 144_000_000);
+    all.link("percent at or beyond its clamp", |l| l.basis == 2 && l.lag.unsigned_abs() >= 1_000_000);
+    all.activity("remaining at or beyond its clamp", |a| a.actual_start != ABSENT && a.remaining >= 144_000_000);
     all.add("a time on the edge of the span", FEATURE, |s| match &s.verdict.answer {
         Answer::Accepted { fields, .. } => {
             let edge = |t: i64| t != 0 && (t - i64::from(s.sheet.plan.start) * 1_440).abs() == 288_000_000;
@@ -355,14 +288,7 @@ pub fn print(corpus: &Corpus) -> std::io::Result<()> {
             *ways.entry(way).or_default() += 1;
         }
         let summary = summaries(&sheet);
-        let seen = Seen {
-            theme,
-            bytes,
-            verdict,
-            sheet,
-            records: decode(bytes),
-            summary,
-        };
+        let seen = Seen { theme, bytes, verdict, sheet, records: decode(bytes), summary };
         sheets += 1;
         accepted += usize::from(seen.verdict.answer.number() == 0);
         for (count, (_, _, holds)) in counts.iter_mut().zip(&items.0) {
@@ -374,10 +300,7 @@ pub fn print(corpus: &Corpus) -> std::io::Result<()> {
         println!("{count:7} {name}{}", if count > least { "" } else { "  (too few)" });
     }
     for (way, count) in &ways {
-        println!(
-            "{count:7} too long, {way}{}",
-            if *count > REFUSAL { "" } else { "  (too few)" }
-        );
+        println!("{count:7} too long, {way}{}", if *count > REFUSAL { "" } else { "  (too few)" });
     }
     Ok(())
 }

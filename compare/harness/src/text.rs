@@ -27,9 +27,7 @@ const CONSTRAINTS: &[&str] = &[
 
 /// A code by its name, or its number where it has none.
 fn name(names: &[&str], code: u8) -> String {
-    names
-        .get(usize::from(code))
-        .map_or_else(|| code.to_string(), |n| n.to_string())
+    names.get(usize::from(code)).map_or_else(|| code.to_string(), |n| n.to_string())
 }
 
 fn day(day: i32) -> String {
@@ -58,11 +56,7 @@ fn line(text: &mut String, record: &Record) {
             fields.extend([
                 ("data", day(p.data), day(d.data)),
                 ("must-finish", day(p.must_finish), day(d.must_finish)),
-                (
-                    "lag-calendar",
-                    name(LAG_CALENDARS, p.lag_calendar),
-                    name(LAG_CALENDARS, 0),
-                ),
+                ("lag-calendar", name(LAG_CALENDARS, p.lag_calendar), name(LAG_CALENDARS, 0)),
                 ("float", name(FLOAT_KINDS, p.float_kind), name(FLOAT_KINDS, 0)),
                 ("progress", name(PROGRESS_MODES, p.progress), name(PROGRESS_MODES, 0)),
                 ("critical", name(CRITICAL_BY, p.critical_by), name(CRITICAL_BY, 0)),
@@ -147,10 +141,7 @@ fn parse(line: &str, records: &mut Vec<Record>) -> Result<(), String> {
     let unknown = |key: &str| Err(format!("no such field: {key}"));
     match heads {
         ["P", start] => {
-            let mut p = Plan {
-                start: parse_day(start)?,
-                ..Plan::default()
-            };
+            let mut p = Plan { start: parse_day(start)?, ..Plan::default() };
             for (key, value) in fields {
                 match key {
                     "data" => p.data = parse_day(value)?,
@@ -169,24 +160,14 @@ fn parse(line: &str, records: &mut Vec<Record>) -> Result<(), String> {
         ["W", days, from, to] => {
             let (first, last) = days.split_once('-').unwrap_or((days, days));
             for weekday in number::<u8>(first)?..=number::<u8>(last)? {
-                records.push(Record::W(Hours {
-                    day: weekday.into(),
-                    from: number(from)?,
-                    to: number(to)?,
-                }));
+                records.push(Record::W(Hours { day: weekday.into(), from: number(from)?, to: number(to)? }));
             }
         }
-        ["E", at, from, to] => records.push(Record::E(Hours {
-            day: parse_day(at)?,
-            from: number(from)?,
-            to: number(to)?,
-        })),
+        ["E", at, from, to] => {
+            records.push(Record::E(Hours { day: parse_day(at)?, from: number(from)?, to: number(to)? }))
+        }
         ["A", id, minutes] => {
-            let mut a = Activity {
-                id: number(id)?,
-                minutes: number(minutes)?,
-                ..Activity::default()
-            };
+            let mut a = Activity { id: number(id)?, minutes: number(minutes)?, ..Activity::default() };
             for (key, value) in fields {
                 match key {
                     "kind" => a.kind = code(ACTIVITY_KINDS, value)?,
@@ -206,12 +187,8 @@ fn parse(line: &str, records: &mut Vec<Record>) -> Result<(), String> {
         }
         ["L", predecessor, successor, kind] => {
             let kind = code(LINK_TYPES, kind)?;
-            let mut l = Link {
-                predecessor: number(predecessor)?,
-                successor: number(successor)?,
-                kind,
-                ..Link::default()
-            };
+            let mut l =
+                Link { predecessor: number(predecessor)?, successor: number(successor)?, kind, ..Link::default() };
             for (key, value) in fields {
                 match key {
                     "basis" => l.basis = code(BASES, value)?,

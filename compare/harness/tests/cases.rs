@@ -11,12 +11,7 @@ fn cases_hold() {
         for case in cases(text) {
             if !case.holds() {
                 failed += 1;
-                println!(
-                    "{file}, {}:\n  expected {:#?}\n  found {:#?}",
-                    case.title,
-                    case.expected,
-                    case.found()
-                );
+                println!("{file}, {}:\n  expected {:#?}\n  found {:#?}", case.title, case.expected, case.found());
             }
         }
     }

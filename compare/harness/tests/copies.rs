@@ -11,9 +11,7 @@ use reference::{FAULTS, own_lengths, sited, with_times};
 
 /// Sheets of the generator without the largest and the longest walks.
 fn sheets(count: usize) -> impl Iterator<Item = Vec<u8>> {
-    (0..count)
-        .filter(|n| !(58..62).contains(&(n % 180)) && !(76..86).contains(&(n % 180)))
-        .map(|n| sheet(5, n).1)
+    (0..count).filter(|n| !(58..62).contains(&(n % 180)) && !(76..86).contains(&(n % 180))).map(|n| sheet(5, n).1)
 }
 
 #[test]
@@ -51,9 +49,5 @@ fn every_fault_is_seen_and_its_sheet_made_small() {
             !seen
         });
     }
-    assert!(
-        unseen.is_empty(),
-        "{:?}",
-        unseen.iter().map(|f| f.name).collect::<Vec<_>>()
-    );
+    assert!(unseen.is_empty(), "{:?}", unseen.iter().map(|f| f.name).collect::<Vec<_>>());
 }

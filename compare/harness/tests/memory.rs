@@ -17,48 +17,17 @@ fn bytes(text: &str) -> Vec<u8> {
 #[test]
 fn row_1_comes_before_row_5_and_writes_nothing() {
     let sheet = bytes("P 19723\nC 480\nA 1 480\n");
-    let mut memory = Memory {
-        results: vec![9; 14],
-        names: vec![9; 2],
-        work: vec![9; 64],
-        answer: vec![9; 5],
-    };
+    let mut memory = Memory { results: vec![9; 14], names: vec![9; 2], work: vec![9; 64], answer: vec![9; 5] };
     memory.call(oracle_schedule, &sheet);
-    let expected = Memory {
-        results: vec![9; 14],
-        names: vec![9; 2],
-        work: vec![9; 64],
-        answer: vec![1, 1, 0, 0, 0],
-    };
+    let expected = Memory { results: vec![9; 14], names: vec![9; 2], work: vec![9; 64], answer: vec![1, 1, 0, 0, 0] };
     assert_eq!(memory, expected);
 }
 
 #[test]
 fn what_is_needed() {
-    assert_eq!(
-        Lent::need(1, 0),
-        Lent {
-            results: 15,
-            names: 2,
-            work: 64
-        }
-    );
-    assert_eq!(
-        Lent::need(2, 9),
-        Lent {
-            results: 30,
-            names: 9,
-            work: 272
-        }
-    );
-    assert_eq!(
-        Lent::PLAN,
-        Lent {
-            results: 960,
-            names: 128,
-            work: 6_144
-        }
-    );
+    assert_eq!(Lent::need(1, 0), Lent { results: 15, names: 2, work: 64 });
+    assert_eq!(Lent::need(2, 9), Lent { results: 30, names: 9, work: 272 });
+    assert_eq!(Lent::PLAN, Lent { results: 960, names: 128, work: 6_144 });
     assert!(Lent::PLAN.covers(&Lent::need(64, 128)));
     assert!(!Lent::PLAN.covers(&Lent::need(65, 0)));
     assert!(!Lent::PLAN.covers(&Lent::need(1, 129)));
@@ -66,12 +35,7 @@ fn what_is_needed() {
 
 #[test]
 fn accepted_refused_and_unwritten_memory() {
-    let mut memory = Memory {
-        results: vec![9; 46],
-        names: vec![9; 6],
-        work: vec![9; 250],
-        answer: vec![9; 5],
-    };
+    let mut memory = Memory { results: vec![9; 46], names: vec![9; 6], work: vec![9; 250], answer: vec![9; 5] };
     memory.call(oracle_schedule, &bytes(PLAN));
     assert_eq!(memory.answer, [0, 19_725, 3, 1, 2]);
     assert_eq!(memory.names, [0; 6], "link 0 is ignored, then zeros");
@@ -79,10 +43,7 @@ fn accepted_refused_and_unwritten_memory() {
     assert!(memory.work.iter().all(|w| *w == 0));
     memory.results.fill(9);
     memory.call(oracle_schedule, &bytes(LOOP));
-    assert_eq!(
-        (&memory.answer[..], &memory.names[..]),
-        (&[1, 15, 2, 0, 0][..], &[2, 1, 2, 0, 0, 0][..])
-    );
+    assert_eq!((&memory.answer[..], &memory.names[..]), (&[1, 15, 2, 0, 0][..], &[2, 1, 2, 0, 0, 0][..]));
     assert!(memory.results.iter().all(|r| *r == 9));
 }
 
@@ -90,11 +51,7 @@ fn accepted_refused_and_unwritten_memory() {
 fn the_oracle_behind_the_c_form_passes() {
     for number in (0..720).filter(|n| !(58..90).contains(&(n % 180))) {
         let (_, bytes) = sheet(11, number);
-        assert_eq!(
-            differs(oracle_schedule, &bytes, &answer(&bytes)),
-            None,
-            "sheet {number}"
-        );
+        assert_eq!(differs(oracle_schedule, &bytes, &answer(&bytes)), None, "sheet {number}");
     }
 }
 
@@ -123,21 +80,8 @@ macro_rules! spoilt {
                 let names_in = std::slice::from_raw_parts_mut(names, names_len);
                 let work_in = std::slice::from_raw_parts_mut(work, work_len);
                 let answer_in = std::slice::from_raw_parts_mut(answer, answer_len);
-                invoke(
-                    oracle_schedule,
-                    sheet_in,
-                    results_in,
-                    names_in,
-                    work_in,
-                    answer_in,
-                );
-                spoil(
-                    sheet.cast_mut(),
-                    (results, results_len),
-                    (names, names_len),
-                    (work, work_len),
-                    answer_in,
-                );
+                invoke(oracle_schedule, sheet_in, results_in, names_in, work_in, answer_in);
+                spoil(sheet.cast_mut(), (results, results_len), (names, names_len), (work, work_len), answer_in);
             }
         }
     };

@@ -7,9 +7,7 @@ use reference::other_order;
 
 /// Sheets of the generator without the largest and the longest walks.
 fn sheets(count: usize) -> impl Iterator<Item = Vec<u8>> {
-    (0..count)
-        .filter(|n| !(58..62).contains(&(n % 180)) && !(76..86).contains(&(n % 180)))
-        .map(|n| sheet(6, n).1)
+    (0..count).filter(|n| !(58..62).contains(&(n % 180)) && !(76..86).contains(&(n % 180))).map(|n| sheet(6, n).1)
 }
 
 #[test]

@@ -89,28 +89,16 @@ macro_rules! adapter {
         pub fn answer(project: &mkperth_core::Project) -> $crate::Outcome {
             use $copy::{ScheduleError as E, Status};
             let id = |s: &String| s.parse::<u32>().expect("ids are numbers");
-            let refused = |number, s: &String| $crate::Refusal {
-                number,
-                id: id(s),
-                names: Vec::new(),
-            };
+            let refused = |number, s: &String| $crate::Refusal { number, id: id(s), names: Vec::new() };
             let looped = |number, ids: &[String]| {
                 let names: Vec<u32> = ids.iter().map(id).collect();
-                $crate::Refusal {
-                    number,
-                    id: names[0],
-                    names,
-                }
+                $crate::Refusal { number, id: names[0], names }
             };
             $crate::TIMES.take();
             let s = $copy::schedule(project).map_err(|e| match e {
                 E::DuplicateActivity(a) => refused(6, &a),
                 E::NegativeDuration(a) => refused(7, &a),
-                E::TooLong => $crate::Refusal {
-                    number: 8,
-                    id: 0,
-                    names: Vec::new(),
-                },
+                E::TooLong => $crate::Refusal { number: 8, id: 0, names: Vec::new() },
                 E::UnknownCalendar(a, _) => refused(9, &a),
                 E::UnknownParent(a, _) => refused(10, &a),
                 E::MilestoneParent(a) => refused(11, &a),
@@ -143,17 +131,8 @@ macro_rules! adapter {
                     a.remaining_minutes,
                 ]
             });
-            let ignored = s
-                .ignored
-                .iter()
-                .map(|&k| u32::try_from(k).expect("links are few"))
-                .collect();
-            Ok($crate::Dates {
-                finish: day(s.finish),
-                ignored,
-                fields: fields.collect(),
-                times: $crate::TIMES.take(),
-            })
+            let ignored = s.ignored.iter().map(|&k| u32::try_from(k).expect("links are few")).collect();
+            Ok($crate::Dates { finish: day(s.finish), ignored, fields: fields.collect(), times: $crate::TIMES.take() })
         }
     };
 }

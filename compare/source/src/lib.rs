@@ -17,14 +17,8 @@ const FINGERPRINTS: [(&str, u64); 5] = [
 
 /// The modules that lib.rs names and that aren't given, each with the smallest text that compiles.
 pub const STAND_INS: [(&str, &str); 11] = [
-    (
-        "baseline",
-        "pub enum Variance {}\npub fn variances() {}\npub fn working_days_between() {}\n",
-    ),
-    (
-        "budget",
-        "pub enum BudgetLine {}\npub fn budget() {}\npub fn funding() {}\npub fn spending_by_month() {}\n",
-    ),
+    ("baseline", "pub enum Variance {}\npub fn variances() {}\npub fn working_days_between() {}\n"),
+    ("budget", "pub enum BudgetLine {}\npub fn budget() {}\npub fn funding() {}\npub fn spending_by_month() {}\n"),
     (
         "costs",
         "pub enum ActualByKind {}\npub enum Cost {}\npub fn actual_by_kind() {}\npub fn costs() {}\npub fn project_cost() {}\npub fn spending() {}\n",
@@ -39,16 +33,10 @@ pub const STAND_INS: [(&str, &str); 11] = [
         "level",
         "pub enum Levelling {}\npub enum Overload {}\npub const MAX_ROUNDS: usize = 0;\npub fn level() {}\npub fn overloads() {}\n",
     ),
-    (
-        "pert",
-        "pub enum PertActivity {}\npub enum PertAnalysis {}\npub fn normal() {}\npub fn pert() {}\n",
-    ),
+    ("pert", "pub enum PertActivity {}\npub enum PertAnalysis {}\npub fn normal() {}\npub fn pert() {}\n"),
     ("tests", ""),
     ("together", "pub enum Link {}\npub fn schedule_together() {}\n"),
-    (
-        "usage",
-        "pub fn by_week() {}\npub fn capacity() {}\npub fn usage() {}\n",
-    ),
+    ("usage", "pub fn by_week() {}\npub fn capacity() {}\npub fn usage() {}\n"),
 ];
 
 /// A file by its path in the Rust's repository, such as `crates/sched/src/clock.rs`; the flat name
@@ -70,9 +58,7 @@ pub fn read(path: &str) -> String {
 }
 
 fn fingerprint(bytes: &[u8]) -> u64 {
-    bytes.iter().fold(0xcbf2_9ce4_8422_2325, |h, b| {
-        (h ^ u64::from(*b)).wrapping_mul(0x0100_0000_01b3)
-    })
+    bytes.iter().fold(0xcbf2_9ce4_8422_2325, |h, b| (h ^ u64::from(*b)).wrapping_mul(0x0100_0000_01b3))
 }
 
 /// Cargo's folder for what a build script makes.
@@ -84,11 +70,7 @@ pub fn out_folder() -> PathBuf {
 pub fn write_unchanged(file: &Path, path: &str) {
     let given = read(path);
     write(file, &given);
-    assert!(
-        fs::read(file).expect("just written") == given.as_bytes(),
-        "{} isn't the given text",
-        file.display()
-    );
+    assert!(fs::read(file).expect("just written") == given.as_bytes(), "{} isn't the given text", file.display());
 }
 
 pub fn write(file: &Path, text: &str) {

@@ -14,11 +14,7 @@ pub fn first_weekday_minutes(c: &Calendar) -> u16 {
 fn periods(r: &mut Random, count: usize) -> Vec<(u16, u16)> {
     let mut marks: Vec<u16> = Vec::new();
     while marks.len() < 2 * count {
-        let m = if r.percent(50) {
-            15 * r.within(0, 96)
-        } else {
-            r.within(0, 1_440)
-        } as u16;
+        let m = if r.percent(50) { 15 * r.within(0, 96) } else { r.within(0, 1_440) } as u16;
         if !marks.contains(&m) {
             marks.push(m);
         }
@@ -39,36 +35,19 @@ fn periods(r: &mut Random, count: usize) -> Vec<(u16, u16)> {
 }
 
 fn week(days: impl Iterator<Item = i32>, hours: &[(u16, u16)]) -> Vec<Hours> {
-    days.flat_map(|day| hours.iter().map(move |&(from, to)| Hours { day, from, to }))
-        .collect()
+    days.flat_map(|day| hours.iter().map(move |&(from, to)| Hours { day, from, to })).collect()
 }
 
 pub fn round_the_clock() -> Calendar {
-    Calendar {
-        day_length: 1_440,
-        week: week(0..7, &[(0, 1_440)]),
-        exceptions: Vec::new(),
-    }
+    Calendar { day_length: 1_440, week: week(0..7, &[(0, 1_440)]), exceptions: Vec::new() }
 }
 
 pub fn minute_a_week(weekday: i32, minute: u16) -> Calendar {
-    Calendar {
-        day_length: 1,
-        week: vec![Hours {
-            day: weekday,
-            from: minute,
-            to: minute + 1,
-        }],
-        exceptions: Vec::new(),
-    }
+    Calendar { day_length: 1, week: vec![Hours { day: weekday, from: minute, to: minute + 1 }], exceptions: Vec::new() }
 }
 
 pub fn office() -> Calendar {
-    Calendar {
-        day_length: 480,
-        week: week(0..5, &[(480, 960)]),
-        exceptions: Vec::new(),
-    }
+    Calendar { day_length: 480, week: week(0..5, &[(480, 960)]), exceptions: Vec::new() }
 }
 
 fn style(r: &mut Random) -> Vec<Hours> {
@@ -101,12 +80,8 @@ fn style(r: &mut Random) -> Vec<Hours> {
 
 /// Days around `near` that differ from the week.
 pub fn exceptions(r: &mut Random, near: i32, days: usize) -> Vec<Hours> {
-    let mut at: Vec<i32> = (0..days)
-        .map(|_| {
-            r.within(near - 10, near + 30 + 3 * days as i32)
-                .clamp(FIRST_DAY, LAST_DAY)
-        })
-        .collect();
+    let mut at: Vec<i32> =
+        (0..days).map(|_| r.within(near - 10, near + 30 + 3 * days as i32).clamp(FIRST_DAY, LAST_DAY)).collect();
     at.sort_unstable();
     at.dedup();
     let mut made = Vec::new();
@@ -134,11 +109,7 @@ pub fn calendar(r: &mut Random, near: i32) -> Calendar {
         week = office().week;
     }
     let days = if r.percent(60) { 0 } else { 1 + r.below(12) };
-    let mut made = Calendar {
-        day_length: 0,
-        week,
-        exceptions: exceptions(r, near, days),
-    };
+    let mut made = Calendar { day_length: 0, week, exceptions: exceptions(r, near, days) };
     made.day_length = first_weekday_minutes(&made);
     made
 }

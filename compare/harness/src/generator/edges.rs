@@ -14,34 +14,15 @@ const SPAN: i32 = 200_000;
 const LONGEST_LAG: i32 = 144_000_000;
 
 fn task(id: u32, minutes: i32) -> Activity {
-    Activity {
-        id,
-        minutes,
-        ..Activity::default()
-    }
+    Activity { id, minutes, ..Activity::default() }
 }
 
 fn plan(start: i32, calendars: Vec<Calendar>, activities: Vec<Activity>) -> Sheet {
-    Sheet {
-        plan: Plan {
-            start,
-            ..Plan::default()
-        },
-        calendars,
-        activities,
-        links: Vec::new(),
-    }
+    Sheet { plan: Plan { start, ..Plan::default() }, calendars, activities, links: Vec::new() }
 }
 
 fn link(predecessor: u32, successor: u32, kind: u8, basis: u8, unit: u8, lag: i32) -> Link {
-    Link {
-        predecessor,
-        successor,
-        kind,
-        basis,
-        unit,
-        lag,
-    }
+    Link { predecessor, successor, kind, basis, unit, lag }
 }
 
 /// A start from which the span lies within the sheet's days on both sides.
@@ -75,10 +56,7 @@ pub fn way(r: &mut Random, way: usize) -> Sheet {
             let mut s = plan(start, clock(), vec![task(1, 0), task(2, 0), task(3, 0)]);
             let (a, b) = (LONGEST_LAG - 1_440, LONGEST_LAG - 1_440 + minutes_past);
             s.activities[0].minutes = 2_880;
-            s.links = vec![
-                link(1, 2, 0, 1, 1, a),
-                link(2, 3, r.pick(&[0, 1, 2, 3]), r.pick(&[0, 1]), 1, b),
-            ];
+            s.links = vec![link(1, 2, 0, 1, 1, a), link(2, 3, r.pick(&[0, 1, 2, 3]), r.pick(&[0, 1]), 1, b)];
             s
         }
         // Dates of constraints, of levelling and of expected finishes.
@@ -95,25 +73,15 @@ pub fn way(r: &mut Random, way: usize) -> Sheet {
         // A start moved past the edge by a day without work.
         3 => {
             let mut a = task(1, 0);
-            let start = (start - 6..=start)
-                .find(|d| (d + SPAN + 3).rem_euclid(7) == 5)
-                .expect("a week has a Saturday");
+            let start = (start - 6..=start).find(|d| (d + SPAN + 3).rem_euclid(7) == 5).expect("a week has a Saturday");
             let start = start + r.pick(&[0, 0, 1, 2]);
             a.constraints[0] = (r.pick(&[1, 5, 7]), start + SPAN);
             plan(start, vec![office()], vec![a])
         }
         // A finish past the edge, on a calendar of a minute a week.
-        5 => plan(
-            start,
-            vec![minute_a_week(r.within(0, 6), 0)],
-            vec![task(1, SPAN / 7 + r.within(-2, 400))],
-        ),
+        5 => plan(start, vec![minute_a_week(r.within(0, 6), 0)], vec![task(1, SPAN / 7 + r.within(-2, 400))]),
         6 => {
-            let mut s = plan(
-                start,
-                clock(),
-                if r.percent(50) { Vec::new() } else { vec![task(1, 480)] },
-            );
+            let mut s = plan(start, clock(), if r.percent(50) { Vec::new() } else { vec![task(1, 480)] });
             s.plan.must_finish = start + side * (SPAN + days_past);
             s
         }
@@ -134,11 +102,7 @@ pub fn way(r: &mut Random, way: usize) -> Sheet {
         }
         // A late finish moved past the edge by days without work, and a late start by its own work.
         9 => {
-            let mut s = plan(
-                start,
-                vec![minute_a_week(r.within(0, 6), 0)],
-                vec![task(1, r.pick(&[0, 1]))],
-            );
+            let mut s = plan(start, vec![minute_a_week(r.within(0, 6), 0)], vec![task(1, r.pick(&[0, 1]))]);
             s.plan.must_finish = start - SPAN - 1;
             s
         }
@@ -170,12 +134,10 @@ fn years(r: &mut Random, way: usize) -> Sheet {
         13 => {
             let first = Date::from_ymd(-9_999, 1, 1).expect("the first day of the years").days();
             let weekday = sparse[0].week[0].day;
-            let first_worked = (first..first + 7)
-                .find(|d| (d + 3).rem_euclid(7) == weekday)
-                .expect("a week has every day");
-            let last_worked = (FIRST_DAY - 6..=FIRST_DAY)
-                .find(|d| (d + 3).rem_euclid(7) == weekday)
-                .expect("a week has every day");
+            let first_worked =
+                (first..first + 7).find(|d| (d + 3).rem_euclid(7) == weekday).expect("a week has every day");
+            let last_worked =
+                (FIRST_DAY - 6..=FIRST_DAY).find(|d| (d + 3).rem_euclid(7) == weekday).expect("a week has every day");
             let weeks = (last_worked - first_worked) / 7 + 1;
             let mut a = task(2, weeks + r.pick(&[0, 0, 1, 2, 3]));
             a.expected_finish = FIRST_DAY + r.within(0, 40);
@@ -213,12 +175,7 @@ pub fn limits(r: &mut Random) -> Sheet {
             s.plan.data = if r.percent(50) { day } else { ABSENT };
             s.plan.must_finish = if r.percent(50) { day } else { ABSENT };
             for a in &mut s.activities {
-                for d in [
-                    &mut a.actual_start,
-                    &mut a.actual_finish,
-                    &mut a.expected_finish,
-                    &mut a.levelled,
-                ] {
+                for d in [&mut a.actual_start, &mut a.actual_finish, &mut a.expected_finish, &mut a.levelled] {
                     if *d != ABSENT {
                         *d = day;
                     }
@@ -228,11 +185,8 @@ pub fn limits(r: &mut Random) -> Sheet {
             s
         }
         3..5 => {
-            let mut s = plan(
-                r.within(0, 20_000),
-                vec![office(), round_the_clock()],
-                vec![task(1, 48_000_000), task(2, 480)],
-            );
+            let mut s =
+                plan(r.within(0, 20_000), vec![office(), round_the_clock()], vec![task(1, 48_000_000), task(2, 480)]);
             s.activities[0].calendar = r.below(2) as u8;
             s
         }
@@ -270,20 +224,13 @@ pub fn limits(r: &mut Random) -> Sheet {
                 // Every worked day of some years is closed.
                 let weekdays: Vec<i32> = c.week.iter().map(|w| w.day).collect();
                 let worked = (start..start + 2_000).filter(|d| weekdays.contains(&(d + 3).rem_euclid(7)));
-                c.exceptions = worked
-                    .take(MAX_EXCEPTIONS)
-                    .map(|day| Hours { day, from: 0, to: 0 })
-                    .collect();
+                c.exceptions = worked.take(MAX_EXCEPTIONS).map(|day| Hours { day, from: 0, to: 0 }).collect();
             }
             s
         }
         _ => {
             let mut s = ordinary(r);
-            let eight = (0..8).map(|k| Hours {
-                day: 0,
-                from: k * 100,
-                to: k * 100 + 50 + k,
-            });
+            let eight = (0..8).map(|k| Hours { day: 0, from: k * 100, to: k * 100 + 50 + k });
             s.calendars[0].week = eight.collect();
             s.calendars[0].day_length = first_weekday_minutes(&s.calendars[0]);
             s

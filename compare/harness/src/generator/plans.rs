@@ -44,11 +44,7 @@ fn plan(r: &mut Random) -> Plan {
         float_kind: r.below(3) as u8,
         progress: u8::from(r.percent(40)),
         critical_by,
-        threshold: if critical_by == 1 {
-            r.next() as i32
-        } else {
-            r.pick(&[0, 0, 0, 1, 5, -1, i32::MIN, i32::MAX])
-        },
+        threshold: if critical_by == 1 { r.next() as i32 } else { r.pick(&[0, 0, 0, 1, 5, -1, i32::MIN, i32::MAX]) },
     }
 }
 
@@ -88,22 +84,11 @@ fn minutes(r: &mut Random) -> i32 {
 
 fn mark(r: &mut Random, near: i32) -> Mark {
     let code = r.within(1, 9) as u8;
-    (
-        code,
-        if code == 9 {
-            r.next() as i32
-        } else {
-            day_near(r, near, 8, 40)
-        },
-    )
+    (code, if code == 9 { r.next() as i32 } else { day_near(r, near, 8, 40) })
 }
 
 fn activity(r: &mut Random, id: u32, near: i32, calendars: usize, t: &Taste) -> Activity {
-    let kind = if r.percent(t.milestones) {
-        1 + r.below(2) as u8
-    } else {
-        0
-    };
+    let kind = if r.percent(t.milestones) { 1 + r.below(2) as u8 } else { 0 };
     let mut a = Activity {
         id,
         kind,
@@ -192,15 +177,9 @@ pub fn plan_of(r: &mut Random, count: usize) -> Sheet {
     if r.percent(1) {
         calendars[0].exceptions = exceptions(r, plan.start, 256);
     }
-    let near = if plan.data == ABSENT {
-        plan.start
-    } else {
-        plan.start.max(plan.data)
-    };
-    let mut activities: Vec<Activity> = ids(r, count)
-        .into_iter()
-        .map(|id| activity(r, id, near, calendars.len(), &t))
-        .collect();
+    let near = if plan.data == ABSENT { plan.start } else { plan.start.max(plan.data) };
+    let mut activities: Vec<Activity> =
+        ids(r, count).into_iter().map(|id| activity(r, id, near, calendars.len(), &t)).collect();
     // Parents and links go along hidden orders, so that neither closes a loop.
     let mut order: Vec<usize> = (0..count).collect();
     r.shuffle(&mut order);
@@ -229,12 +208,7 @@ pub fn plan_of(r: &mut Random, count: usize) -> Sheet {
             links.push(l);
         }
     }
-    Sheet {
-        plan,
-        calendars,
-        activities,
-        links,
-    }
+    Sheet { plan, calendars, activities, links }
 }
 
 pub fn ordinary(r: &mut Random) -> Sheet {
@@ -246,24 +220,14 @@ pub fn ordinary(r: &mut Random) -> Sheet {
 pub fn large(r: &mut Random, activities: usize, links: usize) -> Sheet {
     let mut s = plan_of(r, 8);
     s.links.clear();
-    let t = Taste {
-        milestones: 5,
-        marks: 2,
-        progress: 3,
-        expected: 1,
-        levelled: 2,
-        summaries: 0,
-        links: 0,
-    };
+    let t = Taste { milestones: 5, marks: 2, progress: 3, expected: 1, levelled: 2, summaries: 0, links: 0 };
     // A long chain on a sparse calendar would leave the span.
     s.calendars
         .iter_mut()
         .filter(|c| c.week.iter().map(|w| w.to - w.from).sum::<u16>() < 1_200)
         .for_each(|c| *c = office());
     let calendars = s.calendars.len();
-    s.activities = (1..=activities as u32)
-        .map(|id| activity(r, id, s.plan.start, calendars, &t))
-        .collect();
+    s.activities = (1..=activities as u32).map(|id| activity(r, id, s.plan.start, calendars, &t)).collect();
     for a in &mut s.activities {
         a.minutes %= 481;
         // Every sixteenth is a summary, under the one before now and then.
@@ -280,12 +244,7 @@ pub fn large(r: &mut Random, activities: usize, links: usize) -> Sheet {
         let from = r.below(activities) as u32;
         let to = from + 1 + r.below(64) as u32;
         if to < activities as u32 {
-            let mut l = Link {
-                predecessor: from + 1,
-                successor: to + 1,
-                kind: r.below(4) as u8,
-                ..Link::default()
-            };
+            let mut l = Link { predecessor: from + 1, successor: to + 1, kind: r.below(4) as u8, ..Link::default() };
             if r.percent(20) {
                 lag(r, &mut l);
             }

@@ -1,14 +1,15 @@
 //! Faults put into a plan's records, one mutator for each row of document 01's table.
 
 use super::random::Random;
-use crate::record::{ABSENT, Activity, FIRST_DAY, Hours, LAST_DAY, Link, Record};
+use super::sheet_faults::{exceed, misplace, spoil};
+use crate::record::{Activity, FIRST_DAY, Hours, LAST_DAY, Link, Record};
 
 /// The rows that a mutator can bring about, 1 and the largest limits apart.
 pub const ROWS: std::ops::RangeInclusive<u8> = 2..=15;
 
-type Records = Vec<Record>;
+pub type Records = Vec<Record>;
 
-fn places(records: &Records, kind: fn(&Record) -> bool) -> Vec<usize> {
+pub fn places(records: &Records, kind: fn(&Record) -> bool) -> Vec<usize> {
     (0..records.len()).filter(|&k| kind(&records[k])).collect()
 }
 
@@ -16,12 +17,12 @@ fn is_activity(r: &Record) -> bool {
     matches!(r, Record::A(_))
 }
 
-fn is_link(r: &Record) -> bool {
+pub fn is_link(r: &Record) -> bool {
     matches!(r, Record::L(_))
 }
 
 /// A record of this kind, put in at the end of its kind's place if there is none.
-fn some<'a>(
+pub fn some<'a>(
     r: &mut Random,
     records: &'a mut Records,
     kind: fn(&Record) -> bool,
@@ -30,11 +31,7 @@ fn some<'a>(
     let found = places(records, kind);
     let at = if found.is_empty() {
         let made = make();
-        let at = if is_link(&made) {
-            records.len()
-        } else {
-            records.iter().position(is_link).unwrap_or(records.len())
-        };
+        let at = if is_link(&made) { records.len() } else { records.iter().position(is_link).unwrap_or(records.len()) };
         records.insert(at, made);
         at
     } else {
@@ -43,14 +40,8 @@ fn some<'a>(
     &mut records[at]
 }
 
-fn activity<'a>(r: &mut Random, records: &'a mut Records) -> &'a mut Activity {
-    match some(r, records, is_activity, || {
-        Record::A(Activity {
-            id: 1,
-            minutes: 480,
-            ..Activity::default()
-        })
-    }) {
+pub fn activity<'a>(r: &mut Random, records: &'a mut Records) -> &'a mut Activity {
+    match some(r, records, is_activity, || Record::A(Activity { id: 1, minutes: 480, ..Activity::default() })) {
         Record::A(a) => a,
         _ => unreachable!(),
     }
@@ -62,14 +53,7 @@ fn activities(records: &mut Records, count: u32) -> Vec<usize> {
         if places(records, is_activity).len() < count as usize {
             let id = 4_000_000_000 + k;
             let at = records.iter().position(is_link).unwrap_or(records.len());
-            records.insert(
-                at,
-                Record::A(Activity {
-                    id,
-                    minutes: 60,
-                    ..Activity::default()
-                }),
-            );
+            records.insert(at, Record::A(Activity { id, minutes: 60, ..Activity::default() }));
         }
     }
     places(records, is_activity)
@@ -85,15 +69,7 @@ fn at(records: &mut Records, place: usize) -> &mut Activity {
 fn link(r: &mut Random, records: &mut Records, predecessor: u32, successor: u32) {
     let first = records.iter().position(is_link).unwrap_or(records.len());
     let place = first + r.below(records.len() - first + 1);
-    records.insert(
-        place,
-        Record::L(Link {
-            predecessor,
-            successor,
-            kind: r.below(4) as u8,
-            ..Link::default()
-        }),
-    );
+    records.insert(place, Record::L(Link { predecessor, successor, kind: r.below(4) as u8, ..Link::default() }));
 }
 
 /// Brings about `row` (or, for what another fault hides, would).
@@ -130,12 +106,7 @@ pub fn refuse(r: &mut Random, records: &mut Records, row: u8) {
         13 => {
             let id = at_some_id(r, records);
             let unknown = r.pick(&[0, 3_999_999_999]);
-            let (p, s) = r.pick(&[
-                (unknown, id),
-                (id, unknown),
-                (unknown, unknown),
-                (unknown, 3_999_999_998),
-            ]);
+            let (p, s) = r.pick(&[(unknown, id), (id, unknown), (unknown, unknown), (unknown, 3_999_999_998)]);
             link(r, records, p, s);
         }
         14 => {
@@ -155,14 +126,7 @@ pub fn one_past(r: &mut Random, records: &mut Records) {
     match r.below(10) {
         unit @ 0..2 => {
             let lag = r.pick(&[1, -1]) * [100_001, 144_000_001][unit];
-            let l = Link {
-                predecessor: a,
-                successor: b,
-                kind: 0,
-                basis: r.pick(&[0, 1]),
-                unit: unit as u8,
-                lag,
-            };
+            let l = Link { predecessor: a, successor: b, kind: 0, basis: r.pick(&[0, 1]), unit: unit as u8, lag };
             let first = records.iter().position(is_link).unwrap_or(records.len());
             records.insert(first, Record::L(l));
         }
@@ -181,225 +145,20 @@ pub fn one_past(r: &mut Random, records: &mut Records) {
             }
         }
         6..8 => {
-            let c = records
-                .iter()
-                .position(|x| matches!(x, Record::C(_)))
-                .expect("a plan has a calendar");
+            let c = records.iter().position(|x| matches!(x, Record::C(_))).expect("a plan has a calendar");
             if r.percent(50) {
                 records[c] = Record::C(1_441);
             } else {
-                records.insert(
-                    c + 1,
-                    Record::W(Hours {
-                        day: 0,
-                        from: 480,
-                        to: 1_441,
-                    }),
-                );
+                records.insert(c + 1, Record::W(Hours { day: 0, from: 480, to: 1_441 }));
             }
         }
         _ => exceed(r, records),
     }
 }
 
-fn at_some_id(r: &mut Random, records: &mut Records) -> u32 {
+pub fn at_some_id(r: &mut Random, records: &mut Records) -> u32 {
     let all = activities(records, 1);
     at(records, r.pick(&all)).id
-}
-
-fn misplace(r: &mut Random, records: &mut Records) {
-    let length = records.len();
-    match r.below(10) {
-        0 => records.clear(),
-        1 => {
-            records.remove(0);
-        }
-        2 => records.retain(|x| !matches!(x, Record::C(_) | Record::W(_) | Record::E(_))),
-        3 => records.insert(1 + r.below(length), records[0].clone()),
-        4 => records.insert(
-            r.below(length + 1),
-            Record::Raw(vec![r.pick(&[0u8, b'p', b'Q', b'D', 255])]),
-        ),
-        5 => {
-            let mut bytes = crate::record::encode(&[records.pop().expect("a plan has a P")]);
-            bytes.truncate(1 + r.below(bytes.len() - 1));
-            records.push(Record::Raw(bytes));
-        }
-        6 => records.push(Record::C(480)),
-        7 => records.push(Record::A(Activity {
-            id: 77,
-            minutes: 1,
-            ..Activity::default()
-        })),
-        8 => {
-            let c = records
-                .iter()
-                .rposition(|x| matches!(x, Record::C(_) | Record::W(_) | Record::E(_)))
-                .unwrap_or(0);
-            records.insert(
-                c + 1,
-                Record::E(Hours {
-                    day: LAST_DAY,
-                    from: 0,
-                    to: 0,
-                }),
-            );
-            records.insert(
-                c + 2,
-                Record::W(Hours {
-                    day: 6,
-                    from: 1_439,
-                    to: 1_440,
-                }),
-            );
-        }
-        _ => records.insert(1, Record::W(Hours { day: 0, from: 0, to: 1 })),
-    }
-    // A link after which A comes out of place, or a sheet that stays as it was, gets an unknown kind.
-    if crate::read::read(&crate::record::encode(records)).is_ok() {
-        records.push(Record::Raw(vec![b'?']));
-    }
-}
-
-/// A day out of range.
-fn no_day(r: &mut Random) -> i32 {
-    r.pick(&[FIRST_DAY - 1, LAST_DAY + 1, i32::MAX, i32::MIN + 1])
-}
-
-fn spoil(r: &mut Random, records: &mut Records) {
-    let bad = no_day(r);
-    let bad_or_absent = if r.percent(30) { ABSENT } else { bad };
-    let what = r.below(24);
-    let Record::P(p) = &mut records[0] else { return };
-    match what {
-        0 => p.start = bad_or_absent,
-        1 => p.data = bad,
-        2 => p.must_finish = bad,
-        3 => p.lag_calendar = r.pick(&[4, 255]),
-        4 => p.float_kind = r.pick(&[3, 255]),
-        5 => p.progress = r.pick(&[2, 255]),
-        6 => p.critical_by = r.pick(&[2, 255]),
-        7..13 => spoil_calendar(r, records, what, bad_or_absent),
-        13..20 => {
-            let a = activity(r, records);
-            match what {
-                13 => a.id = 0,
-                14 => a.kind = r.pick(&[3, 255]),
-                15 => (a.kind, a.minutes) = (r.pick(&[1, 2]), r.pick(&[1, -1, 480, i32::MIN])),
-                16 => a.actual_start = bad,
-                17 => a.actual_finish = bad,
-                18 => a.expected_finish = bad,
-                _ => a.levelled = bad,
-            }
-        }
-        20 => activity(r, records).constraints[r.below(2)].0 = r.pick(&[10, 255]),
-        21 => activity(r, records).constraints[r.below(2)] = (r.within(1, 8) as u8, bad_or_absent),
-        _ => {
-            let id = at_some_id(r, records);
-            let l = Link {
-                predecessor: id,
-                successor: id,
-                ..Link::default()
-            };
-            let Record::L(l) = some(r, records, is_link, || Record::L(l.clone())) else {
-                return;
-            };
-            match r.below(3) {
-                0 => l.kind = r.pick(&[4, 255]),
-                1 => l.basis = r.pick(&[3, 255]),
-                _ => (l.basis, l.unit) = (r.pick(&[0, 1]), r.pick(&[2, 255])),
-            }
-        }
-    }
-}
-
-fn spoil_calendar(r: &mut Random, records: &mut Records, what: usize, bad: i32) {
-    let cs = places(records, |x| matches!(x, Record::C(_)));
-    let Some(&last) = cs.last() else { return };
-    if what == 7 {
-        records[r.pick(&cs)] = Record::C(r.pick(&[1_441, u16::MAX]));
-        return;
-    }
-    // A last calendar of its own keeps the other faults of a sheet apart from this one.
-    let hours = |day, from, to| Hours { day, from, to };
-    let weeks: &[&[Hours]] = &[
-        &[hours(7, 0, 60)],
-        &[hours(255, 0, 60)],
-        &[hours(0, 60, 60)],
-        &[hours(0, 61, 60)],
-        &[hours(0, 0, 1_441)],
-        &[hours(0, 0, 0)],
-        &[hours(0, 0, 60), hours(0, 59, 120)],
-        &[hours(0, 60, 120), hours(0, 0, 30)],
-        &[hours(1, 0, 60), hours(0, 60, 120)],
-    ];
-    let days: &[&[Hours]] = &[
-        &[hours(bad, 0, 0)],
-        &[hours(9, 0, 60), hours(8, 0, 60)],
-        &[hours(9, 0, 60), hours(9, 59, 120)],
-        &[hours(9, 60, 120), hours(9, 0, 60)],
-        &[hours(9, 0, 0), hours(9, 0, 0)],
-        &[hours(9, 0, 0), hours(9, 60, 120)],
-        &[hours(9, 60, 120), hours(9, 0, 0)],
-        &[hours(9, 60, 60)],
-        &[hours(9, 0, 1_441)],
-        &[hours(9, 5, 0)],
-    ];
-    let mut made: Vec<Record> = vec![Record::C(480)];
-    if r.percent(50) {
-        made.extend(r.pick(weeks).iter().copied().map(Record::W));
-    } else {
-        made.push(Record::W(hours(0, 480, 960)));
-        made.extend(r.pick(days).iter().copied().map(Record::E));
-    }
-    if cs.len() == crate::read::MAX_CALENDARS {
-        let end = records
-            .iter()
-            .rposition(|x| matches!(x, Record::C(_) | Record::W(_) | Record::E(_)))
-            .unwrap_or(last);
-        records.drain(last..=end);
-        records.splice(last..last, made);
-    } else {
-        records.splice(last..last, made);
-    }
-}
-
-/// One past a limit of the calendars.
-fn exceed(r: &mut Random, records: &mut Records) {
-    let cs = places(records, |x| matches!(x, Record::C(_)));
-    let Some(&last) = cs.last() else { return };
-    let end = last + 1;
-    match r.below(3) {
-        0 => (cs.len()..=crate::read::MAX_CALENDARS).for_each(|_| records.insert(end, Record::C(1_440))),
-        1 => {
-            let made = (0..9).map(|k| {
-                Record::W(Hours {
-                    day: 0,
-                    from: 100 + k * 20,
-                    to: 110 + k * 20,
-                })
-            });
-            records.splice(end..end, made);
-        }
-        _ => {
-            // The last is out of order too: row 4 comes first.
-            let first = if r.percent(50) { 0 } else { 1 };
-            let made: Vec<Record> = (0..257)
-                .map(|k| {
-                    Record::E(Hours {
-                        day: if k == 256 { first } else { k + 1 },
-                        from: 0,
-                        to: 0,
-                    })
-                })
-                .collect();
-            while matches!(records.get(end), Some(Record::W(_) | Record::E(_))) {
-                records.remove(end);
-            }
-            records.splice(end..end, made);
-            records.insert(end, Record::W(Hours { day: 0, from: 0, to: 1 }));
-        }
-    }
 }
 
 fn empty_week(r: &mut Random, records: &mut Records) {
@@ -412,14 +171,7 @@ fn empty_week(r: &mut Random, records: &mut Records) {
         records.remove(c);
     }
     if r.percent(50) && !matches!(records.get(c), Some(Record::E(_))) {
-        records.insert(
-            c,
-            Record::E(Hours {
-                day: 20_000,
-                from: 480,
-                to: 960,
-            }),
-        );
+        records.insert(c, Record::E(Hours { day: 20_000, from: 480, to: 960 }));
     }
 }
 
@@ -444,14 +196,7 @@ fn too_long(r: &mut Random, records: &mut Records) {
         }
     };
     at(records, all[0]).parent = 0;
-    let l = Link {
-        predecessor: a,
-        successor: b,
-        kind: r.below(4) as u8,
-        basis,
-        unit,
-        lag,
-    };
+    let l = Link { predecessor: a, successor: b, kind: r.below(4) as u8, basis, unit, lag };
     let first = records.iter().position(is_link).unwrap_or(records.len());
     records.insert(first, Record::L(l));
 }

@@ -6,14 +6,9 @@ use proc_macro::{Delimiter, TokenStream, TokenTree};
 #[proc_macro_derive(Error, attributes(error, from))]
 pub fn derive_error(input: TokenStream) -> TokenStream {
     let tokens: Vec<TokenTree> = input.into_iter().collect();
-    let at = tokens
-        .iter()
-        .position(|t| t.to_string() == "enum")
-        .expect("the derive is for enums");
+    let at = tokens.iter().position(|t| t.to_string() == "enum").expect("the derive is for enums");
     let name = tokens[at + 1].to_string();
-    let Some(TokenTree::Group(body)) = tokens.last() else {
-        panic!("an enum ends with its variants")
-    };
+    let Some(TokenTree::Group(body)) = tokens.last() else { panic!("an enum ends with its variants") };
     let mut code = format!(
         "impl std::fmt::Display for {name} {{
             fn fmt(&self, f: &mut std::fmt::Formatter<'_>) -> std::fmt::Result {{ write!(f, \"{{self:?}}\") }}
