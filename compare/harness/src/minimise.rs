@@ -1,12 +1,13 @@
 //! Makes a differing sheet smaller and plainer while it still differs.
 
-use crate::record::{Activity, Link, Plan, Record, decode, encode};
+use crate::record::{Activity, Hours, Link, Plan, Record, decode, encode};
 
 /// The smallest sheet found on which `differs` still holds.
 pub fn minimise(bytes: &[u8], differs: impl Fn(&[u8]) -> bool) -> Vec<u8> {
     let mut best = decode(bytes);
     loop {
         let before = best.clone();
+        plain_calendars(&mut best, &differs);
         remove(&mut best, &differs);
         renumber(&mut best, &differs);
         plainer(&mut best, &differs);
@@ -37,6 +38,39 @@ fn remove(best: &mut Vec<Record>, differs: &impl Fn(&[u8]) -> bool) {
             }
         }
         size /= 2;
+    }
+}
+
+/// Drops a calendar, or takes a plainer one in its place; day lengths stay those of the first weekday.
+fn plain_calendars(best: &mut Vec<Record>, differs: &impl Fn(&[u8]) -> bool) {
+    for k in (0..best.iter().filter(|r| r.kind() == Some(b'C')).count()).rev() {
+        let starts: Vec<usize> = (0..best.len()).filter(|&i| best[i].kind() == Some(b'C')).collect();
+        let from = starts[k];
+        let length = best[from + 1..].iter().take_while(|r| matches!(r, Record::W(_) | Record::E(_))).count();
+        let block = from..from + 1 + length;
+        let mut without = best.clone();
+        without.drain(block.clone());
+        for r in &mut without {
+            if let Record::A(a) = r {
+                a.calendar = if usize::from(a.calendar) > k { a.calendar - 1 } else { a.calendar % k.max(1) as u8 };
+            }
+        }
+        if keep(best, without, differs) {
+            continue;
+        }
+        let week = |days: std::ops::Range<i32>, from, to| days.map(move |day| Record::W(Hours { day, from, to }));
+        let office: Vec<Record> = [Record::C(480)].into_iter().chain(week(0..5, 480, 960)).collect();
+        let clock: Vec<Record> = [Record::C(1_440)].into_iter().chain(week(0..7, 0, 1_440)).collect();
+        if best[block.clone()] == office || best[block.clone()] == clock {
+            continue;
+        }
+        for plain in [office, clock] {
+            let mut tried = best.clone();
+            tried.splice(block.clone(), plain);
+            if keep(best, tried, differs) {
+                break;
+            }
+        }
     }
 }
 
@@ -107,6 +141,7 @@ fn candidates(record: &Record) -> Vec<Record> {
                     Activity { constraints: [(0, 0), marks[1]], ..a.clone() },
                     Activity { constraints: [marks[0], (0, 0)], ..a.clone() },
                     Activity { constraints: [marks[1], (0, 0)], ..a.clone() },
+                    Activity { constraints: [(marks[0].0, 0), marks[1]], ..a.clone() },
                     Activity { levelled: d.levelled, ..a.clone() },
                 ]
                 .into_iter()
