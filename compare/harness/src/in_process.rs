@@ -55,11 +55,12 @@ fn difference(schedule: Schedule, bytes: &[u8], verdict: &Verdict, lent: Lent) -
         .or_else(|| first("work", &expected.work, &found.work))
 }
 
-/// Calls with just enough, with more, and with each slice one short; says what differs first.
+/// Calls with just enough, with more, with nothing and with each slice one short; says what differs first.
 pub fn differs(schedule: Schedule, bytes: &[u8], verdict: &Verdict) -> Option<String> {
     let need = verdict.need.unwrap_or(Lent { results: 3, names: 3, work: 3 });
     let more = Lent { results: need.results + 17, names: need.names + 5, work: need.work + 9 };
-    let mut tried = vec![("just enough", need), ("more", more)];
+    let nothing = Lent { results: 0, names: 0, work: 0 };
+    let mut tried = vec![("just enough", need), ("more", more), ("nothing", nothing)];
     let shorter = |what, length: usize, lent: Lent| (length > 0).then_some((what, lent));
     tried.extend(shorter("one result short", need.results, Lent { results: need.results.wrapping_sub(1), ..need }));
     tried.extend(shorter("one name short", need.names, Lent { names: need.names.wrapping_sub(1), ..need }));

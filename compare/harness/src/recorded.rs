@@ -47,3 +47,25 @@ pub fn list() -> (Vec<u8>, usize) {
     }
     (list, count)
 }
+
+/// The sheets of a list, each with its text and its names.
+pub fn entries(list: &[u8]) -> Vec<(&[u8], &[u8], Vec<u32>)> {
+    fn number(rest: &mut &[u8]) -> usize {
+        let (head, tail) = rest.split_first_chunk().expect("a whole number");
+        *rest = tail;
+        u32::from_le_bytes(*head) as usize
+    }
+    fn bytes<'a>(rest: &mut &'a [u8]) -> &'a [u8] {
+        let length = number(rest);
+        let (head, tail) = rest.split_at(length);
+        *rest = tail;
+        head
+    }
+    let (mut rest, mut made) = (list, Vec::new());
+    while !rest.is_empty() {
+        let (sheet, text) = (bytes(&mut rest), bytes(&mut rest));
+        let names = (0..number(&mut rest)).map(|_| number(&mut rest) as u32).collect();
+        made.push((sheet, text, names));
+    }
+    made
+}
