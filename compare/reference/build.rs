@@ -3,7 +3,7 @@
 #[path = "src/fault_list.rs"]
 mod fault_list;
 
-use fault_list::{FAULTS, File};
+use fault_list::{FAULTS, File, UNSEEN};
 
 const LIB: &str = "crates/sched/src/lib.rs";
 const CLOCK: &str = "crates/sched/src/clock.rs";
@@ -40,20 +40,22 @@ fn main() {
     let mut modules = add_copy("with_times", &lib, &clock);
     modules += &add_copy("own_lengths", &source::patch(&lib, "c.day_minutes()", "crate::day_length(c)", 5), &clock);
     modules += &add_copy("sited", &with_sites(&lib), &clock_with_site(&clock));
-    modules += &add_copy("other_order", &source::patch(&lib, "ready.pop_front()", "ready.pop_back()", 1), &clock);
-    modules += "/// The deliberate faults, each in a copy of its own.\npub const FAULTS: &[Fault] = &[\n";
-    let mut copies = String::new();
-    for f in &FAULTS {
-        let name = f.name.replace('-', "_");
-        let (lib, clock) = match f.file {
-            File::Lib => (source::patch(&lib, f.old, f.new, 1), clock.clone()),
-            File::Clock => (lib.clone(), source::patch(&clock, f.old, f.new, 1)),
-        };
-        copies += &add_copy(&name, &lib, &clock);
-        modules += &format!("    Fault {{ name: {:?}, what: {:?}, schedule: {name}::answer }},\n", f.name, f.what);
+    for (list, patches) in [("FAULTS", &FAULTS[..]), ("UNSEEN", &UNSEEN[..])] {
+        modules += &format!("pub const {list}: &[Fault] = &[\n");
+        let mut copies = String::new();
+        for f in patches {
+            let name = f.name.replace('-', "_");
+            let (lib, clock) = match f.file {
+                File::Lib => (source::patch(&lib, f.old, f.new, 1), clock.clone()),
+                File::Clock => (lib.clone(), source::patch(&clock, f.old, f.new, 1)),
+            };
+            copies += &add_copy(&name, &lib, &clock);
+            modules += &format!("    Fault {{ name: {:?}, what: {:?}, schedule: {name}::answer }},\n", f.name, f.what);
+        }
+        modules += "];\n";
+        modules += &copies;
     }
-    modules += "];\n";
-    source::write(&source::out_folder().join("modules.rs"), &(modules + &copies));
+    source::write(&source::out_folder().join("modules.rs"), &modules);
 }
 
 /// Writes a copy into a folder of its own and gives the module that holds it.

@@ -2,7 +2,7 @@
 
 use std::time::{Duration, Instant};
 
-use reference::{FAULTS, Fault};
+use reference::{FAULTS, Fault, UNSEEN};
 
 use crate::corpus::Corpus;
 use crate::oracle::{Verdict, answer, answer_by};
@@ -11,7 +11,7 @@ use crate::oracle::{Verdict, answer, answer_by};
 const SLOW: Duration = Duration::from_millis(5);
 
 pub fn named(name: &str) -> Option<&'static Fault> {
-    FAULTS.iter().find(|f| f.name == name)
+    FAULTS.iter().chain(UNSEEN).find(|f| f.name == name)
 }
 
 /// Whether the copy with the fault answers otherwise; a copy that panics does.

@@ -1,9 +1,10 @@
-//! What no answer shows: the order among ready activities, and the float kind.
+//! What no answer shows: some changes to the Rust, the order among ready activities first, and the float kind.
 
+use compare::faults::sees;
 use compare::generator::sheet;
-use compare::oracle::{answer, answer_by};
+use compare::oracle::answer;
 use compare::record::{Record, decode, encode};
-use reference::other_order;
+use reference::UNSEEN;
 
 /// Sheets of the generator without the largest and the longest walks.
 fn sheets(count: usize) -> impl Iterator<Item = Vec<u8>> {
@@ -11,9 +12,12 @@ fn sheets(count: usize) -> impl Iterator<Item = Vec<u8>> {
 }
 
 #[test]
-fn the_order_among_ready_activities() {
+fn changes_to_the_rust() {
     for bytes in sheets(1_500) {
-        assert_eq!(answer(&bytes), answer_by(&bytes, other_order::answer));
+        let verdict = answer(&bytes);
+        for change in UNSEEN {
+            assert!(!sees(change, &bytes, &verdict), "{}", change.name);
+        }
     }
 }
 

@@ -1,4 +1,4 @@
-//! The deliberate faults: what each changes in lib.rs or clock.rs.
+//! Changes to lib.rs or clock.rs: the deliberate faults, and some that no answer shows.
 
 pub enum File {
     Lib,
@@ -67,4 +67,10 @@ pub const FAULTS: [FaultPatch; 20] = [
     clock("start-at-closing", "a closing minute is a start", "i64::from(*b) > from)", "i64::from(*b) >= from)"),
     clock("finish-at-opening", "an opening minute is a finish", "i64::from(*a) < to)", "i64::from(*a) <= to)"),
     clock("midnight-missed", "work to 24:00 doesn't end at midnight", "m == 0 && self", "m == 1 && self"),
+];
+
+pub const UNSEEN: [FaultPatch; 3] = [
+    lib("ready-last-first", "the last ready activity first", "ready.pop_front()", "ready.pop_back()"),
+    lib("late-lift-unchecked", "no third test before a late finish is lifted", "&& latest_same(i, f)? >= early", ""),
+    clock("worked-at-closing", "a closing minute is worked", "<= m && m < i64::from(*b)", "<= m && m <= i64::from(*b)"),
 ];

@@ -26,7 +26,7 @@ pub struct Refusal {
     pub names: Vec<u32>,
 }
 
-/// A copy with one deliberate fault.
+/// A copy with one change: a deliberate fault (`FAULTS`), or one that no answer shows (`UNSEEN`).
 pub struct Fault {
     pub name: &'static str,
     pub what: &'static str,
