@@ -1,0 +1,4 @@
+//! The Rust's scheduler as given.
+#![allow(dead_code)]
+
+include!(concat!(env!("OUT_DIR"), "/modules.rs"));
