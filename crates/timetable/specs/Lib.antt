@@ -1,0 +1,3 @@
+-- The timetable rules.
+pub mod Rules
+pub mod Fit
