@@ -1,3 +1,4 @@
 -- The timetable rules.
 pub mod Rules
 pub mod Fit
+pub mod WalkLaws
