@@ -2,3 +2,4 @@
 pub mod Rules
 pub mod Fit
 pub mod WalkLaws
+pub mod BoundLaws
