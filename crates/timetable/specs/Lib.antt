@@ -3,3 +3,4 @@ pub mod Rules
 pub mod Fit
 pub mod WalkLaws
 pub mod BoundLaws
+pub mod StepLaws
