@@ -4,3 +4,5 @@ pub mod Fit
 pub mod WalkLaws
 pub mod BoundLaws
 pub mod StepLaws
+pub mod PassLaws
+pub mod Earliest
