@@ -26,7 +26,9 @@ use Rattle.order.specs.Plan.{Plan}
 use Rattle.order.specs.Ids.{summary}
 use Rattle.order.specs.Ties.{Tie, keptBelow, keptLinks}
 use Rattle.order.specs.Checks.{checked, order}
-use Rattle.order.specs.LoopLaws.{fine-ordered}
+use Rattle.order.specs.FineLaws.{plan-fine}
+use Rattle.order.specs.TieLaws.{ends-length, kept-ranged}
+use Rattle.order.specs.LoopLaws.{fine-passes, fine-ordered}
 use Rattle.passes.specs.Plan.{own, lagOwn, tie, tiesInto, kindOf, floor, recorded, begun, full}
 use Rattle.passes.specs.Dates.{Early, Pass, leaves, refused, put, through}
 use Rattle.passes.specs.Forward.{sourceOf, leftOf, leftBelow, early, forward}
@@ -36,7 +38,7 @@ use Rattle.timetable.specs.Fit.{Marks, Fit}
 use Rattle.timetable.specs.WalkLaws.{shift-mono}
 use Rattle.timetable.specs.BoundLaws.{Starts, Each, HeldBy, HeldAt, MeetsAll, raised-bound, held-bound}
 use Rattle.timetable.specs.StepLaws.{put-here, completed-any, completed-unique, completed-unless, Sort, fresh, done, FreshStep, fresh-step, recorded-actual, step-sort}
-use Rattle.timetable.specs.PassLaws.{Trace, through-trace, kept, tie-linked, tie-ends-kept, into-each, each-into, left-of, left-full, Same, same-between}
+use Rattle.timetable.specs.PassLaws.{Trace, through-trace, kept, tie-ends, tie-linked, tie-ends-kept, into-each, each-into, left-of, left-full, Same, same-between}
 
 -- a finish milestone has no minutes, as the sheet's fields say
 abbrev pub Momentary : Plan → Type 0
@@ -243,3 +245,86 @@ module _ (p : Plan) where
 
         by : Turn i → Least (d .es) (d .ef) i ⊎ Fixed (d .es) (d .ef) i
         by t = split t (turn-sort i t l z)
+
+    -- ---- they obey the rules
+    tie-in : (t : ℕ) → t < kept p → tie p t .to < p .activities
+    tie-in t l =
+        let r = kept-ranged p (plan-fine p .0 (fine-passes p fine) .links) in
+        omega (arith, r .enters t (omega (arith, ends-length p (p .links))), tie-ends p t l .1)
+
+    pub early-obeyed : Obeyed p (d .es) (d .ef)
+    early-obeyed = record { activities = each; links = link }
+      where
+        each : (i : ℕ) → i < p .activities → summary p i ≡ false
+            → CompletedAt p i (p .activity i .«actual_start») (p .activity i .«actual_finish») (d .es i) (d .ef i) (Placed p i (d .es i) (d .ef i))
+        each i l z =
+            ⊎-elim
+            (λ k.
+            rule-fresh i (p .activity i .«actual_start») (p .activity i .«actual_finish») (d .es i) (d .ef i) (Placed p i (d .es i) (d .ef i)) (k .unfinished)
+            (record {
+              may = k .may;
+              floored = k .floored;
+              advanced = k .advanced;
+              first = k .meets .first;
+              second = k .meets .second;
+              levelled = k .meets .third;
+            }))
+            (λ k.
+            completed-any p i (p .activity i .«actual_start») (p .activity i .«actual_finish») (d .es i) (d .ef i) (Placed p i (d .es i) (d .ef i))
+            (k .recorded)) (result i l z)
+
+        link : (t : ℕ) → t < kept p → UnlessCompleted p (p .activity (tie p t .to) .«actual_finish») (Held p (tie p t) (d .es) (d .ef))
+        link t l =
+            let i = tie p t .to in
+            ⊎-elim
+            (λ k.
+            unless-fresh (p .activity i .«actual_finish») (Held p (tie p t) (d .es) (d .ef)) (k .unfinished)
+            (of-held (tie p t) (d .es) (d .ef) (k .links t l refl)))
+            (λ k.
+            completed-unless p i (p .activity i .«actual_start») (p .activity i .«actual_finish») (d .es i) (d .ef i) (Held p (tie p t) (d .es) (d .ef))
+            (k .recorded)) (result i (tie-in t l) (tie-ends-kept p t l .1))
+
+    -- ---- and no timetable that obeys them is earlier anywhere
+    module _ (s f : ℕ → ℕ) (o : Obeyed p s f) where
+      abbrev NotLater : ℕ → Type 0
+      NotLater i = (d .es i ≤ s i) × (d .ef i ≤ f i)
+
+      not-later : (i q : ℕ) → q < p .activities → getD (order p) q 0 ≡ i → summary p i ≡ false
+          → ((j r : ℕ) → r < q → getD (order p) r 0 ≡ j → summary p j ≡ false → NotLater j) → NotLater i
+      not-later i q b e z before = ⊎-elim least fixed (result i l z)
+        where
+          l : i < p .activities
+          l = omega (arith, ordered .below q b, e)
+
+          fixed : Fixed (d .es) (d .ef) i → NotLater i
+          fixed k =
+              let h =
+              completed-unique p i (p .activity i .«actual_start») (p .activity i .«actual_finish») (d .es i) (d .ef i) (s i) (f i) (Placed p i (s i) (f i))
+              (k .recorded) (o .activities i l z) in
+              omega arith
+
+          link : Least (d .es) (d .ef) i → LinksHold (d .es) (d .ef) i (s i) (f i)
+          link k t m a =
+              let j = tie p t .from in
+              let r = ordered .before q j b (rw (a ∙ sym e) at (tie-linked p t m)) in
+              let h = before j (r .0) (r .1) (r .2) (tie-ends-kept p t m .0) in
+              let c : Held p (tie p t) s f =
+              fresh-unless (p .activity (tie p t .to) .«actual_finish») (Held p (tie p t) s f)
+              (ap (λ (x : ℕ). p .activity x .«actual_finish») a ∙ k .unfinished) (o .links t m) in
+              earlier-held (tie p t) i (d .es j) (d .ef j) (s j) (f j) (h .0) (h .1) (k .links t m a) (held-of (tie p t) i s f a c)
+
+          least : Least (d .es) (d .ef) i → NotLater i
+          least k =
+              let c : Placed p i (s i) (f i) =
+              fresh-rule i (p .activity i .«actual_start») (p .activity i .«actual_finish») (s i) (f i) (Placed p i (s i) (f i)) (k .unfinished)
+              (o .activities i l z) in
+              let h : d .es i ≤ s i =
+              k .least (s i) (f i) (c .may) (c .advanced) (c .floored) (record { first = c .first; second = c .second; third = c .levelled }) (link k) in
+              (h, advance-mono (own p i) h (k .advanced) (c .advanced))
+
+      below : (b i q : ℕ) → q < b → q < p .activities → getD (order p) q 0 ≡ i → summary p i ≡ false → NotLater i
+      below zero i q a l e z = absurd (omega arith)
+      below (suc b) i q a l e z = not-later i q l e z (λ j r c g y. below b j r (omega arith) (omega arith) g y)
+
+      pub early-least : (i : ℕ) → i < p .activities → summary p i ≡ false → d .es i ≤ s i
+      early-least i l z = let r = ordered-place ordered i l in below (suc (r .0)) i (r .0) (omega arith) (r .1) (r .2) z .0
