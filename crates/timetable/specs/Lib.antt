@@ -6,3 +6,4 @@ pub mod BoundLaws
 pub mod StepLaws
 pub mod PassLaws
 pub mod Earliest
+pub mod HeldLaws
