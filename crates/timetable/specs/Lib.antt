@@ -7,3 +7,4 @@ pub mod StepLaws
 pub mod PassLaws
 pub mod Earliest
 pub mod HeldLaws
+pub mod Demand
