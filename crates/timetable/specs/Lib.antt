@@ -8,3 +8,4 @@ pub mod PassLaws
 pub mod Earliest
 pub mod HeldLaws
 pub mod Demand
+pub mod AnswerLaws
