@@ -1,28 +1,34 @@
 -- The walks of the timetable rules always have an answer, on calendars whose walks do: so that a link holds of its one lagged time, and a start has
 -- its one finish.
-use mathlib.Core.Path.{_≡_, refl, sym, ap, _∙_}
-use mathlib.Core.Bool.{Bool, true, false}
+use mathlib.Core.Path.{_≡_, refl}
+use mathlib.Core.Bool.{Bool, false}
 use mathlib.Core.Logic.{_↔_}
-use Prim.Native.Nat.{ℕ, zero, suc, _+_, _*_, _^_, _≤_, _<_}
+use Prim.Native.Nat.{ℕ, suc, _+_, _*_, _≤_, _<_}
 use native.Mathlib.Omega.{arith}
 use lib.IntN.{ℤ, pos, negsuc}
 use lib.ListN.{getD}
 use Rattle.number.specs.Zed.{up, dn}
 use Rattle.date.specs.declared.Date.{Date}
+use Rattle.worktime.specs.Relations.{advance-after}
 use Rattle.worktime.specs.Worked.{IsNextStart, IsPreviousFinish, IsAdvance, IsRetreat}
 use Rattle.calendar.specs.Hours.{worked}
-use Rattle.project.specs.Ranges.{DayInRange}
+use Rattle.project.specs.declared.OptionalDate.{OptionalDate}
+use Rattle.project.specs.declared.OptionalDate.the-variants.{On, Absent}
+use Rattle.project.specs.declared.RelationshipType.{RelationshipType}
+use Rattle.project.specs.declared.RelationshipType.the-variants.{FinishToStart, StartToStart, FinishToFinish, StartToFinish}
+use Rattle.project.specs.Ranges.{DayInRange, OptionalInRange, ActivityInRange, ProjectInRange}
 use Rattle.placing.specs.Placing.{midnightOf}
 use Rattle.order.specs.Plan.{Plan}
+use Rattle.order.specs.Ids.{summary}
 use Rattle.order.specs.Ties.{Tie, keptBelow}
 use Rattle.order.specs.TieLaws.{kept-picked}
 use Rattle.order.specs.FineLaws.{plan-fine}
 use Rattle.order.specs.LagLaws.{calendar-below, tie-lag, tie-calendar}
 use Rattle.order.specs.LoopLaws.{fine-passes}
 use Rattle.order.specs.Checks.{checked}
-use Rattle.passes.specs.Plan.{evening, own, lagOwn, tie, kindOf, full}
+use Rattle.passes.specs.Plan.{evening, own, lagOwn, tie, kindOf, origin, later, floor, full}
 use Rattle.passes.specs.Forward.{sourceOf}
-use Rattle.timetable.specs.Rules.{IsShift, Bounds, Held}
+use Rattle.timetable.specs.Rules.{IsShift, Bounds, CompletedAt, Placed, Held, Obeyed}
 use Rattle.timetable.specs.WalkLaws.{shift-unique}
 use Rattle.timetable.specs.PassLaws.{kept}
 
@@ -80,3 +86,35 @@ module _ (p : Plan) (fine : checked p .number ≡ 0) (answers : (k : ℕ) → k 
         λ h v a. rw (shift-unique (lagOwn p k) x v (h .lagged) (k .lag) a (h .shifted)) (h .bound),
         λ h. let r = lag-answers t l x b in record { lagged = r .0; shifted = r .1; bound = h (r .0) (r .1) },
       )
+
+-- ---- in a timetable that obeys the rules no time lies before the first day that a sheet can name
+module _ (p : Plan) where
+  later-after : (t : ℕ) (x : OptionalDate) → t ≤ later p t x
+  later-after t (On d) = omega arith
+  later-after t Absent = omega arith
+
+  named-floor : ProjectInRange (p .project) → firstNamed ≤ floor p
+  named-floor r = omega (arith, named-after (p .project .start) (r .start), later-after (origin p) (p .project .«data_date»))
+
+  completed-named : (i : ℕ) (x y : OptionalDate) (s f : ℕ) (R : Type 0) → OptionalInRange x → OptionalInRange y
+      → (R → (firstNamed ≤ s) × (firstNamed ≤ f)) → CompletedAt p i x y s f R → (firstNamed ≤ s) × (firstNamed ≤ f)
+  completed-named i x Absent s f R a b g c = g c
+  completed-named i Absent (On e) s f R a b g c = let h = c .later .0 in omega (arith, named-after e (b e refl), c .start .after)
+  completed-named i (On d) (On e) s f R a b g c = let h = c .later .0 in omega (arith, named-after d (a d refl), c .start .after)
+
+  module _ (project : ProjectInRange (p .project)) (activities : (i : ℕ) → i < p .activities → ActivityInRange (p .activity i)) where
+    pub obeyed-named : (s f : ℕ → ℕ) → Obeyed p s f → (i : ℕ) → i < p .activities → summary p i ≡ false → (firstNamed ≤ s i) × (firstNamed ≤ f i)
+    obeyed-named s f o i l z =
+        completed-named i (p .activity i .«actual_start») (p .activity i .«actual_finish») (s i) (f i) (Placed p i (s i) (f i))
+        (activities i l .actual-start) (activities i l .actual-finish)
+        (λ c. omega (arith, named-floor project, c .floored, advance-after (own p i) (c .advanced))) (o .activities i l z)
+
+    pub source-named : (s f : ℕ → ℕ) → Obeyed p s f → (t : Tie) → t .from < p .activities → summary p (t .from) ≡ false
+        → firstNamed ≤ sourceOf p (t .kind) (s (t .from)) (f (t .from))
+    source-named s f o t l z = by (t .kind) (obeyed-named s f o (t .from) l z)
+      where
+        by : (kind : RelationshipType) → (firstNamed ≤ s (t .from)) × (firstNamed ≤ f (t .from)) → firstNamed ≤ sourceOf p kind (s (t .from)) (f (t .from))
+        by FinishToStart h = h .1
+        by StartToStart h = h .0
+        by FinishToFinish h = h .1
+        by StartToFinish h = h .0

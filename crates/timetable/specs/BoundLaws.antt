@@ -3,17 +3,17 @@ use mathlib.Core.Path.{_≡_, refl, sym, ap, _∙_}
 use mathlib.Core.Bool.{Bool, true, false}
 use mathlib.Core.List.{List, [], _∷_}
 use mathlib.Core.Logic.{_⊎_, inl, inr, ⊎-elim, _↔_}
-use Prim.Native.Nat.{ℕ, zero, suc, _+_, _≤_, _<_, max}
+use Prim.Native.Nat.{ℕ, zero, suc, _≤_, max}
 use native.Mathlib.Omega.{arith}
 use Rattle.date.specs.declared.Date.{Date}
 use Rattle.worktime.specs.declared.Walk.{Walk}
 use Rattle.worktime.specs.declared.Walk.the-variants.{At, Refused}
 use Rattle.worktime.specs.Walks.{shift}
-use Rattle.worktime.specs.Worked.{count, closing, IsPreviousFinish, IsAdvance}
+use Rattle.worktime.specs.Worked.{count, IsPreviousFinish, IsAdvance}
 use Rattle.worktime.specs.Count.{start-le}
 use Rattle.worktime.specs.Relations.{previous-finish-unique}
 use Rattle.worktime.specs.Adjoint.{finish-galois}
-use Rattle.worktime.specs.Reads.{on-true, on-false}
+use Rattle.worktime.specs.Reads.{on-false}
 use Rattle.project.specs.declared.ActivityKind.{ActivityKind}
 use Rattle.project.specs.declared.ActivityKind.the-variants.{Task, StartMilestone, FinishMilestone}
 use Rattle.project.specs.declared.Constraint.{Constraint}
@@ -22,7 +22,7 @@ use Rattle.project.specs.declared.OptionalDate.{OptionalDate}
 use Rattle.project.specs.declared.OptionalDate.the-variants.{On, Absent}
 use Rattle.project.specs.declared.RelationshipType.{RelationshipType}
 use Rattle.project.specs.declared.RelationshipType.the-variants.{FinishToStart, StartToStart, FinishToFinish, StartToFinish}
-use Rattle.project.specs.declared.End.the-variants.{Start, Finish, Neither}
+use Rattle.project.specs.declared.End.the-variants.{Start, Finish}
 use Rattle.project.specs.Status.{onStart}
 use Rattle.placing.specs.declared.Moment.{Moment}
 use Rattle.placing.specs.declared.Moment.the-variants.{Nowhere}
@@ -32,10 +32,10 @@ use Rattle.order.specs.Ids.{summary}
 use Rattle.order.specs.Ties.{Tie}
 use Rattle.passes.specs.Plan.{evening, own, lagOwn, tie, kindOf, origin, recorded, begun}
 use Rattle.passes.specs.Dates.{Early}
-use Rattle.passes.specs.Forward.{sourceOf, forwardBound, startFor, linkBound, linkStart, raised, atEarly, onTime, constrained, levelled, held}
+use Rattle.passes.specs.Forward.{sourceOf, forwardBound, startFor, linkBound, linkStart, raised, onTime, constrained, levelled, held}
 use Rattle.timetable.specs.Rules.{IsShift, MayStart, FinishBound, Bounds, FinishDate, Meets, MeetsLevelled}
 use Rattle.timetable.specs.Fit.{Mild}
-use Rattle.timetable.specs.WalkLaws.{via-at, bounded-at, shift-sound, shift-unique, start-time, finish-time, start-somewhere, finish-somewhere, nowhere, start-for-moment, start-for-work}
+use Rattle.timetable.specs.WalkLaws.{via-at, bounded-at, shift-sound, shift-unique, start-time, finish-time, start-somewhere, finish-somewhere, start-for-moment, start-for-work}
 
 -- work of a kind may start at v, and n minutes of it end at g; a finish milestone has none
 pub record Starts (w : ℕ → Bool) (kind : ActivityKind) (n v g : ℕ) : Type 0 where

@@ -2,17 +2,14 @@
 -- activity starts at that minute or later.
 use mathlib.Core.Path.{_≡_, refl, sym, ap, _∙_}
 use mathlib.Core.Bool.{Bool, true, false}
-use Prim.Native.Nat.{ℕ, zero, suc, _≤_, _<_}
+use Prim.Native.Nat.{ℕ, _≤_, _<_}
 use native.Mathlib.Omega.{arith}
-use lib.IntN.{ℤ, pos, negsuc}
+use lib.IntN.{ℤ}
 use lib.Signed.{leZ}
 use Rattle.number.specs.Zed.{up}
 use Rattle.date.specs.Days.{signedMinute}
-use Rattle.worktime.specs.Reads.{on-true, on-false}
-use Rattle.worktime.specs.Worked.{IsNextStart, IsPreviousFinish, IsAdvance, IsRetreat}
 use Rattle.project.specs.declared.ActivityKind.{ActivityKind}
 use Rattle.project.specs.declared.ActivityKind.the-variants.{Task, StartMilestone, FinishMilestone}
-use Rattle.project.specs.declared.Constraint.{Constraint}
 use Rattle.project.specs.declared.OptionalDate.{OptionalDate}
 use Rattle.project.specs.declared.OptionalDate.the-variants.{On, Absent}
 use Rattle.project.specs.declared.Status.the-variants.{InProgress}
@@ -21,7 +18,7 @@ use Rattle.project.specs.Status.{isMilestone, statusOf}
 use Rattle.order.specs.Plan.{Plan}
 use Rattle.order.specs.Ids.{summary}
 use Rattle.order.specs.Checks.{checked}
-use Rattle.passes.specs.Plan.{kindOf, full}
+use Rattle.passes.specs.Plan.{full}
 use Rattle.passes.specs.Dates.{Early, Late, Freed, Pass, leaves, refused, after}
 use Rattle.passes.specs.Run.{Ran, remaining, forwardPass, backwardPass, freePass, pathPass, run}
 use Rattle.passes.specs.Backward.{finish}

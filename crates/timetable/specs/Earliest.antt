@@ -2,16 +2,15 @@
 -- does each activity starts at that minute or later.
 use mathlib.Core.Path.{_≡_, refl, sym, ap, subst, _∙_}
 use mathlib.Core.Bool.{Bool, true, false}
-use mathlib.Core.List.{List}
-use mathlib.Core.Logic.{_⊎_, inl, inr, ⊎-elim, _≢_}
-use Prim.Native.Nat.{ℕ, zero, suc, _+_, _^_, _≤_, _<_}
+use mathlib.Core.Logic.{_⊎_, inl, inr, ⊎-elim}
+use Prim.Native.Nat.{ℕ, zero, suc, _^_, _≤_, _<_}
 use native.Mathlib.Omega.{arith}
 use lib.ListN.{length, getD}
 use lib.IntN.{ℤ, pos}
 use lib.Signed.{leZ}
 use Rattle.number.specs.ZedLaws.{le-leZ, minus-is}
 use Rattle.date.specs.Days.{midnight, signedMinute}
-use Rattle.worktime.specs.Worked.{count, IsAdvance}
+use Rattle.worktime.specs.Worked.{IsAdvance}
 use Rattle.worktime.specs.Count.{count-mono}
 use Rattle.worktime.specs.Relations.{advance-mono}
 use Rattle.project.specs.declared.ActivityKind.{ActivityKind}
@@ -20,26 +19,24 @@ use Rattle.project.specs.declared.OptionalDate.{OptionalDate}
 use Rattle.project.specs.declared.OptionalDate.the-variants.{On, Absent}
 use Rattle.project.specs.declared.RelationshipType.{RelationshipType}
 use Rattle.project.specs.declared.RelationshipType.the-variants.{FinishToStart, StartToStart, FinishToFinish, StartToFinish}
-use Rattle.network.specs.Links.{Linked, Ordered}
+use Rattle.network.specs.Links.{Ordered}
 use Rattle.network.specs.Placed.{ordered-place}
 use Rattle.placing.specs.declared.Actual.{Actual}
-use Rattle.placing.specs.declared.Actual.the-variants.{Unstarted, Begun, Completed}
-use Rattle.placing.specs.Placing.{actual}
 use Rattle.order.specs.Plan.{Plan}
 use Rattle.order.specs.Ids.{summary}
-use Rattle.order.specs.Ties.{Tie, keptBelow, keptLinks}
+use Rattle.order.specs.Ties.{Tie, keptLinks}
 use Rattle.order.specs.Checks.{checked, order}
 use Rattle.order.specs.FineLaws.{plan-fine}
 use Rattle.order.specs.TieLaws.{ends-length, kept-ranged}
 use Rattle.order.specs.LoopLaws.{fine-passes, fine-ordered}
 use Rattle.passes.specs.Plan.{own, lagOwn, tie, tiesInto, kindOf, floor, recorded, begun, full}
-use Rattle.passes.specs.Dates.{Early, Pass, leaves, refused, put, through}
-use Rattle.passes.specs.Forward.{sourceOf, leftOf, leftBelow, early, forward}
+use Rattle.passes.specs.Dates.{Early, leaves}
+use Rattle.passes.specs.Forward.{sourceOf, early, forward}
 use Rattle.passes.specs.Run.{remaining, early₀, forwardPass}
 use Rattle.timetable.specs.Rules.{MayStart, FinishBound, Bounds, CompletedAt, Placed, Held, UnlessCompleted, Obeyed, Obeys}
 use Rattle.timetable.specs.Fit.{Marks, Fit}
 use Rattle.timetable.specs.WalkLaws.{shift-mono}
-use Rattle.timetable.specs.BoundLaws.{Starts, Each, HeldBy, HeldAt, MeetsAll, raised-bound, held-bound}
+use Rattle.timetable.specs.BoundLaws.{Starts, HeldBy, HeldAt, MeetsAll, raised-bound, held-bound}
 use Rattle.timetable.specs.StepLaws.{put-here, completed-any, completed-unique, completed-unless, Sort, fresh, done, FreshStep, fresh-step, recorded-actual, step-sort}
 use Rattle.timetable.specs.PassLaws.{Trace, through-trace, kept, tie-ends, tie-linked, tie-ends-kept, into-each, each-into, left-of, left-full, Same, same-between}
 

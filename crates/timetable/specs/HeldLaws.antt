@@ -2,37 +2,31 @@
 use mathlib.Core.Path.{_≡_, refl, sym, ap, _∙_}
 use mathlib.Core.Bool.{Bool, true, false, _&&_, _||_, not}
 use mathlib.Core.List.{List, [], _∷_, reverse}
-use mathlib.Core.Logic.{⊎-elim}
 use Prim.Native.Nat.{ℕ, zero, suc, _≤_, _<_}
 use native.Mathlib.Omega.{arith}
 use lib.Dec.{ltb}
 use lib.IntN.{ℤ}
 use lib.ListN.{length, getD}
-use Rattle.number.specs.Order.{cases}
 use Rattle.number.specs.Sign.{minZ}
 use Rattle.worktime.specs.declared.Walk.{Walk}
 use Rattle.worktime.specs.declared.Walk.the-variants.{At, Refused}
 use Rattle.worktime.specs.declared.Work.{Work}
 use Rattle.worktime.specs.declared.Work.the-variants.{Minutes}
 use Rattle.worktime.specs.Walks.{nextStart, previousFinish, between}
-use Rattle.worktime.specs.Reads.{on-true, on-false}
 use Rattle.project.specs.declared.Constraint.{Constraint}
 use Rattle.project.specs.declared.Constraint.the-variants.{Unconstrained, StartOnOrAfter, StartOnOrBefore, FinishOnOrAfter, FinishOnOrBefore, StartOn, FinishOn, MandatoryStart, MandatoryFinish, AsLateAsPossible}
 use Rattle.project.specs.declared.OptionalDate.{OptionalDate}
 use Rattle.project.specs.declared.OptionalDate.the-variants.{On, Absent}
-use Rattle.network.specs.Links.{Ordered}
-use Rattle.network.specs.Times.{times, times-at, times-place}
+use Rattle.network.specs.Times.{times-at, times-place}
 use Rattle.network.specs.Placed.{times-reverse}
 use Rattle.placing.specs.declared.Actual.{Actual}
-use Rattle.placing.specs.declared.Actual.the-variants.{Unstarted, Begun, Completed}
 use Rattle.placing.specs.Placing.{via, midnightOf, completed, actual}
 use Rattle.order.specs.Plan.{Plan}
 use Rattle.order.specs.Ids.{summary}
-use Rattle.order.specs.Ties.{keptLinks}
 use Rattle.order.specs.Checks.{checked, order}
 use Rattle.order.specs.LoopLaws.{fine-ordered}
 use Rattle.passes.specs.Plan.{evening, own, tie, tiesOut, recorded, begun}
-use Rattle.passes.specs.Dates.{Early, Late, Freed, Pass, leaves, refused, after, put}
+use Rattle.passes.specs.Dates.{Early, Late, Freed, Pass, leaves, refused, put}
 use Rattle.passes.specs.Forward.{forwardBound}
 use Rattle.passes.specs.Backward.{finish}
 use Rattle.passes.specs.Floats.{measured, isLate, targetOf, gap, slackBy, notBegun, holdsLate, heldMove, freeBy, freed, freeFloat}

@@ -2,30 +2,28 @@
 use mathlib.Core.Path.{_≡_, refl, sym, ap, _∙_}
 use mathlib.Core.Bool.{Bool, true, false, _||_, true≢false}
 use mathlib.Core.List.{List, [], _∷_}
-use mathlib.Core.Logic.{_⊎_, inl, inr, ⊎-elim, _↔_, _≢_}
+use mathlib.Core.Logic.{⊎-elim, _≢_}
 use Prim.Native.Nat.{ℕ, zero, suc, _+_, _≤_, _<_}
 use native.Mathlib.Omega.{arith}
 use lib.Dec.{eqb}
 use lib.ListN.{length, getD}
 use borrow.Author.Tests.{eq-eqb, eqb-true}
 use Rattle.number.specs.Order.{lt-or-le, eq-or-ne}
-use Rattle.worktime.specs.declared.Walk.{Walk}
-use Rattle.worktime.specs.declared.Walk.the-variants.{At, Refused}
-use Rattle.network.specs.Links.{Link, noLink, Linked, Ordered}
+use Rattle.worktime.specs.declared.Walk.the-variants.{At}
+use Rattle.network.specs.Links.{Link, noLink, Linked}
 use Rattle.network.specs.Outgoing.{having, toAt, incoming}
-use Rattle.placing.specs.declared.Actual.{Actual}
-use Rattle.placing.specs.declared.Actual.the-variants.{Unstarted, Begun, Completed}
+use Rattle.placing.specs.declared.Actual.the-variants.{Unstarted}
 use Rattle.placing.specs.Placing.{via}
 use Rattle.order.specs.Plan.{Plan}
 use Rattle.order.specs.Ids.{summary}
-use Rattle.order.specs.Ties.{Tie, tieOf, keptBelow, keptLinks, endsBelow, ignored, fromOf, toOf}
-use Rattle.order.specs.TieLaws.{endsOf, ends-length, ends-at, kept-picked}
+use Rattle.order.specs.Ties.{tieOf, keptBelow, keptLinks, ignored, fromOf, toOf}
+use Rattle.order.specs.TieLaws.{ends-length, ends-at, kept-picked}
 use Rattle.passes.specs.Plan.{tie, tiesInto, recorded, full}
 use Rattle.passes.specs.Dates.{Early, Pass, leaves, refused, after, put, through}
-use Rattle.passes.specs.Forward.{leftBy, leftOf, leftBelow, early, forward}
+use Rattle.passes.specs.Forward.{leftBy, leftOf, leftBelow, forward}
 use Rattle.timetable.specs.WalkLaws.{via-leaves}
 use Rattle.timetable.specs.BoundLaws.{Each}
-use Rattle.timetable.specs.StepLaws.{put-here, put-there, Changes, step-changes}
+use Rattle.timetable.specs.StepLaws.{put-here, put-there, step-changes}
 
 -- ---- a pass that is not refused, step by step
 module _ {A : Type 0} (step : A → ℕ → Pass A) where

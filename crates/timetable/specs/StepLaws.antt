@@ -1,8 +1,8 @@
 -- What one step of the forward pass gives: a completed activity's recorded times, and the least start that meets every bound of another.
 use mathlib.Core.Path.{_≡_, refl, sym, ap, _∙_}
-use mathlib.Core.Bool.{Bool, true, false}
-use mathlib.Core.Logic.{_⊎_, inl, inr, ⊎-elim, _↔_, _≢_}
-use Prim.Native.Nat.{ℕ, zero, suc, _+_, _≤_, _<_, max}
+use mathlib.Core.Bool.{Bool, false}
+use mathlib.Core.Logic.{_⊎_, inl, inr, ⊎-elim, _≢_}
+use Prim.Native.Nat.{ℕ, _≤_, _<_, max}
 use native.Mathlib.Omega.{arith}
 use lib.Dec.{eqb}
 use Rattle.number.specs.Order.{lt-or-le}
@@ -25,12 +25,12 @@ use Rattle.placing.specs.declared.Actual.the-variants.{Unstarted, Begun, Comple
 use Rattle.placing.specs.Placing.{via, bounded, midnightOf, placeStart, finishOf, completed, actual}
 use Rattle.order.specs.Plan.{Plan}
 use Rattle.order.specs.Ids.{summary}
-use Rattle.passes.specs.Plan.{evening, own, tiesInto, kindOf, origin, floor, recorded, full}
+use Rattle.passes.specs.Plan.{evening, own, tiesInto, kindOf, origin, floor, recorded}
 use Rattle.passes.specs.Dates.{Early, Pass, leaves, refused, put}
 use Rattle.passes.specs.Forward.{raised, held, expectedOn, workTo, minutesFrom, startBy, early, placed, forwardBy, forward}
 use Rattle.timetable.specs.Rules.{Recorded, CompletedAt, UnlessCompleted}
 use Rattle.timetable.specs.Fit.{Unexpected, FitBy, Marks, Fit}
-use Rattle.timetable.specs.WalkLaws.{via-at, via-leaves, bounded-at, place-sound, IsPlace}
+use Rattle.timetable.specs.WalkLaws.{via-leaves, bounded-at, place-sound, IsPlace}
 
 -- ---- a function changed at one place
 module _ {A : Type 0} (f : ℕ → A) (i : ℕ) (v : A) where

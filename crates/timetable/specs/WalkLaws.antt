@@ -1,27 +1,26 @@
 -- What the answer of several walks says of each of them, and where an activity's start is placed.
 use mathlib.Core.Path.{_≡_, refl, sym, ap, _∙_}
 use mathlib.Core.Bool.{Bool, true, false, _&&_}
-use mathlib.Core.Logic.{_⊎_, inl, inr, ⊎-elim, _↔_}
-use Prim.Native.Nat.{ℕ, zero, suc, _+_, _/_, _≤_, _<_}
+use mathlib.Core.Logic.{_⊎_, inl, inr, ⊎-elim}
+use Prim.Native.Nat.{ℕ, _+_, _/_, _≤_, _<_}
 use native.Mathlib.Omega.{arith}
 use lib.Dec.{eqb, leb}
 use lib.IntN.{ℤ, pos, negsuc}
 use borrow.Author.Tests.{eq-eqb, ne-eqb}
-use Rattle.number.specs.Order.{cases, zero-or-pos}
+use Rattle.number.specs.Order.{cases}
 use Rattle.date.specs.declared.Date.{Date}
 use Rattle.date.specs.Years.{inYears}
 use Rattle.worktime.specs.declared.Walk.{Walk}
 use Rattle.worktime.specs.declared.Walk.the-variants.{At, Refused}
 use Rattle.worktime.specs.Walks.{reads, tooLong, previousFinish, nextFinish, retreat, shift}
-use Rattle.worktime.specs.Worked.{count, closing, IsNextStart, IsNextFinish, IsPreviousFinish, IsAdvance, IsRetreat}
-use Rattle.worktime.specs.Count.{count-mono}
+use Rattle.worktime.specs.Worked.{closing, IsNextFinish, IsPreviousFinish, IsRetreat}
 use Rattle.worktime.specs.Relations.{next-start-here, next-finish-here, next-finish-later, next-finish-mono, next-finish-after, advance-unique, advance-mono, retreat-unique, retreat-mono}
 use Rattle.worktime.specs.Reads.{at-or-refused, on-true, on-false, reads-in, reads-out}
 use Rattle.worktime.specs.Answers.{next-start-sound, next-finish-sound, previous-finish-sound}
 use Rattle.worktime.specs.Shift.{advance-sound, retreat-sound, shift-forward, shift-back}
 use Rattle.project.specs.declared.ActivityKind.{ActivityKind}
 use Rattle.project.specs.declared.ActivityKind.the-variants.{Task, StartMilestone, FinishMilestone}
-use Rattle.project.specs.declared.End.the-variants.{Start, Finish, Neither}
+use Rattle.project.specs.declared.End.the-variants.{Start, Finish}
 use Rattle.placing.specs.declared.Moment.{Moment}
 use Rattle.placing.specs.declared.Moment.the-variants.{Nowhere}
 use Rattle.placing.specs.Placing.{via, bounded, midnightOf, placeStart, startForFinish, dayStart, momentOf, constraintTime}
@@ -111,10 +110,6 @@ module _ (w : ℕ → Bool) where
   pub finish-somewhere : (x : Date) → constraintTime w (Finish x) ≡ Nowhere → ⊥
   unfolding constraintTime
   finish-somewhere x e = some-time (previousFinish w (midnightOf x + 1440)) e
-
-  pub nowhere : {t : ℕ} → constraintTime w Neither ≡ Moment.At t → ⊥
-  unfolding constraintTime
-  nowhere e = let z : _≡_ {A = ℕ} 0 1 = cc in omega arith
 
   -- ---- the start for a finish
   pub start-for-moment : (t : ℕ) {u : ℕ} → startForFinish w 0 t ≡ At u → u ≡ t
