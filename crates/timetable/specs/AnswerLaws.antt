@@ -81,8 +81,7 @@ module _ (p : Plan) (fine : checked p .number ≡ 0) (answers : (k : ℕ) → k 
       → Bounds (own p (tie p t .to)) (kindOf p (tie p t .to)) (tie p t .kind) v (s (tie p t .to)) (f (tie p t .to)))
   held-every t l s f b =
       let k = tie p t in
-      let x = sourceOf p (k .kind) (s (k .from)) (f (k .from)) in
-      (
+      let x = sourceOf p (k .kind) (s (k .from)) (f (k .from)) in (
         λ h v a. rw (shift-unique (lagOwn p k) x v (h .lagged) (k .lag) a (h .shifted)) (h .bound),
         λ h. let r = lag-answers t l x b in record { lagged = r .0; shifted = r .1; bound = h (r .0) (r .1) },
       )
