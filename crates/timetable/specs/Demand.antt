@@ -5,8 +5,9 @@ use mathlib.Core.Bool.{Bool, true, false}
 use Prim.Native.Nat.{ℕ, _≤_, _<_}
 use native.Mathlib.Omega.{arith}
 use lib.IntN.{ℤ}
-use lib.Signed.{leZ}
+use lib.Signed.{ltZ, leZ}
 use Rattle.number.specs.Zed.{up}
+use Rattle.number.specs.ZedLaws.{ltZ-true, leZ-true}
 use Rattle.date.specs.Days.{signedMinute}
 use Rattle.project.specs.declared.ActivityKind.{ActivityKind}
 use Rattle.project.specs.declared.ActivityKind.the-variants.{Task, StartMilestone, FinishMilestone}
@@ -139,3 +140,10 @@ module _ (p : Plan) where
       pub run-first : (start : ℕ → ℤ) → Obeys p start → (i : ℕ) → i < p .activities → summary p i ≡ false
           → leZ (signedMinute (r .early .es i)) (start i) ≡ true
       run-first = early-first p fine fit momentary (parts .left) (r .early) (parts .remains) (parts .passes)
+
+      -- so one with an earlier start anywhere disobeys
+      pub earlier-disobeys : (start : ℕ → ℤ) (i : ℕ) → i < p .activities → summary p i ≡ false
+          → ltZ (start i) (signedMinute (r .early .es i)) ≡ true → Obeys p start → ⊥
+      earlier-disobeys start i l z h o =
+          let t = signedMinute (r .early .es i) in
+          absurd (omega (arith, ltZ-true (start i) t h, leZ-true t (start i) (run-first start o i l z)))

@@ -62,27 +62,30 @@ all-none false false l e = refl
 
 module _ (p : Plan) (d : Early) where
   -- ---- nothing is held late
+  abbrev late : ℕ → Bool
+  late i = isLate (p .activity i .constraint) || isLate (p .activity i .«secondary_constraint»)
+
   completed-begun : (i : ℕ) (x y : Walk) (l : Bool) → (notBegun p d (via Actual.Refused x (λ s. completed (own p i) s y)) && l) ≡ false
   completed-begun i (At t) (At u) l = refl
   completed-begun i (At t) (Refused k) l = refl
   completed-begun i (Refused k) y l = refl
 
   not-late : (i : ℕ) (x y : OptionalDate) → FitBy x y (Marks p i)
-      → (notBegun p d (actual (own p i) x y) && (isLate (p .activity i .constraint) || isLate (p .activity i .«secondary_constraint»))) ≡ false
+      → (notBegun p d (actual (own p i) x y) && (late i)) ≡ false
   unfolding actual
   not-late i Absent Absent m =
       either-none (isLate (p .activity i .constraint)) (isLate (p .activity i .«secondary_constraint»)) (mild-late (p .activity i .constraint) (m .first))
       (mild-late (p .activity i .«secondary_constraint») (m .second))
   not-late i (On a) Absent m = absurd m
   not-late i Absent (On b) m =
-      completed-begun i (nextStart (own p i) (midnightOf b)) (previousFinish (own p i) (evening (midnightOf b))) (isLate (p .activity i .constraint) || isLate (p .activity i .«secondary_constraint»))
+      completed-begun i (nextStart (own p i) (midnightOf b)) (previousFinish (own p i) (evening (midnightOf b))) (late i)
   not-late i (On a) (On b) m =
-      completed-begun i (nextStart (own p i) (midnightOf a)) (previousFinish (own p i) (evening (midnightOf b))) (isLate (p .activity i .constraint) || isLate (p .activity i .«secondary_constraint»))
+      completed-begun i (nextStart (own p i) (midnightOf a)) (previousFinish (own p i) (evening (midnightOf b))) (late i)
 
   pub none-held : Fit p → (i : ℕ) → i < p .activities → holdsLate p d i ≡ false
   unfolding holdsLate
   none-held fit i l =
-      all-none (summary p i) (notBegun p d (recorded p i)) (isLate (p .activity i .constraint) || isLate (p .activity i .«secondary_constraint»))
+      all-none (summary p i) (notBegun p d (recorded p i)) (late i)
       (λ z. rw (recorded-actual p i z) (not-late i (p .activity i .«actual_start») (p .activity i .«actual_finish») (fit i l z)))
 
   -- ---- one step of the free floats

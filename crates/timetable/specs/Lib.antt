@@ -5,6 +5,7 @@ pub mod WalkLaws
 pub mod BoundLaws
 pub mod StepLaws
 pub mod PassLaws
+pub mod LeastLaws
 pub mod Earliest
 pub mod HeldLaws
 pub mod Demand
