@@ -1,6 +1,6 @@
 -- A calendar as the sheet's W and E records give it: n records from the byte `at` on, each with its byte of kind first.
 use mathlib.Core.Path.{_≡_}
-use mathlib.Core.Bool.{Bool, true, false}
+use mathlib.Core.Bool.{Bool, true, false, _||_}
 use mathlib.Core.List.{List, [], _∷_, _++_}
 use Prim.Native.Nat.{ℕ, zero, suc, _+_, _-_, _*_, _%_, _≤_, _<_}
 use lib.Dec.{eqb}
@@ -9,7 +9,7 @@ use Rattle.date.specs.Days.{weekday}
 use Rattle.number.specs.Bytes.{byteAt, u16At, biasedAt}
 use Rattle.calendar.specs.declared.Period.{Period}
 use Rattle.calendar.specs.declared.Hours.{Hours}
-use Rattle.calendar.specs.Hours.{none, Ordered}
+use Rattle.calendar.specs.Hours.{none, Ordered, works}
 
 -- ---- W (6 bytes with its kind): weekday u8, from and to, u16
 abbrev pub weekdayAt : List ℕ → ℕ → ℕ → ℕ
@@ -36,6 +36,15 @@ weekOf s at n =
 -- "A round-the-clock calendar of 1,440": every minute of every day
 unfoldable pub roundTheClock : List (List Period)
 roundTheClock = replicate 7 (record { from = 0; to = 1440 } ∷ replicate 7 none)
+
+-- some of the first k weekdays has hours
+unfoldable pub someRow : List (List Period) → ℕ → Bool
+someRow week zero = false
+someRow week (suc k) = works (getD week k []) || someRow week k
+
+-- "weekly hours": some weekday has them
+abbrev pub weeklyHours : List (List Period) → Bool
+weeklyHours week = someRow week 7
 
 -- ---- E (9 bytes with its kind): day i32, from and to, u16
 abbrev pub exceptionDay : List ℕ → ℕ → ℕ → ℕ

@@ -1,6 +1,6 @@
--- The week of the W records, a record at a time, as a loop over them goes; and the round-the-clock week.
+-- The week of the W records, a record at a time, as a loop over them goes; weekly hours; and the round-the-clock week.
 use mathlib.Core.Path.{_≡_, refl, sym, ap, _∙_}
-use mathlib.Core.Bool.{true}
+use mathlib.Core.Bool.{true, false, true≢false}
 use mathlib.Core.Logic.{_⊎_, ⊎-elim}
 use mathlib.Core.List.{List, [], _∷_, _++_, append-assoc}
 use Prim.Native.Nat.{ℕ, zero, suc, _+_, _-_, _≤_, _<_}
@@ -10,12 +10,12 @@ use native.Mathlib.Numerals.{add-one}
 use borrow.Author.Tests.{eq-eqb, ne-eqb}
 use lib.ListN.{length, getD, set, replicate, length-append, length-replicate, getD-replicate}
 use lib.Seq.{set-append-seam, ext-getD}
-use Rattle.number.specs.Order.{eq-or-ne}
+use Rattle.number.specs.Order.{eq-or-ne, lt-or-le, cases}
 use Rattle.calendar.specs.declared.Period.{Period}
-use Rattle.calendar.specs.Hours.{none, held, Ordered}
-use Rattle.calendar.specs.Records.{weekdayAt, weekPeriodAt, weekPeriods, pad, weekOf, roundTheClock}
+use Rattle.calendar.specs.Hours.{none, held, Ordered, works}
+use Rattle.calendar.specs.Records.{weekdayAt, weekPeriodAt, weekPeriods, pad, weekOf, roundTheClock, someRow, weeklyHours}
 use Rattle.date.specs.Days.{weekday}
-use Rattle.calendar.specs.HoursLaws.{holds-in, held-here}
+use Rattle.calendar.specs.HoursLaws.{holds-in, held-here, works-here}
 
 pub pad-length : (ps : List Period) → length ps ≤ 8 → length (pad ps) ≡ 8
 pad-length ps l = omega (arith, length-append ps (replicate (8 - length ps) none), length-replicate (8 - length ps) none)
@@ -90,6 +90,39 @@ module _ (s : List ℕ) (at n : ℕ) where
   pub week-rows : (week : List (List Period)) → length week ≡ 7 → ((k : ℕ) → k < 7 → getD week k [] ≡ pad (weekPeriods s at k n)) → week ≡ weekOf s at n
   week-rows week l f = ext-getD [] week (weekOf s at n) (l ∙ sym week-length) (λ k h. f k (omega arith) ∙ sym (week-row k (omega arith)))
 
+-- ---- weekly hours
+module _ (week : List (List Period)) (k : ℕ) where
+  pub some-here : works (getD week k []) ≡ true → someRow week (suc k) ≡ true
+  unfolding someRow
+  some-here e = rw e
+
+  pub some-rest : works (getD week k []) ≡ false → someRow week (suc k) ≡ someRow week k
+  unfolding someRow
+  some-rest e = rw e
+
+pub some-none : (week : List (List Period)) → someRow week 0 ≡ false
+unfolding someRow
+some-none week = refl
+
+-- a weekday that has hours is among those below any greater number
+pub some-row : (week : List (List Period)) (k n : ℕ) → k < n → works (getD week k []) ≡ true → someRow week n ≡ true
+some-row week k zero l e = absurd (omega arith)
+some-row week k (suc n) l e =
+    ⊎-elim (λ h. some-here week n h)
+    (λ h. some-rest week n h ∙ ⊎-elim (λ m. some-row week k n m e) (λ m. let s : k ≡ n = omega arith in absurd (true≢false (sym e ∙ (rw s h)))) (lt-or-le k n))
+    (cases (works (getD week n [])))
+
+-- the weekday that has hours
+pub row-of : (week : List (List Period)) (n : ℕ) → someRow week n ≡ true → (k : ℕ) × (k < n) × (works (getD week k []) ≡ true)
+row-of week zero e = absurd (true≢false (sym e ∙ some-none week))
+row-of week (suc n) e =
+    ⊎-elim (λ h. (n, omega arith, h)) (λ h. let r = row-of week n (sym (some-rest week n h) ∙ e) in (r .0, omega arith, r .2))
+    (cases (works (getD week n [])))
+
+-- as a loop over the weekdays goes
+pub some-step : (week : List (List Period)) (k : ℕ) → someRow week k ≡ false → works (getD week k []) ≡ false → someRow week (k + 1) ≡ false
+some-step week k p e = rw (add-one k) (some-rest week k e ∙ p)
+
 -- ---- round the clock
 abbrev pub wholeDay : List Period
 wholeDay = record { from = 0; to = 1440 } ∷ replicate 7 none
@@ -115,3 +148,6 @@ clock-held d m l = rw (clock-row (weekday d) (omega arith)) (whole-held m l)
 
 pub clock-ordered : (d : ℕ) → Ordered 0 (getD roundTheClock (weekday d) [])
 clock-ordered d = rw (clock-row (weekday d) (omega arith)) whole-ordered
+
+pub clock-weekly : weeklyHours roundTheClock ≡ true
+clock-weekly = some-row roundTheClock 0 7 (omega arith) (rw (clock-row 0 (omega arith)) (works-here (record { from = 0; to = 1440 }) (replicate 7 none) (omega arith)))
