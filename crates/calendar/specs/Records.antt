@@ -1,6 +1,6 @@
 -- A calendar as the sheet's W and E records give it: n records from the byte `at` on, each with its byte of kind first.
 use mathlib.Core.Path.{_≡_}
-use mathlib.Core.Bool.{Bool, true, false, _||_}
+use mathlib.Core.Bool.{Bool, true, false}
 use mathlib.Core.List.{List, [], _∷_, _++_}
 use Prim.Native.Nat.{ℕ, zero, suc, _+_, _-_, _*_, _%_, _≤_, _<_}
 use lib.Dec.{eqb}
@@ -37,14 +37,10 @@ weekOf s at n =
 unfoldable pub roundTheClock : List (List Period)
 roundTheClock = replicate 7 (record { from = 0; to = 1440 } ∷ replicate 7 none)
 
--- some of the first k weekdays has hours
-unfoldable pub someRow : List (List Period) → ℕ → Bool
-someRow week zero = false
-someRow week (suc k) = works (getD week k []) || someRow week k
-
 -- "weekly hours": some weekday has them
-abbrev pub weeklyHours : List (List Period) → Bool
-weeklyHours week = someRow week 7
+unfoldable pub weeklyHours : List (List Period) → Bool
+weeklyHours [] = false
+weeklyHours (r ∷ rs) = elim (works r) [ true ↦ true | false ↦ weeklyHours rs ]
 
 -- ---- E (9 bytes with its kind): day i32, from and to, u16
 abbrev pub exceptionDay : List ℕ → ℕ → ℕ → ℕ

@@ -8,14 +8,14 @@ use native.Mathlib.Omega.{arith}
 use native.Mathlib.Nat.{add-zero}
 use native.Mathlib.Numerals.{add-one}
 use borrow.Author.Tests.{eq-eqb, ne-eqb}
-use lib.ListN.{length, getD, set, replicate, length-append, length-replicate, getD-replicate}
-use lib.Seq.{set-append-seam, ext-getD}
-use Rattle.number.specs.Order.{eq-or-ne, lt-or-le, cases}
+use lib.ListN.{length, getD, set, drop, replicate, length-append, length-replicate, getD-replicate, drop-of-length-le}
+use lib.Seq.{set-append-seam, ext-getD, drop-cons}
+use Rattle.number.specs.Order.{eq-or-ne, cases}
 use Rattle.calendar.specs.declared.Period.{Period}
 use Rattle.calendar.specs.Hours.{none, held, Ordered, works}
-use Rattle.calendar.specs.Records.{weekdayAt, weekPeriodAt, weekPeriods, pad, weekOf, roundTheClock, someRow, weeklyHours}
+use Rattle.calendar.specs.Records.{weekdayAt, weekPeriodAt, weekPeriods, pad, weekOf, roundTheClock, weeklyHours}
 use Rattle.date.specs.Days.{weekday}
-use Rattle.calendar.specs.HoursLaws.{holds-in, held-here, works-here}
+use Rattle.calendar.specs.HoursLaws.{holds-in, held-here}
 
 pub pad-length : (ps : List Period) → length ps ≤ 8 → length (pad ps) ≡ 8
 pad-length ps l = omega (arith, length-append ps (replicate (8 - length ps) none), length-replicate (8 - length ps) none)
@@ -91,37 +91,39 @@ module _ (s : List ℕ) (at n : ℕ) where
   week-rows week l f = ext-getD [] week (weekOf s at n) (l ∙ sym week-length) (λ k h. f k (omega arith) ∙ sym (week-row k (omega arith)))
 
 -- ---- weekly hours
-module _ (week : List (List Period)) (k : ℕ) where
-  pub some-here : works (getD week k []) ≡ true → someRow week (suc k) ≡ true
-  unfolding someRow
-  some-here e = rw e
+module _ (r : List Period) (rs : List (List Period)) where
+  pub weekly-here : works r ≡ true → weeklyHours (r ∷ rs) ≡ true
+  unfolding weeklyHours
+  weekly-here e = rw (e, weeklyHours)
 
-  pub some-rest : works (getD week k []) ≡ false → someRow week (suc k) ≡ someRow week k
-  unfolding someRow
-  some-rest e = rw e
+  pub weekly-rest : works r ≡ false → weeklyHours (r ∷ rs) ≡ weeklyHours rs
+  unfolding weeklyHours
+  weekly-rest e = rw (e, weeklyHours)
 
-pub some-none : (week : List (List Period)) → someRow week 0 ≡ false
-unfolding someRow
-some-none week = refl
-
--- a weekday that has hours is among those below any greater number
-pub some-row : (week : List (List Period)) (k n : ℕ) → k < n → works (getD week k []) ≡ true → someRow week n ≡ true
-some-row week k zero l e = absurd (omega arith)
-some-row week k (suc n) l e =
-    ⊎-elim (λ h. some-here week n h)
-    (λ h. some-rest week n h ∙ ⊎-elim (λ m. some-row week k n m e) (λ m. let s : k ≡ n = omega arith in absurd (true≢false (sym e ∙ (rw s h)))) (lt-or-le k n))
-    (cases (works (getD week n [])))
+pub weekly-none : weeklyHours [] ≡ false
+unfolding weeklyHours
+weekly-none = refl
 
 -- the weekday that has hours
-pub row-of : (week : List (List Period)) (n : ℕ) → someRow week n ≡ true → (k : ℕ) × (k < n) × (works (getD week k []) ≡ true)
-row-of week zero e = absurd (true≢false (sym e ∙ some-none week))
-row-of week (suc n) e =
-    ⊎-elim (λ h. (n, omega arith, h)) (λ h. let r = row-of week n (sym (some-rest week n h) ∙ e) in (r .0, omega arith, r .2))
-    (cases (works (getD week n [])))
+pub row-of : (week : List (List Period)) → weeklyHours week ≡ true → (k : ℕ) × (k < length week) × (works (getD week k []) ≡ true)
+row-of [] e = absurd (true≢false (sym e ∙ weekly-none))
+row-of (r ∷ rs) e =
+    ⊎-elim (λ h. (0, omega arith, h)) (λ h. let s = row-of rs (sym (weekly-rest r rs h) ∙ e) in (suc (s .0), omega (arith, s .1), s .2)) (cases (works r))
 
 -- as a loop over the weekdays goes
-pub some-step : (week : List (List Period)) (k : ℕ) → someRow week k ≡ false → works (getD week k []) ≡ false → someRow week (k + 1) ≡ false
-some-step week k p e = rw (add-one k) (some-rest week k e ∙ p)
+module _ (week : List (List Period)) (k : ℕ) where
+  pub weekly-end : length week ≤ k → weeklyHours (drop k week) ≡ false
+  weekly-end h = rw (drop-of-length-le week h) weekly-none
+
+  module _ (h : k < length week) where
+    head : weeklyHours (drop k week) ≡ weeklyHours (getD week k [] ∷ drop (k + 1) week)
+    head = rw (add-one, drop-cons week k [])
+
+    pub weekly-found : works (getD week k []) ≡ true → weeklyHours (drop k week) ≡ true
+    weekly-found e = head ∙ weekly-here (getD week k []) (drop (k + 1) week) e
+
+    pub weekly-skip : works (getD week k []) ≡ false → weeklyHours (drop k week) ≡ weeklyHours (drop (k + 1) week)
+    weekly-skip e = head ∙ weekly-rest (getD week k []) (drop (k + 1) week) e
 
 -- ---- round the clock
 abbrev pub wholeDay : List Period
@@ -150,4 +152,5 @@ pub clock-ordered : (d : ℕ) → Ordered 0 (getD roundTheClock (weekday d) [])
 clock-ordered d = rw (clock-row (weekday d) (omega arith)) whole-ordered
 
 pub clock-weekly : weeklyHours roundTheClock ≡ true
-clock-weekly = some-row roundTheClock 0 7 (omega arith) (rw (clock-row 0 (omega arith)) (works-here (record { from = 0; to = 1440 }) (replicate 7 none) (omega arith)))
+unfolding roundTheClock weeklyHours works
+clock-weekly = refl

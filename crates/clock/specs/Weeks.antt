@@ -4,12 +4,13 @@ use mathlib.Core.Bool.{Bool, true}
 use mathlib.Core.List.{List, []}
 use Prim.Native.Nat.{ℕ, zero, suc, _+_, _-_, _*_, _/_, _%_, _^_, _≤_, _<_}
 use native.Mathlib.Omega.{arith}
-use lib.ListN.{getD}
+use lib.ListN.{length, getD}
 use Rattle.number.specs.Bytes.{biasedAt}
 use Rattle.calendar.specs.declared.Period.{Period}
 use Rattle.calendar.specs.Hours.{held, worked, works, Ordered}
 use Rattle.calendar.specs.HoursLaws.{Held, works-held, held-day, held-works}
-use Rattle.calendar.specs.Records.{weekday, exceptionDay, exceptionsOn, hoursOn, roundTheClock, weeklyHours, Valid}
+use Rattle.date.specs.Days.{weekday}
+use Rattle.calendar.specs.Records.{exceptionDay, exceptionsOn, hoursOn, roundTheClock, weeklyHours, Valid}
 use Rattle.calendar.specs.WeekLaws.{row-of}
 use Rattle.calendar.specs.DayLaws.{on-rest, hours-week}
 use Rattle.calendar.specs.ValidLaws.{clock-worked}
@@ -43,10 +44,10 @@ module _ {week : List (List Period)} {s : List ℕ} {at n : ℕ} (valid : Valid 
       let e : weekday d ≡ k = omega arith in
       rw e at (rw (hours-week week s at n d (on-none s at n d (λ i x y. omega (arith, day-below s at i)))) at (valid .ordered d))
 
-  module _ (hours : weeklyHours week ≡ true) where
+  module _ (seven : length week ≡ 7) (hours : weeklyHours week ≡ true) where
     pub regular : Regular week s at n
     unfolding worked
-    regular = let r = row-of week 7 hours in make (r .0) (r .1) (works-held (getD week (r .0) []) (r .2))
+    regular = let r = row-of week hours in make (r .0) (omega (arith, r .1)) (works-held (getD week (r .0) []) (r .2))
       where
         make : (k : ℕ) → k < 7 → Held (getD week k []) → Regular week s at n
         make k l h =

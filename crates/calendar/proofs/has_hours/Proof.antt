@@ -1,23 +1,22 @@
 -- `calendar::has_hours` meets its contract. No weekday passed has hours.
-use mathlib.Core.Path.{_≡_, refl, sym, ap, _∙_}
-use mathlib.Core.Bool.{false}
-use mathlib.Core.List.{[]}
+use mathlib.Core.Path.{_≡_, refl, sym, _∙_}
 use Prim.Native.Nat.{_≤_, _-_}
 use native.Mathlib.Omega.{arith}
 use borrow.Author.Needs.{needs}
-use Rattle.calendar.specs.Records.{someRow}
-use Rattle.calendar.specs.WeekLaws.{some-none, some-row, some-step}
+use lib.ListN.{drop}
+use Rattle.calendar.specs.Records.{weeklyHours}
+use Rattle.calendar.specs.WeekLaws.{weekly-found, weekly-skip, weekly-end}
 use Rattle.calendar.proofs.has_hours.Statement.{statement}
 use Rattle.calendar.proofs.has_hours.Tie as tie
 
 abbrev Inv-loop : tie.InvT-loop
-Inv-loop week k₀ k = (k ≤ 7) × (someRow week k ≡ false)
+Inv-loop week k₀ k = (k ≤ 7) × (weeklyHours (drop k week) ≡ weeklyHours week)
 
 abbrev μ-loop : tie.MeasureT-loop
 μ-loop week k₀ k = 7 - k
 
 loop-holds : tie.Need-loop-holds Inv-loop μ-loop
-loop-holds c = (omega arith, some-none _)
+loop-holds c = (omega arith, refl)
 
 mul-row : tie.Need-mul-row Inv-loop μ-loop
 mul-row c = omega arith
@@ -31,7 +30,7 @@ row-works-requires c κs = search needs
 returns : tie.Need-returns Inv-loop μ-loop
 returns c =
     let l = c .before .before .before .before in
-    sym (some-row _ (l .loop .k) 7 (omega arith) (sym (c .before .row-works .ensures) ∙ c .if1 .taken))
+    sym (weekly-found _ (l .loop .k) (omega arith) (sym (c .before .row-works .ensures) ∙ c .if1 .taken)) ∙ l .loop .inv .1
 
 add-k : tie.Need-add-k Inv-loop μ-loop
 add-k c = omega arith
@@ -42,10 +41,10 @@ loop-less c = omega arith
 loop-again : tie.Need-loop-again Inv-loop μ-loop
 loop-again c =
     let l = c .before .before .before .before in
-    (omega arith, some-step _ (l .loop .k) (l .loop .inv .1) (sym (c .before .row-works .ensures) ∙ c .if1 .left))
+    (omega arith, sym (weekly-skip _ (l .loop .k) (omega arith) (sym (c .before .row-works .ensures) ∙ c .if1 .left)) ∙ l .loop .inv .1)
 
 returns-2 : tie.Need-returns-2 Inv-loop μ-loop
-returns-2 c = let l = c .before in let e : l .loop .k ≡ 7 = omega arith in sym (ap (someRow (l .before .args .t1)) (sym e) ∙ l .loop .inv .1)
+returns-2 c = let l = c .before in sym (weekly-end _ (l .loop .k) (omega arith)) ∙ l .loop .inv .1
 
 pub has-hours-spec : {M : Type 1} → statement M
 has-hours-spec =
