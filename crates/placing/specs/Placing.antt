@@ -1,7 +1,7 @@
 -- Where an activity's work can begin and end, on its own calendar: 000's placing of starts, finishes, constraints and recorded dates. `w` is the calendar's
 -- worked minutes, `kind` what the activity is, and `left` its minutes of work left.
-use mathlib.Core.Bool.{Bool, true, false, _&&_, _||_}
-use Prim.Native.Nat.{ℕ, _+_, _*_, _/_, max}
+use mathlib.Core.Bool.{Bool, true, false, _&&_}
+use Prim.Native.Nat.{ℕ, _+_, _/_, max}
 use lib.Dec.{eqb, leb}
 use Rattle.date.specs.declared.Date.{Date}
 use Rattle.date.specs.Days.{biased, midnight}

@@ -14,7 +14,7 @@ use Rattle.clock.specs.Days.{day-next-at, day-next-none}
 use Rattle.worktime.specs.declared.Walk.{Walk}
 use Rattle.worktime.specs.declared.Walk.the-variants.{At, Refused}
 use Rattle.worktime.specs.Worked.{count}
-use Rattle.worktime.specs.Walks.{tooLong, reads, least, nextStart, previousFinish, nextFinish, previousStart, startBy, advance, retreat}
+use Rattle.worktime.specs.Walks.{tooLong, reads, nextStart, previousFinish, nextFinish, previousStart, startBy, advance, retreat}
 use Rattle.worktime.specs.Reads.{on-true, on-false}
 use Rattle.worktime.specs.Search.{least-at, least-none}
 use Rattle.project.specs.declared.ActivityKind.{ActivityKind}
@@ -199,7 +199,7 @@ module _ (w : ℕ → Bool) where
       unfolding actual
       actual-finish-refuses s k a b = via-at Actual.Refused _ _ s a ∙ ap (completed s) b
 
-      actual-both : (s f : ℕ) → nextStart w (midnightOf d) ≡ At s → previousFinish w (midnightOf e + 1440) ≡ At f
+      pub actual-both : (s f : ℕ) → nextStart w (midnightOf d) ≡ At s → previousFinish w (midnightOf e + 1440) ≡ At f
           → actual w (On d) (On e) ≡ Completed s (max f s)
       unfolding actual
       actual-both s f a b = via-at Actual.Refused _ _ s a ∙ ap (completed s) b

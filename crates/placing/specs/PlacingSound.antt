@@ -1,16 +1,16 @@
 -- What holds of the times that the placings answer, and that every refusal of theirs is row 8.
 use mathlib.Core.Path.{_≡_, refl, sym, ap, _∙_}
-use mathlib.Core.Bool.{Bool, true, false}
+use mathlib.Core.Bool.{Bool, true, false, true≢false}
 use mathlib.Core.Logic.{_⊎_, inl, inr, ⊎-elim}
-use Prim.Native.Nat.{ℕ, suc, _+_, _≤_, _<_}
+use Prim.Native.Nat.{ℕ, _+_, _≤_, _<_}
 use native.Mathlib.Omega.{arith}
 use Rattle.number.specs.Order.{cases, lt-or-le, zero-or-pos}
 use Rattle.worktime.specs.declared.Walk.{Walk}
 use Rattle.worktime.specs.declared.Walk.the-variants.{At, Refused}
-use Rattle.worktime.specs.Worked.{count, closing, IsNextStart, IsPreviousFinish, IsNextFinish, IsAdvance, IsRetreat}
+use Rattle.worktime.specs.Worked.{count, closing, IsNextStart, IsNextFinish, IsAdvance, IsRetreat}
 use Rattle.worktime.specs.Walks.{tooLong, firstMinute, endMinute, nextStart, previousFinish, nextFinish, previousStart, startBy, advance, retreat}
-use Rattle.worktime.specs.Count.{count-mono, count-lt, start-le, close-le, closing-pred}
-use Rattle.worktime.specs.Relations.{next-start-count, next-finish-count, next-finish-after, previous-finish-count, advance-by-zero, advance-from, advance-after, retreat-before}
+use Rattle.worktime.specs.Count.{count-mono, start-le, closing-pred}
+use Rattle.worktime.specs.Relations.{next-start-count, next-finish-count, next-finish-after, previous-finish-count, advance-from, retreat-before}
 use Rattle.worktime.specs.Adjoint.{finish-galois}
 use Rattle.worktime.specs.Reads.{at-or-refused}
 use Rattle.worktime.specs.Answers.{next-start-sound, next-start-refused, previous-finish-sound, previous-finish-refused, next-finish-sound, next-finish-refused, previous-start-next, start-by-sound, start-by-refused}
@@ -22,14 +22,18 @@ use Rattle.placing.specs.PlacingLaws.{bounded-in, bounded-after, bounded
 
 -- ---- walks
 
-same-time : {x : Walk} {u v : ℕ} → x ≡ At u → x ≡ At v → u ≡ v
+-- answers of two forms are not equal: `cc` has 0 ≡ 1 from them
+pub clash : {X : Type 0} → _≡_ {A = ℕ} 0 1 → X
+clash z = absurd (omega arith)
+
+pub same-time : {x : Walk} {u v : ℕ} → x ≡ At u → x ≡ At v → u ≡ v
 same-time p q = cc
 
-same-refusal : {x : Walk} {j k : ℕ} → x ≡ Refused j → x ≡ Refused k → k ≡ j
+pub same-refusal : {x : Walk} {j k : ℕ} → x ≡ Refused j → x ≡ Refused k → k ≡ j
 same-refusal p q = cc
 
 -- a walk answers or is refused
-walk-ways : (x : Walk) → ((u : ℕ) × (x ≡ At u)) ⊎ ((k : ℕ) × (x ≡ Refused k))
+pub walk-ways : (x : Walk) → ((u : ℕ) × (x ≡ At u)) ⊎ ((k : ℕ) × (x ≡ Refused k))
 walk-ways (At u) = inl (u, refl)
 walk-ways (Refused k) = inr (k, refl)
 
@@ -95,7 +99,7 @@ module _ (w : ℕ → Bool) where
       later h (inl k) = f .later h .least v a k
       later h (inr k) =
           ⊎-elim (λ l. let p = closing-pred w v k in omega (arith, f .later h .least (p .0) (omega (arith, p .1)) (p .2), p .1))
-          (λ l. let e : t ≡ v = omega arith in absurd (let z : true ≡ false = sym k ∙ sym (ap (closing w) e) ∙ h in let y : _≡_ {A = ℕ} 0 1 = cc in omega arith))
+          (λ l. let e : t ≡ v = omega arith in absurd (true≢false (sym k ∙ sym (ap (closing w) e) ∙ h)))
           (lt-or-le t v)
 
   at-finish : (t u : ℕ) → nextFinish w t ≡ At u → PlacedStart w FinishMilestone t u
@@ -111,9 +115,9 @@ module _ (w : ℕ → Bool) where
 
   pub place-start-sound : (kind : ActivityKind) (t u : ℕ) → placeStart w kind t ≡ At u → PlacedStart w kind t u
   place-start-sound Task t u e =
-      at-start Task t u (λ p. let z : _≡_ {A = ℕ} 0 1 = cc in omega arith) (sym (place-start-task w Task t refl) ∙ e)
+      at-start Task t u (λ p. clash (cc)) (sym (place-start-task w Task t refl) ∙ e)
   place-start-sound StartMilestone t u e =
-      at-start StartMilestone t u (λ p. let z : _≡_ {A = ℕ} 0 1 = cc in omega arith) (sym (place-start-start w StartMilestone t refl) ∙ e)
+      at-start StartMilestone t u (λ p. clash (cc)) (sym (place-start-start w StartMilestone t refl) ∙ e)
   place-start-sound FinishMilestone t u e = at-finish t u (sym (place-start-finish w FinishMilestone t refl) ∙ e)
 
   pub place-start-refused : (kind : ActivityKind) (t k : ℕ) → placeStart w kind t ≡ Refused k → k ≡ tooLong
@@ -220,8 +224,8 @@ module _ (w : ℕ → Bool) (left t : ℕ) where
 
   -- ---- finish for start: t advanced by the work left
 
-  finish-for-start-from : (s : ℕ) → 0 < left → previousStart w t ≡ At s → IsNextStart w t s × (firstMinute ≤ t) × (s < endMinute)
-  finish-for-start-from s p e = next-start-sound w (sym (previous-start-next w t) ∙ e)
+  finish-for-start-from : (s : ℕ) → previousStart w t ≡ At s → IsNextStart w t s × (firstMinute ≤ t) × (s < endMinute)
+  finish-for-start-from s e = next-start-sound w (sym (previous-start-next w t) ∙ e)
 
   pub finish-for-start-sound : (u : ℕ) → finishForStart w left t ≡ At u → IsAdvance w t left u × (0 < left → (firstMinute ≤ t) × (u ≤ endMinute))
   finish-for-start-sound u e =
@@ -234,7 +238,7 @@ module _ (w : ℕ → Bool) (left t : ℕ) where
       (λ p.
       ⊎-elim
       (λ a.
-      let n = finish-for-start-from (a .0) p (a .1) in
+      let n = finish-for-start-from (a .0) (a .1) in
       let b = advance-sound w (sym (finish-for-start-at w left t (some p) (a .0) (a .1)) ∙ e) in
       (advance-from w p (sym (next-start-count w (n .0))) (b .0), λ _. (n .1, b .1 p .1)))
       (λ r. absurd (at-or-refused e (finish-for-start-refuses w left t (some p) (r .0) (r .1)))) (walk-ways (previousStart w t)))
@@ -326,7 +330,7 @@ module _ (w : ℕ → Bool) (kind : ActivityKind) (left t : ℕ) where
       let s = previous-finish-sound w e in record {
         before = s .0 .before;
         may = inl (s .0 .closes);
-        greatest = λ v a k. s .0 .greatest v a (⊎-elim (λ h. h) (λ h. absurd (let z : true ≡ false = sym (h .0) ∙ m in let y : _≡_ {A = ℕ} 0 1 = cc in omega arith)) k);
+        greatest = λ v a k. s .0 .greatest v a (⊎-elim (λ h. h) (λ h. absurd (true≢false (sym (h .0) ∙ m))) k);
         same = previous-finish-count w (s .0);
         from = s .1;
         within = s .2;
