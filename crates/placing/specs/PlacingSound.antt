@@ -230,11 +230,14 @@ module _ (w : ℕ → Bool) (left t : ℕ) where
   pub finish-for-start-sound : (u : ℕ) → finishForStart w left t ≡ At u → IsAdvance w t left u × (0 < left → (firstMinute ≤ t) × (u ≤ endMinute))
   finish-for-start-sound u e =
       ⊎-elim
-      (λ z. (let s : u ≡ t = same-time e (finish-for-start-none w left t z) in record {
-        still = λ y. s;
-        closes = λ p. absurd (some p z);
-        total = omega (arith, ap (count w) s);
-      }, λ p. absurd (some p z)))
+      (λ z. (
+        let s : u ≡ t = same-time e (finish-for-start-none w left t z) in record {
+          still = λ y. s;
+          closes = λ p. absurd (some p z);
+          total = omega (arith, ap (count w) s);
+        },
+        λ p. absurd (some p z),
+      ))
       (λ p.
       ⊎-elim
       (λ a.

@@ -1,7 +1,6 @@
 // Days as times on the activity's own calendar: a constraint's, and those that are recorded of its work.
 use crate::Actual;
 use crate::Moment;
-use crate::TOO_LONG;
 use calendar::Found;
 use calendar::Period;
 use date::Date;
@@ -38,7 +37,7 @@ fn start_of_day(week: [[Period; 8]; 7], sheet: &[u8], at: usize, n: usize, day: 
             }
         }
     }
-    Walk::Refused(TOO_LONG)
+    Walk::Refused(clock::TOO_LONG)
 }
 
 // The last finish by the end of a day.
@@ -60,7 +59,14 @@ fn moment_of(walk: Walk) -> Moment
 }
 
 // The time that a constraint holds its end to.
-pub fn constraint_time(activity: Activity, week: [[Period; 8]; 7], sheet: &[u8], at: usize, n: usize, constraint: Constraint) -> Moment
+pub fn constraint_time(
+    activity: Activity,
+    week: [[Period; 8]; 7],
+    sheet: &[u8],
+    at: usize,
+    n: usize,
+    constraint: Constraint,
+) -> Moment
     requires { ⌜ Valid week (now sheet) at n ⌝ }
     ensures { λ r. ⌜ r ≡ constraintTime (workedOn week (now (sheet .entry)) at n) (onStart constraint) ⌝ }
 {
@@ -90,7 +96,14 @@ fn begun(week: [[Period; 8]; 7], sheet: &[u8], at: usize, n: usize, start: Date)
 }
 
 // Work that began on a day and ended on another: its finish is not before its start.
-fn completed(week: [[Period; 8]; 7], sheet: &[u8], at: usize, n: usize, start: Date, finish: Date) -> Actual
+fn completed(
+    week: [[Period; 8]; 7],
+    sheet: &[u8],
+    at: usize,
+    n: usize,
+    start: Date,
+    finish: Date,
+) -> Actual
     requires { ⌜ Valid week (now sheet) at n ⌝ }
     ensures { λ r. ⌜ r ≡ actual (workedOn week (now (sheet .entry)) at n) (On start) (On finish) ⌝ }
 {
@@ -109,7 +122,13 @@ fn completed(week: [[Period; 8]; 7], sheet: &[u8], at: usize, n: usize, start: D
 }
 
 // What is recorded of the activity's work: with only a finish day, it began on that day.
-pub fn actual(activity: Activity, week: [[Period; 8]; 7], sheet: &[u8], at: usize, n: usize) -> Actual
+pub fn actual(
+    activity: Activity,
+    week: [[Period; 8]; 7],
+    sheet: &[u8],
+    at: usize,
+    n: usize,
+) -> Actual
     requires { ⌜ Valid week (now sheet) at n ⌝ }
     ensures { λ r. ⌜ r ≡ actual (workedOn week (now (sheet .entry)) at n) (activity .«actual_start») (activity .«actual_finish») ⌝ }
 {

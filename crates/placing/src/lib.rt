@@ -26,9 +26,6 @@ pub enum Moment {
     Refused(u64),
 }
 
-// Row 8 of 01's table: too long.
-const TOO_LONG: u64 = 8;
-
 // How far from the project's start a time may lie.
 const SPAN: u64 = 288000000;
 
@@ -38,12 +35,12 @@ pub fn bounded(origin: u64, t: u64) -> Walk
 {
     if t < origin {
         if SPAN < origin - t {
-            return Walk::Refused(TOO_LONG);
+            return Walk::Refused(clock::TOO_LONG);
         }
         return Walk::At(t);
     }
     if SPAN < t - origin {
-        return Walk::Refused(TOO_LONG);
+        return Walk::Refused(clock::TOO_LONG);
     }
     Walk::At(t)
 }
@@ -51,7 +48,14 @@ pub fn bounded(origin: u64, t: u64) -> Walk
 // ---- early dates
 
 // Where the work may start from `t` on: a finish milestone at a finish.
-pub fn place_start(activity: Activity, week: [[Period; 8]; 7], sheet: &[u8], at: usize, n: usize, t: u64) -> Walk
+pub fn place_start(
+    activity: Activity,
+    week: [[Period; 8]; 7],
+    sheet: &[u8],
+    at: usize,
+    n: usize,
+    t: u64,
+) -> Walk
     requires { ⌜ Valid week (now sheet) at n ⌝ }
     ensures { λ r. ⌜ r ≡ placeStart (workedOn week (now (sheet .entry)) at n) (activity .kind) t ⌝ }
 {
@@ -64,7 +68,15 @@ pub fn place_start(activity: Activity, week: [[Period; 8]; 7], sheet: &[u8], at:
 }
 
 // The end of the work left from `start` on.
-pub fn finish_of(activity: Activity, week: [[Period; 8]; 7], sheet: &[u8], at: usize, n: usize, left: u64, start: u64) -> Walk
+pub fn finish_of(
+    activity: Activity,
+    week: [[Period; 8]; 7],
+    sheet: &[u8],
+    at: usize,
+    n: usize,
+    left: u64,
+    start: u64,
+) -> Walk
     requires { ⌜ Valid week (now sheet) at n ⌝ }
     ensures { λ r. ⌜ r ≡ finishOf (workedOn week (now (sheet .entry)) at n) left start ⌝ }
 {
@@ -72,7 +84,15 @@ pub fn finish_of(activity: Activity, week: [[Period; 8]; 7], sheet: &[u8], at: u
 }
 
 // The earliest start that finishes no earlier than `t`.
-pub fn start_for_finish(activity: Activity, week: [[Period; 8]; 7], sheet: &[u8], at: usize, n: usize, left: u64, t: u64) -> Walk
+pub fn start_for_finish(
+    activity: Activity,
+    week: [[Period; 8]; 7],
+    sheet: &[u8],
+    at: usize,
+    n: usize,
+    left: u64,
+    t: u64,
+) -> Walk
     requires { ⌜ Valid week (now sheet) at n ⌝ }
     ensures { λ r. ⌜ r ≡ startForFinish (workedOn week (now (sheet .entry)) at n) left t ⌝ }
 {
@@ -99,7 +119,15 @@ fn is_moment(kind: ActivityKind, left: u64) -> bool
 }
 
 // The latest finish at or before `t`; a moment at the next start after it, where that is not after `t`.
-pub fn place_finish(activity: Activity, week: [[Period; 8]; 7], sheet: &[u8], at: usize, n: usize, left: u64, t: u64) -> Walk
+pub fn place_finish(
+    activity: Activity,
+    week: [[Period; 8]; 7],
+    sheet: &[u8],
+    at: usize,
+    n: usize,
+    left: u64,
+    t: u64,
+) -> Walk
     requires { ⌜ Valid week (now sheet) at n ⌝ }
     ensures { λ r. ⌜ r ≡ placeFinish (workedOn week (now (sheet .entry)) at n) (activity .kind) left t ⌝ }
 {
@@ -127,7 +155,14 @@ pub fn place_finish(activity: Activity, week: [[Period; 8]; 7], sheet: &[u8], at
 }
 
 // The latest moment that is the same as `t`, with no work between.
-pub fn latest_same(activity: Activity, week: [[Period; 8]; 7], sheet: &[u8], at: usize, n: usize, t: u64) -> Walk
+pub fn latest_same(
+    activity: Activity,
+    week: [[Period; 8]; 7],
+    sheet: &[u8],
+    at: usize,
+    n: usize,
+    t: u64,
+) -> Walk
     requires { ⌜ Valid week (now sheet) at n ⌝ }
     ensures { λ r. ⌜ r ≡ latestSame (workedOn week (now (sheet .entry)) at n) t ⌝ }
 {
@@ -135,7 +170,15 @@ pub fn latest_same(activity: Activity, week: [[Period; 8]; 7], sheet: &[u8], at:
 }
 
 // The latest start that finishes by `finish`.
-pub fn start_of(activity: Activity, week: [[Period; 8]; 7], sheet: &[u8], at: usize, n: usize, left: u64, finish: u64) -> Walk
+pub fn start_of(
+    activity: Activity,
+    week: [[Period; 8]; 7],
+    sheet: &[u8],
+    at: usize,
+    n: usize,
+    left: u64,
+    finish: u64,
+) -> Walk
     requires { ⌜ Valid week (now sheet) at n ⌝ }
     ensures { λ r. ⌜ r ≡ startOf (workedOn week (now (sheet .entry)) at n) left finish ⌝ }
 {
@@ -143,7 +186,15 @@ pub fn start_of(activity: Activity, week: [[Period; 8]; 7], sheet: &[u8], at: us
 }
 
 // The latest finish that starts no later than `t`, moments with no work between counting as one.
-pub fn finish_for_start(activity: Activity, week: [[Period; 8]; 7], sheet: &[u8], at: usize, n: usize, left: u64, t: u64) -> Walk
+pub fn finish_for_start(
+    activity: Activity,
+    week: [[Period; 8]; 7],
+    sheet: &[u8],
+    at: usize,
+    n: usize,
+    left: u64,
+    t: u64,
+) -> Walk
     requires { ⌜ Valid week (now sheet) at n ⌝ }
     ensures { λ r. ⌜ r ≡ finishForStart (workedOn week (now (sheet .entry)) at n) left t ⌝ }
 {
@@ -157,7 +208,15 @@ pub fn finish_for_start(activity: Activity, week: [[Period; 8]; 7], sheet: &[u8]
 }
 
 // The same for a constraint's date, which a start must not pass.
-pub fn finish_for_start_by(activity: Activity, week: [[Period; 8]; 7], sheet: &[u8], at: usize, n: usize, left: u64, t: u64) -> Walk
+pub fn finish_for_start_by(
+    activity: Activity,
+    week: [[Period; 8]; 7],
+    sheet: &[u8],
+    at: usize,
+    n: usize,
+    left: u64,
+    t: u64,
+) -> Walk
     requires { ⌜ Valid week (now sheet) at n ⌝ }
     ensures { λ r. ⌜ r ≡ finishForStartBy (workedOn week (now (sheet .entry)) at n) left t ⌝ }
 {

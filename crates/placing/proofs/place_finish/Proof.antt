@@ -21,13 +21,13 @@ enum-known-s : tie.Need-enum-known-s
 enum-known-s c = search needs
 
 returns : tie.Need-returns
-returns c = 
+returns c =
     sym
     (place-finish-start _ _ _ _ _ _ (sym (c .before .before .before .before .before .before .before .before .before .previous-finish .ensures) ∙ c .before .before .before .before .before .before .before .f .given .1) (sym (c .before .before .before .before .before .before .before .before .before .before .is-moment .ensures) ∙ c .before .before .before .before .before .if1 .taken)
     (sym (c .before .before .before .before .next-start .ensures) ∙ c .before .before .s .given .1) (c .if2 .taken))
 
 returns-2 : tie.Need-returns-2
-returns-2 c = 
+returns-2 c =
     sym
     (place-finish-before _ _ _ _ _ _ (sym (c .before .before .before .before .before .before .before .before .before .previous-finish .ensures) ∙ c .before .before .before .before .before .before .before .f .given .1) (sym (c .before .before .before .before .before .before .before .before .before .before .is-moment .ensures) ∙ c .before .before .before .before .before .if1 .taken)
     (sym (c .before .before .before .before .next-start .ensures) ∙ c .before .before .s .given .1) (c .if2 .left))
@@ -36,7 +36,7 @@ enum-known-k : tie.Need-enum-known-k
 enum-known-k c = search needs
 
 returns-3 : tie.Need-returns-3
-returns-3 c = 
+returns-3 c =
     sym
     (place-finish-start-refuses _ _ _ _ _ _ (sym (c .before .before .before .before .before .before .before .before .previous-finish .ensures) ∙ c .before .before .before .before .before .before .f .given .1) (sym (c .before .before .before .before .before .before .before .before .before .is-moment .ensures) ∙ c .before .before .before .before .if1 .taken)
     (sym (c .before .before .before .next-start .ensures) ∙ c .before .k .given .1))

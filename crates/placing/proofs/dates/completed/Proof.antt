@@ -22,7 +22,7 @@ enum-known-f : tie.Need-enum-known-f
 enum-known-f c = search needs
 
 returns : tie.Need-returns
-returns c = 
+returns c =
     sym
     (actual-raised _ _ _ _ _ (ap (nextStart _) (sym (c .before .before .before .before .before .before .before .before .before .midnight .ensures .0)) ∙ sym (c .before .before .before .before .before .before .before .before .next-start .ensures) ∙ c .before .before .before .before .before .before .s .given .1)
     (sym (c .before .before .before .before .finish-by-day .ensures) ∙ c .before .before .f .given .1) (c .if1 .taken))
@@ -34,13 +34,13 @@ enum-known-k-2 : tie.Need-enum-known-k-2
 enum-known-k-2 c = search needs
 
 returns-2 : tie.Need-returns-2
-returns-2 c = 
+returns-2 c =
     sym
     (actual-finished _ _ _ _ _ (ap (nextStart _) (sym (c .before .before .before .before .before .before .before .before .before .midnight .ensures .0)) ∙ sym (c .before .before .before .before .before .before .before .before .next-start .ensures) ∙ c .before .before .before .before .before .before .s .given .1)
     (sym (c .before .before .before .before .finish-by-day .ensures) ∙ c .before .before .f .given .1) (c .if1 .left))
 
 returns-3 : tie.Need-returns-3
-returns-3 c = 
+returns-3 c =
     sym
     (actual-finish-refuses _ _ _ _ _ (ap (nextStart _) (sym (c .before .before .before .before .before .before .before .before .midnight .ensures .0)) ∙ sym (c .before .before .before .before .before .before .before .next-start .ensures) ∙ c .before .before .before .before .before .s .given .1)
     (sym (c .before .before .before .finish-by-day .ensures) ∙ c .before .k .given .1))

@@ -30,11 +30,11 @@ enum-told : tie.Need-enum-told
 enum-told c = search needs
 
 returns : tie.Need-returns
-returns c = 
+returns c =
     c .moment-of .ensures ∙ sym (constraint-time-start _ _ _ _ (sym (c .before .before .before .before .before .on-start .ensures) ∙ c .before .before .before .end .given .1) (c .before .start-of-day .ensures))
 
 returns-2 : tie.Need-returns-2
-returns-2 c = 
+returns-2 c =
     c .moment-of2 .ensures ∙ sym (constraint-time-finish _ _ _ _ (sym (c .before .before .before .before .before .on-start .ensures) ∙ c .before .before .before .end2 .given .1) (c .before .finish-by-day .ensures))
 
 returns-3 : tie.Need-returns-3

@@ -30,7 +30,7 @@ enum-known-m : tie.Need-enum-known-m
 enum-known-m c = search needs
 
 add-t12 : tie.Need-add-t12
-add-t12 c = 
+add-t12 c =
     let s = c .before .before .before .before .before .before .before .before .before in
     let a = s .args in
     let h = hoursOn (a .week) (a .sheet .now) (a .at) (a .n) in
@@ -42,7 +42,7 @@ add-t12 c =
     omega (arith, f .1, c .before .before .before .before .before .before .before .midnight .ensures .1)
 
 returns : tie.Need-returns
-returns c = 
+returns c =
     let s = c .before .before .before .before .before .before .before .before .before in
     let a = s .args in
     let h = hoursOn (a .week) (a .sheet .now) (a .at) (a .n) in
@@ -60,7 +60,7 @@ enum-told : tie.Need-enum-told
 enum-told c = search needs
 
 returns-2 : tie.Need-returns-2
-returns-2 c = 
+returns-2 c =
     let s = c .before .before .before .before .before .before .before .before in
     let a = s .args in
     let h = hoursOn (a .week) (a .sheet .now) (a .at) (a .n) in
@@ -75,7 +75,7 @@ returns-2 c =
     ∙ ap At (ap (dayStart (worked h)) (sym e) ∙ g))
 
 returns-3 : tie.Need-returns-3
-returns-3 c = 
+returns-3 c =
     let e = c .before .before .midnight .ensures .0 in
     sym (reads-out Refused _ _ (ap (λ (x : ℕ). inYears (x / 1440)) (sym e) ∙ sym (c .before .in-years .ensures) ∙ c .if1 .left))
 
