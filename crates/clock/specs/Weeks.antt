@@ -1,15 +1,15 @@
 -- "256 E can't starve the 3,660-day search": with weekly hours and at most 256 E every walk forward has an answer, and every walk back from late enough.
-use mathlib.Core.Path.{_≡_, refl, sym, ap, _∙_}
-use mathlib.Core.Bool.{Bool, true}
+use mathlib.Core.Path.{_≡_, ap, _∙_}
+use mathlib.Core.Bool.{true}
 use mathlib.Core.List.{List, []}
 use Prim.Native.Nat.{ℕ, zero, suc, _+_, _-_, _*_, _/_, _%_, _^_, _≤_, _<_}
 use native.Mathlib.Omega.{arith}
 use lib.ListN.{length, getD}
 use Rattle.number.specs.Bytes.{biasedAt}
-use Rattle.calendar.specs.declared.Period.{Period}
-use Rattle.calendar.specs.Hours.{held, worked, works, Ordered}
-use Rattle.calendar.specs.HoursLaws.{Held, works-held, held-day, held-works}
 use Rattle.date.specs.Days.{weekday}
+use Rattle.calendar.specs.declared.Period.{Period}
+use Rattle.calendar.specs.Hours.{worked, works, Ordered}
+use Rattle.calendar.specs.HoursLaws.{Held, works-held, held-day, held-works}
 use Rattle.calendar.specs.Records.{exceptionDay, exceptionsOn, hoursOn, roundTheClock, weeklyHours, Valid}
 use Rattle.calendar.specs.WeekLaws.{row-of}
 use Rattle.calendar.specs.DayLaws.{on-rest, hours-week}
@@ -21,7 +21,7 @@ use Rattle.worktime.specs.Relations.{previous-finish-count, previous-finish-her
 use Rattle.worktime.specs.Exist.{previous-finish-exists, endless-next-finish}
 use Rattle.worktime.specs.Lower.{Weekly, weekly-count, weekly-next-start, weekly-advance, weekly-retreat, first, regular-weekly, regular-endless}
 
--- a day without E records has its weekday's row
+-- a day that no E record names has no periods of its own
 on-none : (s : List ℕ) (at n d : ℕ) → ((i : ℕ) → i < n → exceptionDay s at i ≡ d → ⊥) → exceptionsOn s at d n ≡ []
 unfolding exceptionsOn
 on-none s at n d f = let e : 0 + n ≡ n = omega arith in rw e at (on-rest s at d 0 n (λ j x y. f j (omega arith)))

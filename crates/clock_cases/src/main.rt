@@ -99,14 +99,7 @@ fn lag_at(file: &[u8], at: usize) -> i64
 }
 
 // The functions of a time that answer a time.
-fn answer_walk(
-    week: [[Period; 8]; 7],
-    file: &[u8],
-    at: usize,
-    n: usize,
-    code: u64,
-    t: u64,
-)
+fn answer_walk(week: [[Period; 8]; 7], file: &[u8], at: usize, n: usize, code: u64, t: u64)
     requires { ⌜ Valid week (now file) at n ⌝ }
 {
     if code == 1 {
@@ -129,14 +122,7 @@ fn answer_walk(
 }
 
 // The functions of a time that answer a test or a count.
-fn answer_count(
-    week: [[Period; 8]; 7],
-    file: &[u8],
-    at: usize,
-    n: usize,
-    code: u64,
-    t: u64,
-)
+fn answer_count(week: [[Period; 8]; 7], file: &[u8], at: usize, n: usize, code: u64, t: u64)
     requires { ⌜ Valid week (now file) at n ⌝ }
 {
     if code == 6 {
@@ -290,14 +276,7 @@ fn print_case(week: [[Period; 8]; 7], file: &[u8], at: usize, n: usize, case: us
 }
 
 // The lines of the `count` cases from `from` on.
-fn print_cases(
-    week: [[Period; 8]; 7],
-    file: &[u8],
-    at: usize,
-    n: usize,
-    from: usize,
-    count: usize,
-)
+fn print_cases(week: [[Period; 8]; 7], file: &[u8], at: usize, n: usize, from: usize, count: usize)
     requires { ⌜ Valid week (now file) at n × (from + 13 * count ≤ length (now file)) ⌝ }
 {
     let mut i: usize = 0;

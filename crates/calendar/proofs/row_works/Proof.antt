@@ -36,7 +36,7 @@ loop-less : tie.Need-loop-less Inv-loop μ-loop
 loop-less c = omega arith
 
 loop-again : tie.Need-loop-again Inv-loop μ-loop
-loop-again c = let l = c .before .before .before .before in 
+loop-again c = let l = c .before .before .before .before in
     (omega arith, work-skip _ (l .loop .i) _ (l .loop .inv .1) (getD (l .before .args .t1) (l .loop .i) none) refl (omega arith) (c .if1 .left))
 
 returns-2 : tie.Need-returns-2 Inv-loop μ-loop
