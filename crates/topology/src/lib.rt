@@ -1,1 +1,110 @@
 // The order of the activities by Kahn's algorithm over the lent memory, and the loop that is named where it stops early.
+ghost use mathlib.Core.Path.{_≡_};
+ghost use mathlib.Core.List.{[]};
+ghost use Prim.Native.Nat.{ℕ, _+_, _≤_, _<_};
+ghost use lib.ListN.{length};
+ghost use Rattle.memory.specs.State.{Room, stateOf};
+ghost use Rattle.memory.specs.Fields.{waiting, orderAt, seen, toField};
+ghost use Rattle.network.specs.Kahn.{into};
+ghost use Rattle.network.specs.Array.{Filled, Progress};
+ghost use Rattle.topology.specs.Links.{linksOf, Ends};
+ghost use Rattle.topology.specs.Frame.{Frame};
+ghost use Rattle.topology.specs.Steps.{counted, queued, readied, met};
+ghost use Rattle.topology.specs.Order.{ChainsOut, Draining};
+
+// Counts link `k` for the activity that it leads to.
+fn count_link(work: &mut [i64], a: usize, l: usize, k: usize)
+    requires { ⌜ Room a l (now work) × (k < l) × (stateOf a l (now work) .link toField k < a) × (stateOf a l (now work) .act waiting (stateOf a l (now work) .link toField k) < l) ⌝ }
+    ensures { λ _. ⌜ (stateOf a l (now (work .exit)) ≡ counted (stateOf a l (now (work .entry))) k) × (length (now (work .exit)) ≡ length (now (work .entry))) ⌝ }
+{
+    let i = memory::get_link(work, a, l, k, 1) as usize;
+    let n = memory::get_act(work, a, l, i, 6);
+    memory::put_act(work, a, l, i, 6, n + 1);
+}
+
+// Counts the first `t` links where none is counted yet.
+fn count_links(work: &mut [i64], a: usize, l: usize, t: usize)
+    requires { ⌜ Room a l (now work) × (t ≤ l) × Ends a t (stateOf a l (now work)) × ((i : ℕ) → stateOf a l (now work) .act waiting i ≡ 0) ⌝ }
+    ensures { λ _. ⌜ ((i : ℕ) → stateOf a l (now (work .exit)) .act waiting i ≡ into (linksOf (stateOf a l (now (work .entry))) t) i) × Frame waiting orderAt 0 0 (stateOf a l (now (work .entry))) (stateOf a l (now (work .exit))) × (length (now (work .exit)) ≡ length (now (work .entry))) ⌝ }
+{
+    let mut k: usize = 0;
+    while k < t {
+        count_link(work, a, l, k);
+        k += 1;
+    }
+}
+
+// Counts the links into each activity.
+fn count_incoming(work: &mut [i64], a: usize, l: usize, t: usize)
+    requires { ⌜ Room a l (now work) × (t ≤ l) × Ends a t (stateOf a l (now work)) ⌝ }
+    ensures { λ _. ⌜ ((i : ℕ) → stateOf a l (now (work .exit)) .act waiting i ≡ into (linksOf (stateOf a l (now (work .entry))) t) i) × Frame waiting orderAt 0 0 (stateOf a l (now (work .entry))) (stateOf a l (now (work .exit))) × (length (now (work .exit)) ≡ length (now (work .entry))) ⌝ }
+{
+    memory::fill_act(work, a, l, 6, 0);
+    count_links(work, a, l, t);
+}
+
+// Puts activity `j` at the queue's end if it waits for none; answers the new end.
+fn ready_one(work: &mut [i64], a: usize, l: usize, j: usize, end: usize) -> usize
+    requires { ⌜ Room a l (now work) × (j < a) × (end < a) ⌝ }
+    ensures { λ r. ⌜ (queued (stateOf a l (now (work .exit))) r ≡ readied (stateOf a l (now (work .entry))) j end) × (length (now (work .exit)) ≡ length (now (work .entry))) ⌝ }
+{
+    if memory::get_act(work, a, l, j, 6) > 0 {
+        return end;
+    }
+    memory::put_act(work, a, l, end, 7, j as u64);
+    end + 1
+}
+
+// Puts the activities that wait for none into the queue; answers its end.
+fn first_ready(work: &mut [i64], a: usize, l: usize) -> usize
+    requires { ⌜ Room a l (now work) ⌝ }
+    ensures { λ r. ⌜ Filled (stateOf a l (now (work .exit)) .act waiting) (stateOf a l (now (work .exit)) .act orderAt) a r × Frame orderAt seen 0 0 (stateOf a l (now (work .entry))) (stateOf a l (now (work .exit))) × (length (now (work .exit)) ≡ length (now (work .entry))) ⌝ }
+{
+    let mut end: usize = 0;
+    let mut m: usize = 0;
+    while m < a {
+        end = ready_one(work, a, l, m, end);
+        m += 1;
+    }
+    end
+}
+
+// Meets link `k`: the activity that it leads to waits for one less, and joins the queue if that was the last. Answers the queue's new end.
+fn meet_link(work: &mut [i64], a: usize, l: usize, k: usize, end: usize) -> usize
+    requires { ⌜ Room a l (now work) × (k < l) × (end < a) × (stateOf a l (now work) .link toField k < a) × (0 < stateOf a l (now work) .act waiting (stateOf a l (now work) .link toField k)) ⌝ }
+    ensures { λ r. ⌜ (queued (stateOf a l (now (work .exit))) r ≡ met (stateOf a l (now (work .entry))) k end) × (length (now (work .exit)) ≡ length (now (work .entry))) ⌝ }
+{
+    let j = memory::get_link(work, a, l, k, 1) as usize;
+    let w = memory::get_act(work, a, l, j, 6);
+    memory::put_act(work, a, l, j, 6, w - 1);
+    ready_one(work, a, l, j, end)
+}
+
+// The queue's activity at `h` comes out: its outgoing links are met, in rising order. Answers the queue's new end.
+fn release(work: &mut [i64], a: usize, l: usize, t: usize, h: usize, end: usize) -> usize
+    requires { ⌜ Room a l (now work) × (t ≤ l) × (h < end) × ChainsOut a t (stateOf a l (now work)) × Progress (linksOf (stateOf a l (now work)) t) a (stateOf a l (now work) .act orderAt) (stateOf a l (now work) .act waiting) h end [] ⌝ }
+    ensures { λ r. ⌜ Draining a t (stateOf a l (now (work .entry))) (stateOf a l (now (work .exit))) (h + 1) r × (length (now (work .exit)) ≡ length (now (work .entry))) ⌝ }
+{
+    let v = memory::get_act(work, a, l, h, 7) as usize;
+    let mut k = memory::get_act(work, a, l, v, 5) as usize;
+    let mut r = end;
+    while k < t {
+        r = meet_link(work, a, l, k, r);
+        k = memory::get_link(work, a, l, k, 6) as usize;
+    }
+    r
+}
+
+// The queue's activities come out, first in first out. Answers how many.
+fn drain(work: &mut [i64], a: usize, l: usize, t: usize, end: usize) -> usize
+    requires { ⌜ Room a l (now work) × (t ≤ l) × ChainsOut a t (stateOf a l (now work)) × Progress (linksOf (stateOf a l (now work)) t) a (stateOf a l (now work) .act orderAt) (stateOf a l (now work) .act waiting) 0 end [] ⌝ }
+    ensures { λ r. ⌜ Draining a t (stateOf a l (now (work .entry))) (stateOf a l (now (work .exit))) r r × (length (now (work .exit)) ≡ length (now (work .entry))) ⌝ }
+{
+    let mut r = end;
+    let mut h: usize = 0;
+    while h < r {
+        r = release(work, a, l, t, h, r);
+        h += 1;
+    }
+    r
+}
