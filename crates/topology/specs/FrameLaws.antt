@@ -65,6 +65,15 @@ module _ (lo hi low high : ℕ) where
     linksZ = λ f n. F .linksZ f (outside-wider low′ high′ low high f r s n);
   }
 
+  -- of one that leaves all links
+  pub frame-acts : (lo′ hi′ : ℕ) → lo ≤ lo′ → hi′ ≤ hi → {S T : State} → Frame lo′ hi′ 0 0 S T → Frame lo hi low high S T
+  frame-acts lo′ hi′ p q F = record {
+    acts = λ f n. F .acts f (outside-wider lo′ hi′ lo hi f p q n);
+    links = λ f n. F .links f (outside-above 0 0 f (omega arith));
+    actsZ = λ f n. F .actsZ f (outside-wider lo′ hi′ lo hi f p q n);
+    linksZ = λ f n. F .linksZ f (outside-above 0 0 f (omega arith));
+  }
+
   module _ (g : ℕ) (p : lo ≤ g) (q : g < hi) where
     pub frame-put : (S : State) (i : ℕ) (z : ℤ) → Frame lo hi low high S (putActZ S g i z)
     frame-put S i z = record {

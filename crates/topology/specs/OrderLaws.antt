@@ -7,17 +7,19 @@ use lib.ListN.{length, getD}
 use Rattle.cells.specs.Chain.{Stands, Chained}
 use Rattle.memory.specs.State.{State}
 use Rattle.memory.specs.Fields.{firstIn, firstOut, waiting, orderAt, seen, fromField, toField, nextInto, nextOut}
-use Rattle.network.specs.Links.{Link}
+use Rattle.memory.specs.Chains.{Chains}
+use Rattle.network.specs.Kahn.{into}
 use Rattle.network.specs.Outgoing.{targets, targetsFrom}
-use Rattle.network.specs.Array.{Progress}
-use Rattle.network.specs.ProgressLaws.{progress-at, progress-enter}
-use Rattle.topology.specs.Links.{linksOf}
-use Rattle.topology.specs.LinksLaws.{links-same, targets-stands, targets-first, targets-hit, targets-none}
+use Rattle.network.specs.Array.{Progress, Filled}
+use Rattle.network.specs.ProgressLaws.{progress-le, progress-at, progress-enter}
+use Rattle.network.specs.ProgressEnds.{progress-start, progress-count, progress-length, progress-at-kahn}
+use Rattle.topology.specs.Links.{linksOf, Ends}
+use Rattle.topology.specs.LinksLaws.{links-ranged, links-same, targets-stands, targets-first, targets-hit, targets-none}
 use Rattle.topology.specs.Frame.{Frame}
-use Rattle.topology.specs.FrameLaws.{frame-refl, frame-then}
+use Rattle.topology.specs.FrameLaws.{frame-refl, frame-then, frame-wider, frame-acts, frame-chains}
 use Rattle.topology.specs.Steps.{queued, met}
 use Rattle.topology.specs.StepLaws.{met-frame, met-progress}
-use Rattle.topology.specs.Order.{ChainsIn, ChainsOut, Draining}
+use Rattle.topology.specs.Order.{ChainsIn, ChainsOut, Draining, Topological}
 
 -- ---- the walk along the links out of v
 
@@ -89,4 +91,47 @@ module _ {a t : ℕ} {S T : State} {h end : ℕ} (D : Draining a t S T h end) wh
   draining-step U r F g = record {
     kept = frame-then waiting seen 0 0 (D .kept) F;
     progress = rw (links-kept (D .kept) t) at g;
+  }
+
+-- ---- the chains, the start of the queue, and the whole
+
+module _ {a t : ℕ} {S T U : State} (C : Chains toField firstIn nextInto a t S T) (D : Chains fromField firstOut nextOut a t T U) where
+  pub both-in : ChainsIn a t U
+  both-in = rw (D .kept .links toField (λ e. omega arith), D .kept .acts firstIn (λ e. omega arith), D .kept .links nextInto (λ e. omega arith)) (C .chained)
+
+  pub both-frame : Frame firstIn waiting nextInto 7 S U
+  both-frame =
+      frame-then firstIn waiting nextInto 7
+      (frame-chains firstIn waiting nextInto 7 firstIn (omega arith) (omega arith) nextInto (omega arith) (omega arith) (C .kept))
+      (frame-chains firstIn waiting nextInto 7 firstOut (omega arith) (omega arith) nextOut (omega arith) (omega arith) (D .kept))
+
+pub draining-start : {a t : ℕ} {S T U : State} {r : ℕ} → Ends a t S → ((i : ℕ) → T .act waiting i ≡ into (linksOf S t) i)
+    → Frame waiting orderAt 0 0 S T → Filled (U .act waiting) (U .act orderAt) a r → Frame orderAt seen 0 0 T U → Draining a t S U 0 r
+draining-start {a} {t} {S} E c F f G = record {
+  kept =
+      frame-then waiting seen 0 0 (frame-acts waiting seen 0 0 waiting orderAt (omega arith) (omega arith) F)
+      (frame-acts waiting seen 0 0 orderAt seen (omega arith) (omega arith) G);
+  progress = progress-start (links-ranged S E) (λ i. ap (λ (w : ℕ → ℕ). w i) (G .acts waiting refl) ∙ c i) f;
+}
+
+module _ {a t : ℕ} {S T U X : State} {r end : ℕ} (C : ChainsIn a t T) (O : ChainsOut a t T) (F : Frame firstIn waiting nextInto 7 S T)
+    (D : Draining a t T U 0 end) (G : Draining a t U X r r) where
+  late : Frame waiting seen 0 0 T X
+  late = frame-then waiting seen 0 0 (D .kept) (G .kept)
+
+  done : Progress (linksOf S t) a (X .act orderAt) (X .act waiting) r r []
+  done = rw (links-kept (D .kept) t ∙ links-same S T (F .links fromField refl) (F .links toField refl) t) at (G .progress)
+
+  pub topological : Topological a t S X r
+  topological = record {
+    kept =
+        frame-then firstIn seen nextInto 7
+        (frame-wider firstIn seen nextInto 7 firstIn waiting nextInto 7 (omega arith) (omega arith) (omega arith) (omega arith) F)
+        (frame-acts firstIn seen nextInto 7 waiting seen (omega arith) (omega arith) late);
+    chainsIn = chains-in-kept late C;
+    chainsOut = chains-out-kept late O;
+    count = sym (progress-length done);
+    within = progress-le done;
+    order = λ p h. sym (progress-at-kahn done p h);
+    waits = λ i. sym (ap (λ (w : ℕ → ℕ). w i) (progress-count done));
   }

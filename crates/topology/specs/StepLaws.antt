@@ -22,7 +22,7 @@ use Rattle.topology.specs.Links.{linksOf}
 use Rattle.topology.specs.LinksLaws.{links-length, to-at}
 use Rattle.topology.specs.Steps.{counted, Queued, queued, readied, met}
 use Rattle.topology.specs.Frame.{Frame}
-use Rattle.topology.specs.FrameLaws.{frame-refl, frame-then, frame-put, frame-wider}
+use Rattle.topology.specs.FrameLaws.{frame-refl, frame-then, frame-put, frame-acts}
 
 -- a put to a field is a put to its column
 pub put-column : (S : State) (f i v x : ℕ) → putAct S f i v .act f x ≡ put (S .act f) i v x
@@ -96,7 +96,7 @@ module _ (T U : State) (k end r : ℕ) (q : queued U r ≡ met T k end) where
   met-frame =
       frame-then waiting seen 0 0
       (frame-put waiting seen 0 0 waiting (omega arith) (omega arith) T (T .link toField k) (pos (T .act waiting (T .link toField k) - 1)))
-      (frame-wider waiting seen 0 0 orderAt seen 0 0 (omega arith) (omega arith) (omega arith) (omega arith) (readied-frame lowered (T .link toField k) end U r as-readied))
+      (frame-acts waiting seen 0 0 orderAt seen (omega arith) (omega arith) (readied-frame lowered (T .link toField k) end U r as-readied))
 
   pub met-progress : {links : List Link} {n h : ℕ} {js : List ℕ} → Progress links n (T .act orderAt) (T .act waiting) h end (T .link toField k ∷ js)
       → Progress links n (U .act orderAt) (U .act waiting) h r js

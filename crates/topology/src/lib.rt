@@ -4,13 +4,13 @@ ghost use mathlib.Core.List.{[]};
 ghost use Prim.Native.Nat.{ℕ, _+_, _≤_, _<_};
 ghost use lib.ListN.{length};
 ghost use Rattle.memory.specs.State.{Room, stateOf};
-ghost use Rattle.memory.specs.Fields.{waiting, orderAt, seen, toField};
+ghost use Rattle.memory.specs.Fields.{firstIn, waiting, orderAt, seen, toField, nextInto};
 ghost use Rattle.network.specs.Kahn.{into};
 ghost use Rattle.network.specs.Array.{Filled, Progress};
 ghost use Rattle.topology.specs.Links.{linksOf, Ends};
 ghost use Rattle.topology.specs.Frame.{Frame};
 ghost use Rattle.topology.specs.Steps.{counted, queued, readied, met};
-ghost use Rattle.topology.specs.Order.{ChainsOut, Draining};
+ghost use Rattle.topology.specs.Order.{ChainsIn, ChainsOut, Draining, Topological};
 
 // Counts link `k` for the activity that it leads to.
 fn count_link(work: &mut [i64], a: usize, l: usize, k: usize)
@@ -107,4 +107,32 @@ fn drain(work: &mut [i64], a: usize, l: usize, t: usize, end: usize) -> usize
         h += 1;
     }
     r
+}
+
+// Chains the first `t` links by the activities that they enter, and by those that they leave.
+fn chain_both(work: &mut [i64], a: usize, l: usize, t: usize)
+    requires { ⌜ Room a l (now work) × (t ≤ l) × Ends a t (stateOf a l (now work)) ⌝ }
+    ensures { λ _. ⌜ ChainsIn a t (stateOf a l (now (work .exit))) × ChainsOut a t (stateOf a l (now (work .exit))) × Frame firstIn waiting nextInto 7 (stateOf a l (now (work .entry))) (stateOf a l (now (work .exit))) × (length (now (work .exit)) ≡ length (now (work .entry))) ⌝ }
+{
+    memory::chain(work, a, l, t, 1, 4, 5);
+    memory::chain(work, a, l, t, 0, 5, 6);
+}
+
+// Counts the links into each activity, and puts those that wait for none into the queue; answers its end.
+fn start_queue(work: &mut [i64], a: usize, l: usize, t: usize) -> usize
+    requires { ⌜ Room a l (now work) × (t ≤ l) × Ends a t (stateOf a l (now work)) ⌝ }
+    ensures { λ r. ⌜ Draining a t (stateOf a l (now (work .entry))) (stateOf a l (now (work .exit))) 0 r × (length (now (work .exit)) ≡ length (now (work .entry))) ⌝ }
+{
+    count_incoming(work, a, l, t);
+    first_ready(work, a, l)
+}
+
+// Puts the activities in Kahn's order by the first `t` links, as far as it comes; answers how far. Leaves the counts and the chains of the links.
+pub fn order_activities(work: &mut [i64], a: usize, l: usize, t: usize) -> usize
+    requires { ⌜ Room a l (now work) × (t ≤ l) × Ends a t (stateOf a l (now work)) ⌝ }
+    ensures { λ r. ⌜ Topological a t (stateOf a l (now (work .entry))) (stateOf a l (now (work .exit))) r × (length (now (work .exit)) ≡ length (now (work .entry))) ⌝ }
+{
+    chain_both(work, a, l, t);
+    let end = start_queue(work, a, l, t);
+    drain(work, a, l, t, end)
 }
