@@ -1,10 +1,12 @@
 -- The way back along the links into each activity, and the loop that is named.
 use mathlib.Core.Path.{_≡_, refl, sym, ap, ap₂, _∙_}
+use mathlib.Core.Logic.{_≢_, ⊎-elim}
 use mathlib.Core.List.{List, [], _∷_}
 use Prim.Native.Nat.{ℕ, _+_, _-_, _≤_, _<_}
 use native.Mathlib.Omega.{arith}
 use lib.IntN.{pos}
 use lib.ListN.{length, getD}
+use Rattle.number.specs.Order.{eq-or-ne}
 use Rattle.cells.specs.Chain.{Stands, Chained}
 use Rattle.memory.specs.State.{State, putAct}
 use Rattle.memory.specs.StateLaws.{act-same, act-row}
@@ -25,6 +27,15 @@ use Rattle.topology.specs.FrameLaws.{frame-refl, frame-then, frame-acts,
 use Rattle.topology.specs.StepLaws.{put-column}
 use Rattle.topology.specs.Order.{ChainsIn, Topological}
 use Rattle.topology.specs.Loop.{Stuck, loopAt, NamedLoop, passed, WalkedBack}
+
+-- ---- the first that waits
+
+pub first-start : (links : List Link) (c : ℕ → ℕ) (n : ℕ) → firstWaiting links c (n - 0) 0 ≡ firstWaiting links c n 0
+first-start links c n = ap (λ (k : ℕ). firstWaiting links c k 0) (omega arith)
+
+pub first-end : (links : List Link) (c : ℕ → ℕ) (n i : ℕ) → n ≤ i → firstWaiting links c (n - i) i ≡ i
+unfolding firstWaiting
+first-end links c n i h = let e : n - i ≡ 0 = omega arith in rw e
 
 -- ---- the first waiting predecessor, along the links into x
 
@@ -75,13 +86,23 @@ module _ {lo hi : ℕ} {S T : State} (F : Frame lo hi 0 0 S T) where
   pub links-left : (t : ℕ) → linksOf T t ≡ linksOf S t
   links-left t = links-same S T (F .links fromField refl) (F .links toField refl) t
 
-pub stuck-kept : {a t : ℕ} {S T : State} → Frame seen 10 0 0 S T → Stuck a t S → Stuck a t T
-stuck-kept {a} {t} {S} {T} F s = record {
-  ends = ends-same S T (F .links fromField refl) (F .links toField refl) (s .ends);
-  chainsIn = rw (F .links toField refl, F .acts firstIn refl, F .links nextInto refl) (s .chainsIn);
-  waits = λ i. ap (λ (w : ℕ → ℕ). w i) (F .acts waiting refl) ∙ s .waits i ∙ ap (λ (ls : List Link). drained ls a .count i) (sym (links-left F t));
-  short = rw (links-left F t) (s .short);
-}
+module _ {S T : State} (F : Frame seen 10 0 0 S T) where
+  pub ends-left : {a t : ℕ} → Ends a t S → Ends a t T
+  ends-left E = ends-same S T (F .links fromField refl) (F .links toField refl) E
+
+  pub chains-left : {a t : ℕ} → ChainsIn a t S → ChainsIn a t T
+  chains-left C = rw (F .links toField refl, F .acts firstIn refl, F .links nextInto refl) C
+
+  pub before-left : (t x : ℕ) → waitingBefore (linksOf T t) (T .act waiting) (linksOf T t) x ≡ waitingBefore (linksOf S t) (S .act waiting) (linksOf S t) x
+  before-left t x = ap₂ (λ (ls : List Link) (c : ℕ → ℕ). waitingBefore ls c ls x) (links-left F t) (F .acts waiting refl)
+
+  pub stuck-left : {a t : ℕ} → Stuck a t S → Stuck a t T
+  stuck-left {a} {t} s = record {
+    ends = ends-left (s .ends);
+    chainsIn = chains-left (s .chainsIn);
+    waits = λ i. ap (λ (w : ℕ → ℕ). w i) (F .acts waiting refl) ∙ s .waits i ∙ ap (λ (ls : List Link). drained ls a .count i) (sym (links-left F t));
+    short = rw (links-left F t) (s .short);
+  }
 
 -- so leaves `order_activities` it
 pub topological-stuck : {a t : ℕ} {S T : State} {r : ℕ} → Ends a t S → Topological a t S T r → r < a → Stuck a t T
@@ -158,8 +179,7 @@ module _ {a t : ℕ} {S : State} (s : Stuck a t S) where
     pub going-step : (U : State) (r : ℕ) → T .act seen x ≡ 0 → U ≡ passed T m x → r ≡ waitingBefore (linksOf T t) (T .act waiting) (linksOf T t) x
         → GoingBack a t S U start (m + 1) r
     going-step U r z e q =
-        let d : r ≡ waitingBefore (linksOf S t) (S .act waiting) (linksOf S t) x =
-        q ∙ ap₂ (λ (ls : List Link) (c : ℕ → ℕ). waitingBefore ls c ls x) (links-left (G .kept) t) (G .kept .acts waiting refl) in record {
+        let d : r ≡ waitingBefore (linksOf S t) (S .act waiting) (linksOf S t) x = q ∙ before-left (G .kept) t x in record {
           kept = frame-then seen 10 0 0 (G .kept) (rw e (passed-frame T m x));
           back =
               rw (d, e)
@@ -176,6 +196,16 @@ module _ {a t : ℕ} {S : State} (s : Stuck a t S) where
           count = back-length (linksOf S t) (S .act waiting) a start (G .back) p;
           names = back-at (linksOf S t) (S .act waiting) a start (G .back) p;
         }
+
+-- ---- the loop is copied out of the path
+
+pub copied-step : (S T U : State) (end k v : ℕ) → Frame seen pathAt 0 0 S T → U ≡ putAct T loopAt k v → v ≡ T .act pathAt (end - 1 - k)
+    → ((j : ℕ) → j < k → T .act loopAt j ≡ S .act pathAt (end - 1 - j)) → (j : ℕ) → j < k + 1 → U .act loopAt j ≡ S .act pathAt (end - 1 - j)
+copied-step S T U end k v F e d c j h =
+    ap (λ (W : State). W .act loopAt j) e
+    ∙ ⊎-elim
+    (λ (q : j ≡ k). rw q (act-same T loopAt k (pos v) ∙ d ∙ ap (λ (f : ℕ → ℕ). f (end - 1 - k)) (F .acts pathAt refl)))
+    (λ (q : j ≢ k). act-row T loopAt k (pos v) loopAt j q ∙ c j (omega arith)) (eq-or-ne j k)
 
 -- ---- the whole
 

@@ -5,10 +5,10 @@ use mathlib.Core.List.{List, _∷_}
 use Prim.Native.Nat.{ℕ, _+_, _-_, _≤_, _<_}
 use native.Mathlib.Omega.{arith}
 use borrow.Author.Tests.{eq-eqb, ne-eqb}
-use lib.IntN.{pos}
-use Rattle.number.specs.Order.{zero-or-pos, eq-or-ne}
-use Rattle.memory.specs.State.{State, putAct}
-use Rattle.memory.specs.StateLaws.{act-same, act-row, act-field}
+use lib.IntN.{ℤ, pos}
+use Rattle.number.specs.Order.{lt-or-le, zero-or-pos, eq-or-ne}
+use Rattle.memory.specs.State.{State, stateOf, putAct, fillAct}
+use Rattle.memory.specs.StateLaws.{act-past, act-same, act-row, fill-act}
 use Rattle.memory.specs.Fields.{waiting, orderAt, seen, toField}
 use Rattle.network.specs.Links.{Link}
 use Rattle.network.specs.Kahn.{put}
@@ -29,6 +29,11 @@ pub put-column : (S : State) (f i v x : ℕ) → putAct S f i v .act f x ≡ put
 put-column S f i v x =
     ⊎-elim (λ (e : x ≡ i). rw e (act-same S f i (pos v) ∙ sym (put-same (S .act f) i v)))
     (λ (e : x ≢ i). act-row S f i (pos v) f x e ∙ sym (put-other (S .act f) i v x e)) (eq-or-ne x i)
+
+-- a field that is filled with 0 is 0, also past the last row
+pub fill-zero : (a l : ℕ) (S : State) (ys : List ℤ) (f : ℕ) → stateOf a l ys ≡ fillAct S f a 0 → (i : ℕ) → stateOf a l ys .act f i ≡ 0
+fill-zero a l S ys f e i =
+    ⊎-elim (λ h. ap (λ (T : State). T .act f i) e ∙ fill-act S f 0 a i h) (λ h. act-past a l ys f i h) (lt-or-le i a)
 
 -- ---- counting
 

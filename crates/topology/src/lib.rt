@@ -1,16 +1,18 @@
 // The order of the activities by Kahn's algorithm over the lent memory, and the loop that is named where it stops early.
 ghost use mathlib.Core.Path.{_≡_};
-ghost use mathlib.Core.List.{[]};
-ghost use Prim.Native.Nat.{ℕ, _+_, _≤_, _<_};
+ghost use mathlib.Core.List.{List, []};
+ghost use Prim.Native.Nat.{ℕ, _+_, _-_, _≤_, _<_};
 ghost use lib.ListN.{length};
 ghost use Rattle.memory.specs.State.{Room, stateOf};
-ghost use Rattle.memory.specs.Fields.{firstIn, waiting, orderAt, seen, toField, nextInto};
-ghost use Rattle.network.specs.Kahn.{into};
+ghost use Rattle.memory.specs.Fields.{firstIn, waiting, orderAt, seen, pathAt, toField, nextInto};
+ghost use Rattle.network.specs.Links.{Link};
+ghost use Rattle.network.specs.Kahn.{into, firstWaiting, waitingBefore};
 ghost use Rattle.network.specs.Array.{Filled, Progress};
 ghost use Rattle.topology.specs.Links.{linksOf, Ends};
 ghost use Rattle.topology.specs.Frame.{Frame};
 ghost use Rattle.topology.specs.Steps.{counted, queued, readied, met};
 ghost use Rattle.topology.specs.Order.{ChainsIn, ChainsOut, Draining, Topological};
+ghost use Rattle.topology.specs.Loop.{Stuck, loopAt, NamedLoop, passed, WalkedBack};
 
 // Counts link `k` for the activity that it leads to.
 fn count_link(work: &mut [i64], a: usize, l: usize, k: usize)
@@ -135,4 +137,95 @@ pub fn order_activities(work: &mut [i64], a: usize, l: usize, t: usize) -> usize
     chain_both(work, a, l, t);
     let end = start_queue(work, a, l, t);
     drain(work, a, l, t, end)
+}
+
+// The first activity that still waits; `a` where none does.
+fn first_waiting(work: &[i64], a: usize, l: usize) -> usize
+    requires { ⌜ Room a l (now work) ⌝ }
+    ensures { λ r. ⌜ (r ≤ a) × ((links : List Link) → r ≡ firstWaiting links (stateOf a l (now (work .entry)) .act waiting) a 0) ⌝ }
+{
+    let mut i: usize = 0;
+    while i < a {
+        if memory::get_act(work, a, l, i, 6) > 0 {
+            return i;
+        }
+        i += 1;
+    }
+    i
+}
+
+// The first predecessor of activity `x` in link order that still waits; `x` where none does.
+fn waiting_before(work: &[i64], a: usize, l: usize, t: usize, x: usize) -> usize
+    requires { ⌜ Room a l (now work) × (t ≤ l) × (x < a) × Ends a t (stateOf a l (now work)) × ChainsIn a t (stateOf a l (now work)) ⌝ }
+    ensures { λ r. ⌜ r ≡ waitingBefore (linksOf (stateOf a l (now (work .entry))) t) (stateOf a l (now (work .entry)) .act waiting) (linksOf (stateOf a l (now (work .entry))) t) x ⌝ }
+{
+    let mut k = memory::get_act(work, a, l, x, 4) as usize;
+    while k < t {
+        let y = memory::get_link(work, a, l, k, 0) as usize;
+        if memory::get_act(work, a, l, y, 6) > 0 {
+            return y;
+        }
+        k = memory::get_link(work, a, l, k, 5) as usize;
+    }
+    x
+}
+
+// Passes activity `x` as the one at place `m` of the way back; answers the next.
+fn step_back(work: &mut [i64], a: usize, l: usize, t: usize, m: usize, x: usize) -> usize
+    requires { ⌜ Room a l (now work) × (t ≤ l) × (m < a) × (x < a) × Ends a t (stateOf a l (now work)) × ChainsIn a t (stateOf a l (now work)) ⌝ }
+    ensures { λ r. ⌜ (stateOf a l (now (work .exit)) ≡ passed (stateOf a l (now (work .entry))) m x) × (r ≡ waitingBefore (linksOf (stateOf a l (now (work .entry))) t) (stateOf a l (now (work .entry)) .act waiting) (linksOf (stateOf a l (now (work .entry))) t) x) × (length (now (work .exit)) ≡ length (now (work .entry))) ⌝ }
+{
+    memory::put_act(work, a, l, x, 8, (m + 1) as u64);
+    memory::put_act(work, a, l, m, 9, x as u64);
+    waiting_before(work, a, l, t, x)
+}
+
+// Where the loop stands in the path.
+struct Way {
+    from: usize,
+    end: usize,
+}
+
+// Goes back from activity `start` along each one's first waiting predecessor until one repeats.
+fn walk_back(work: &mut [i64], a: usize, l: usize, t: usize, start: usize) -> Way
+    requires { ⌜ Room a l (now work) × (t ≤ l) × Stuck a t (stateOf a l (now work)) × ((i : ℕ) → stateOf a l (now work) .act seen i ≡ 0) × (start ≡ firstWaiting (linksOf (stateOf a l (now work)) t) (stateOf a l (now work) .act waiting) a 0) ⌝ }
+    ensures { λ r. ⌜ WalkedBack a t (stateOf a l (now (work .entry))) (stateOf a l (now (work .exit))) start (r .from) (r .end) × (length (now (work .exit)) ≡ length (now (work .entry))) ⌝ }
+{
+    let mut x = start;
+    let mut m: usize = 0;
+    loop {
+        let mark = memory::get_act(work, a, l, x, 8) as usize;
+        if mark > 0 {
+            return Way { from: mark - 1, end: m };
+        }
+        x = step_back(work, a, l, t, m, x);
+        m += 1;
+    }
+}
+
+// Puts the path's places from `end` down to `from` where the marks stood; answers how many they are.
+fn copy_loop(work: &mut [i64], a: usize, l: usize, from: usize, end: usize) -> usize
+    requires { ⌜ Room a l (now work) × (from < end) × (end ≤ a) ⌝ }
+    ensures { λ r. ⌜ (r ≡ end - from) × ((k : ℕ) → k < r → stateOf a l (now (work .exit)) .act loopAt k ≡ stateOf a l (now (work .entry)) .act pathAt (end - 1 - k)) × Frame seen pathAt 0 0 (stateOf a l (now (work .entry))) (stateOf a l (now (work .exit))) × (length (now (work .exit)) ≡ length (now (work .entry))) ⌝ }
+{
+    let n = end - from;
+    let mut k: usize = 0;
+    while k < n {
+        let x = memory::get_act(work, a, l, end - 1 - k, 9);
+        memory::put_act(work, a, l, k, 8, x);
+        k += 1;
+    }
+    n
+}
+
+// Names a loop after an order that stopped early: back from the first activity that still waits along each one's first waiting
+// predecessor until one repeats, and that loop in the links' direction. Answers how many activities it has.
+pub fn name_loop(work: &mut [i64], a: usize, l: usize, t: usize) -> usize
+    requires { ⌜ Room a l (now work) × (t ≤ l) × Stuck a t (stateOf a l (now work)) ⌝ }
+    ensures { λ r. ⌜ NamedLoop a t (stateOf a l (now (work .entry))) (stateOf a l (now (work .exit))) r × (length (now (work .exit)) ≡ length (now (work .entry))) ⌝ }
+{
+    memory::fill_act(work, a, l, 8, 0);
+    let start = first_waiting(work, a, l);
+    let w = walk_back(work, a, l, t, start);
+    copy_loop(work, a, l, w.from, w.end)
 }

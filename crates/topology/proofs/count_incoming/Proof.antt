@@ -1,16 +1,13 @@
 -- `topology::count_incoming` meets its contract.
 use borrow.Author.Needs.{needs}
 use mathlib.Core.Path.{_≡_, refl, ap, _∙_}
-use mathlib.Core.Logic.{⊎-elim}
 use Prim.Native.Nat.{ℕ}
 use native.Mathlib.Omega.{arith}
-use Rattle.number.specs.Order.{lt-or-le}
-use Rattle.memory.specs.State.{State, stateOf, fillAct}
-use Rattle.memory.specs.StateLaws.{fill-act, act-past}
+use Rattle.memory.specs.State.{State, stateOf}
 use Rattle.memory.specs.Fields.{fromField, toField, waiting, orderAt}
-use Rattle.network.specs.Links.{Link}
 use Rattle.network.specs.Kahn.{into}
 use Rattle.topology.specs.LinksLaws.{links-same, ends-same}
+use Rattle.topology.specs.StepLaws.{fill-zero}
 use Rattle.topology.specs.Frame.{Frame}
 use Rattle.topology.specs.FrameLaws.{frame-fill, frame-then}
 use Rattle.topology.proofs.count_incoming.Statement.{statement}
@@ -27,8 +24,7 @@ count-links-requires c κs =
     let ys = c .before .before .fill-act .last .0 in
     let T = stateOf (x .a) (x .l) ys in
     let e = c .before .before .fill-act .ensures .0 in
-    (omega arith, p .1, ends-same S T (ap (λ (W : State). W .link fromField) e) (ap (λ (W : State). W .link toField) e) (p .2), λ i.
-    ⊎-elim (λ h. ap (λ (W : State). W .act waiting i) e ∙ fill-act S waiting 0 (x .a) i h) (λ h. act-past (x .a) (x .l) ys waiting i h) (lt-or-le i (x .a)))
+    (omega arith, p .1, ends-same S T (ap (λ (W : State). W .link fromField) e) (ap (λ (W : State). W .link toField) e) (p .2), fill-zero (x .a) (x .l) S ys waiting e)
 
 same-length : tie.Need-same-length
 same-length c = search needs
