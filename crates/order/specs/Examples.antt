@@ -25,7 +25,8 @@ use Rattle.project.specs.declared.Project.{Project}
 use Rattle.project.specs.Status.{isMilestone}
 use Rattle.network.specs.Kahn.{put, joined, meet, release, drain, into, ready, drained, kahn, firstWaiting, waitingBefore, member, upTo, goBack, again, namedLoop}
 use Rattle.network.specs.Parents.{above, climb, stepsBack, loopSteps, upward}
-use Rattle.network.specs.Outgoing.{having, incoming, outgoing}
+use Rattle.network.specs.Outgoing.{incoming, outgoing}
+use Rattle.cells.specs.Chain.{keyed}
 use Rattle.order.specs.Plan.{Plan}
 use Rattle.order.specs.Ids.{known, indexFrom, indexOf, parentOf, parentAmong, summary}
 use Rattle.order.specs.Lags.{workingCalendar, lagCalendar, lagMinutes, lagBefore, lagTooLong}
@@ -200,14 +201,14 @@ turns-are = refl
 
 -- open ends: of 1 to 2 and 2 to 3 they are 1 and 3; where 1 is a summary with child 4, the link from it is ignored, and they are 2, 3 and 4
 pub open-both-ends : openEnds (plan (task 1 ∷ task 2 ∷ task 3 ∷ []) (link 1 2 ∷ link 2 3 ∷ [])) ≡ 2
-unfolding known indexFrom indexOf parentOf parentAmong summary ignored endsBelow isOpen openBelow having incoming outgoing
+unfolding known indexFrom indexOf parentOf parentAmong summary ignored endsBelow isOpen openBelow keyed incoming outgoing
 open-both-ends = refl
 
 abbrev parted : Plan
 parted = plan (task 1 ∷ task 2 ∷ task 3 ∷ under 1 4 ∷ []) (link 2 3 ∷ link 1 2 ∷ [])
 
 pub open-without-ignored : openEnds parted ≡ 3
-unfolding known indexFrom indexOf parentOf parentAmong summary ignored endsBelow isOpen openBelow having incoming outgoing
+unfolding known indexFrom indexOf parentOf parentAmong summary ignored endsBelow isOpen openBelow keyed incoming outgoing
 open-without-ignored = refl
 
 pub ignored-position : ignoredLinks parted ≡ 1 ∷ []

@@ -15,7 +15,7 @@ use Rattle.memory.specs.State.{State}
 use Rattle.memory.specs.Fields.{fromField, toField}
 use Rattle.network.specs.Links.{Link, noLink}
 use Rattle.network.specs.Pending.{Ranged}
-use Rattle.network.specs.Outgoing.{having, fromAt, toAt, targets, sources, targetsFrom, sourcesFrom}
+use Rattle.network.specs.Outgoing.{fromAt, toAt, targets, sources, targetsFrom, sourcesFrom}
 use Rattle.network.specs.Chains.{targets-start, targets-here, targets-end, sources-start, sources-here, sources-end}
 use Rattle.topology.specs.Links.{linkAt, linksOf, Ends}
 
@@ -65,26 +65,26 @@ module _ (S T : State) (f : T .link fromField ≡ S .link fromField) (g : T .lin
 
 -- ---- an activity's chain, as the network has it
 
-having-keyed : (key key′ : ℕ → ℕ) (v m k : ℕ) → ((p : ℕ) → p < k + m → key p ≡ key′ p) → having key v m k ≡ keyed key′ v m k
-unfolding having keyed
-having-keyed key key′ v zero k h = refl
-having-keyed key key′ v (suc m) k h =
+keyed-ext : (key key′ : ℕ → ℕ) (v m k : ℕ) → ((p : ℕ) → p < k + m → key p ≡ key′ p) → keyed key v m k ≡ keyed key′ v m k
+unfolding keyed
+keyed-ext key key′ v zero k h = refl
+keyed-ext key key′ v (suc m) k h =
     let e : key k ≡ key′ k = h k (omega arith) in
-    let r : having key v m (k + 1) ≡ keyed key′ v m (k + 1) = having-keyed key key′ v m (k + 1) (λ p b. h p (omega arith)) in
+    let r : keyed key v m (k + 1) ≡ keyed key′ v m (k + 1) = keyed-ext key key′ v m (k + 1) (λ p b. h p (omega arith)) in
     ap₂ (λ (x : ℕ) (ks : List ℕ). elim (eqb x v) [ true ↦ k ∷ ks | false ↦ ks ]) e r
 
 module _ (S : State) (t v : ℕ) where
   targets-after : (k : ℕ) → k ≤ t → targetsFrom (linksOf S t) v k ≡ map (toAt (linksOf S t)) (after (S .link fromField) t v k)
   unfolding targetsFrom
   targets-after k h =
-      ap (λ (n : ℕ). map (toAt (linksOf S t)) (having (fromAt (linksOf S t)) v (n - k) k)) (links-length S t)
-      ∙ ap (map (toAt (linksOf S t))) (having-keyed (fromAt (linksOf S t)) (S .link fromField) v (t - k) k (λ p b. from-at S t p (omega arith)))
+      ap (λ (n : ℕ). map (toAt (linksOf S t)) (keyed (fromAt (linksOf S t)) v (n - k) k)) (links-length S t)
+      ∙ ap (map (toAt (linksOf S t))) (keyed-ext (fromAt (linksOf S t)) (S .link fromField) v (t - k) k (λ p b. from-at S t p (omega arith)))
 
   sources-after : (k : ℕ) → k ≤ t → sourcesFrom (linksOf S t) v k ≡ map (fromAt (linksOf S t)) (after (S .link toField) t v k)
   unfolding sourcesFrom
   sources-after k h =
-      ap (λ (n : ℕ). map (fromAt (linksOf S t)) (having (toAt (linksOf S t)) v (n - k) k)) (links-length S t)
-      ∙ ap (map (fromAt (linksOf S t))) (having-keyed (toAt (linksOf S t)) (S .link toField) v (t - k) k (λ p b. to-at S t p (omega arith)))
+      ap (λ (n : ℕ). map (fromAt (linksOf S t)) (keyed (toAt (linksOf S t)) v (n - k) k)) (links-length S t)
+      ∙ ap (map (fromAt (linksOf S t))) (keyed-ext (toAt (linksOf S t)) (S .link toField) v (t - k) k (λ p b. to-at S t p (omega arith)))
 
   -- between two links of a chain nothing is met
   pub targets-stands : (k k′ : ℕ) → Stands (S .link fromField) t v k k′ → targetsFrom (linksOf S t) v k′ ≡ targetsFrom (linksOf S t) v k
