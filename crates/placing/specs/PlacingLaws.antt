@@ -53,14 +53,6 @@ module _ (origin t : ℕ) where
   bounded-before a =
       on-false _ (At t) (Refused tooLong) (ap₂ _&&_ (le-leb t (origin + 288000000) (omega arith)) (lt-leb origin (t + 288000000) a))
 
--- ---- a task with no work left stays where it is, any other goes on from a walk
-module _ (left t : ℕ) (x : Walk) (go : ℕ → Walk) where
-  none-left : left ≡ 0 → elim (eqb left 0) [ true ↦ At t | false ↦ via Refused x go ] ≡ At t
-  none-left z = on-true (eqb left 0) (At t) (via Refused x go) (eq-eqb left 0 z)
-
-  some-left : (left ≡ 0 → ⊥) → elim (eqb left 0) [ true ↦ At t | false ↦ via Refused x go ] ≡ via Refused x go
-  some-left p = on-false (eqb left 0) (At t) (via Refused x go) (ne-eqb left 0 p)
-
 module _ (w : ℕ → Bool) where
   -- ---- place start, by the activity's kind
   pub place-start-task : (kind : ActivityKind) (t : ℕ) → kind ≡ Task → placeStart w kind t ≡ nextStart w t
@@ -76,14 +68,14 @@ module _ (w : ℕ → Bool) where
   place-start-finish kind t e = rw e
 
   module _ (left t : ℕ) where
-    -- ---- start for finish
+    -- ---- start for finish: with no work left t itself, else on from a walk
     pub start-for-finish-none : left ≡ 0 → startForFinish w left t ≡ At t
     unfolding startForFinish
-    start-for-finish-none z = none-left left t (nextFinish w t) (λ f. retreat w f left) z
+    start-for-finish-none z = on-true (eqb left 0) (At t) _ (eq-eqb left 0 z)
 
     pub start-for-finish-some : (left ≡ 0 → ⊥) → startForFinish w left t ≡ via Refused (nextFinish w t) (λ f. retreat w f left)
     unfolding startForFinish
-    start-for-finish-some p = some-left left t (nextFinish w t) (λ f. retreat w f left) p
+    start-for-finish-some p = on-false (eqb left 0) (At t) _ (ne-eqb left 0 p)
 
     pub start-for-finish-at : (left ≡ 0 → ⊥) → (f : ℕ) → nextFinish w t ≡ At f → startForFinish w left t ≡ retreat w f left
     start-for-finish-at p f e = start-for-finish-some p ∙ via-at Refused _ _ f e
@@ -94,11 +86,11 @@ module _ (w : ℕ → Bool) where
     -- ---- finish for start
     pub finish-for-start-none : left ≡ 0 → finishForStart w left t ≡ At t
     unfolding finishForStart
-    finish-for-start-none z = none-left left t (previousStart w t) (λ s. advance w s left) z
+    finish-for-start-none z = on-true (eqb left 0) (At t) _ (eq-eqb left 0 z)
 
     pub finish-for-start-some : (left ≡ 0 → ⊥) → finishForStart w left t ≡ via Refused (previousStart w t) (λ s. advance w s left)
     unfolding finishForStart
-    finish-for-start-some p = some-left left t (previousStart w t) (λ s. advance w s left) p
+    finish-for-start-some p = on-false (eqb left 0) (At t) _ (ne-eqb left 0 p)
 
     pub finish-for-start-at : (left ≡ 0 → ⊥) → (s : ℕ) → previousStart w t ≡ At s → finishForStart w left t ≡ advance w s left
     finish-for-start-at p s e = finish-for-start-some p ∙ via-at Refused _ _ s e
@@ -109,11 +101,11 @@ module _ (w : ℕ → Bool) where
     -- ---- finish for start, by a date
     pub finish-for-start-by-none : left ≡ 0 → finishForStartBy w left t ≡ At t
     unfolding finishForStartBy
-    finish-for-start-by-none z = none-left left t (startBy w t) (λ s. advance w s left) z
+    finish-for-start-by-none z = on-true (eqb left 0) (At t) _ (eq-eqb left 0 z)
 
     pub finish-for-start-by-some : (left ≡ 0 → ⊥) → finishForStartBy w left t ≡ via Refused (startBy w t) (λ s. advance w s left)
     unfolding finishForStartBy
-    finish-for-start-by-some p = some-left left t (startBy w t) (λ s. advance w s left) p
+    finish-for-start-by-some p = on-false (eqb left 0) (At t) _ (ne-eqb left 0 p)
 
     pub finish-for-start-by-at : (left ≡ 0 → ⊥) → (s : ℕ) → startBy w t ≡ At s → finishForStartBy w left t ≡ advance w s left
     finish-for-start-by-at p s e = finish-for-start-by-some p ∙ via-at Refused _ _ s e
