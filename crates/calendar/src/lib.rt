@@ -26,7 +26,7 @@ pub enum Found {
 }
 
 // The period of W record `i`.
-fn week_period(sheet: &[u8], at: usize, i: usize) -> Period
+pub fn week_period(sheet: &[u8], at: usize, i: usize) -> Period
     requires { ⌜ at + 6 * i + 6 ≤ length (now sheet) ⌝ }
     ensures { λ r. ⌜ r ≡ weekPeriodAt (now (sheet .entry)) at i ⌝ }
 {
@@ -87,7 +87,7 @@ pub fn exception_day(sheet: &[u8], at: usize, i: usize) -> u64
 }
 
 // The period of E record `i`.
-fn exception_period(sheet: &[u8], at: usize, i: usize) -> Period
+pub fn exception_period(sheet: &[u8], at: usize, i: usize) -> Period
     requires { ⌜ at + 9 * i + 9 ≤ length (now sheet) ⌝ }
     ensures { λ r. ⌜ r ≡ exceptionPeriod (now (sheet .entry)) at i ⌝ }
 {

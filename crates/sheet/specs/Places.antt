@@ -7,6 +7,7 @@ use Rattle.project.specs.Fields.{headerSize, calendarSize, weekSize, exceptionS
 use Rattle.sheet.specs.declared.Run.{Run}
 use Rattle.sheet.specs.declared.Run.the-variants.{Count}
 use Rattle.sheet.specs.declared.Contents.{Contents}
+use Rattle.sheet.specs.declared.Place.{Place}
 use Rattle.sheet.specs.Reading.{weeksFrom, exceptionsFrom}
 
 abbrev pub countOf : Run → ℕ
@@ -29,6 +30,9 @@ exceptionCount s at = countOf (exceptionsFrom s (exceptionsAt s at))
 unfoldable pub nextCalendar : List ℕ → ℕ → ℕ
 nextCalendar s at = exceptionsAt s at + exceptionSize * exceptionCount s at
 
+unfoldable pub placeAt : List ℕ → ℕ → Place
+placeAt s at = record { weeks = weekCount s at; at = exceptionsAt s at; exceptions = exceptionCount s at; next = nextCalendar s at }
+
 -- where the C of calendar k stands
 unfoldable pub calendarAt : List ℕ → ℕ → ℕ
 calendarAt s zero = headerSize
@@ -44,3 +48,15 @@ activityAt c i = c .at + activitySize * i
 
 abbrev pub linkAt : Contents → ℕ → ℕ
 linkAt c i = c .at + activitySize * c .activities + linkSize * i
+
+-- ---- where the records of the calendar whose C stands at `at` end, or the refusal of one of its W or E records
+abbrev pub exceptionsEnd : ℕ → Run → Run
+exceptionsEnd at (Count e) = Count (at + exceptionSize * e)
+exceptionsEnd at (Run.Refused r) = Run.Refused r
+
+abbrev pub weeksEnd : List ℕ → ℕ → Run → Run
+weeksEnd s at (Count w) = exceptionsEnd (at + weekSize * w) (exceptionsFrom s (at + weekSize * w))
+weeksEnd s at (Run.Refused r) = Run.Refused r
+
+unfoldable pub calendarEnd : List ℕ → ℕ → Run
+calendarEnd s at = weeksEnd s (at + calendarSize) (weeksFrom s (at + calendarSize))

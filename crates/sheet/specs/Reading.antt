@@ -1,7 +1,7 @@
 -- What a byte string is as a sheet: its records, read one by one, or the refusal of the first that breaks 01's section The sheet.
 use mathlib.Core.Bool.{Bool, true, false, _&&_, _||_, not}
 use mathlib.Core.List.{List}
-use Prim.Native.Nat.{ℕ, zero, suc, _+_, _-_, _*_}
+use Prim.Native.Nat.{ℕ, zero, suc, _+_, _*_}
 use lib.Dec.{eqb, leb, ltb}
 use lib.ListN.{length}
 use Rattle.number.specs.Bytes.{byteAt}
@@ -12,7 +12,6 @@ use Rattle.sheet.specs.declared.Run.{Run}
 use Rattle.sheet.specs.declared.Run.the-variants.{Count}
 use Rattle.sheet.specs.declared.Calendars.{Calendars}
 use Rattle.sheet.specs.declared.Calendars.the-variants.{Ended}
-use Rattle.sheet.specs.declared.Contents.{Contents}
 use Rattle.sheet.specs.declared.Sheet.{Sheet}
 use Rattle.sheet.specs.declared.Sheet.the-variants.{Read}
 

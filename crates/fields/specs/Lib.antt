@@ -1,0 +1,2 @@
+-- The parts of the longer tests.
+pub mod Parts

@@ -1,0 +1,11 @@
+-- `sheet::judges::no_work` meets its contract.
+use Rattle.sheet.specs.Reading.{noWork}
+use Rattle.sheet.proofs.judges.no_work.Statement.{statement}
+use Rattle.sheet.proofs.judges.no_work.Tie as tie
+
+returns : tie.Need-returns
+unfolding noWork
+returns c = cc
+
+pub no-work-spec : {M : Type 1} → statement M
+no-work-spec = tie.close (tie.spec returns)
