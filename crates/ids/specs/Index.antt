@@ -2,9 +2,9 @@
 use mathlib.Core.Path.{_≡_}
 use mathlib.Core.Bool.{true, false}
 use mathlib.Core.Logic.{_≢_}
-use Prim.Native.Nat.{ℕ, zero, suc, _%_, _≤_, _<_}
+use Prim.Native.Nat.{ℕ, zero, suc, _+_, _%_, _≤_, _<_}
 use lib.Dec.{eqb}
-use Rattle.memory.specs.State.{State}
+use Rattle.memory.specs.State.{State, putAct}
 use Rattle.memory.specs.Fields.{bucket, nextId}
 use Rattle.order.specs.Plan.{Plan}
 use Rattle.order.specs.Ids.{idOf}
@@ -24,6 +24,10 @@ module _ (p : Plan) where
   pub record Indexed (S : State) (n : ℕ) : Type 0 where
     pub heads : (b : ℕ) → b < p .activities → Last bucketOf b n (S .act bucket b)
     pub nexts : (j : ℕ) → j < n → Last bucketOf (bucketOf j) j (S .act nextId j)
+
+  -- activity i before those of its bucket
+  abbrev pub withIndex : State → ℕ → State
+  withIndex S i = putAct (putAct S nextId i (S .act bucket (bucketOf i))) bucket (bucketOf i) (i + 1)
 
   -- the last of the first n activities that has the id, or the number of activities where none has
   unfoldable pub foundIn : ℕ → ℕ → ℕ

@@ -16,7 +16,7 @@ use Rattle.memory.specs.Fields.{bucket, nextId}
 use Rattle.order.specs.Plan.{Plan}
 use Rattle.order.specs.Ids.{idOf, known, indexOf}
 use Rattle.order.specs.IdLaws.{DistinctIds, known-has, has-known, unknown-iff, index-of, index-of-id}
-use Rattle.ids.specs.Index.{Last, bucketOf, Indexed, foundIn}
+use Rattle.ids.specs.Index.{Last, bucketOf, Indexed, withIndex, foundIn}
 
 -- ---- the last of none, and of one more
 module _ (key : ℕ → ℕ) where
@@ -131,3 +131,37 @@ module _ (p : Plan) where
 
     pub down-end : Down 0 → foundIn p n id ≡ p .activities
     down-end D = found-none n id (λ m l. D .missed m (omega arith) l)
+
+  -- ---- the index of none, and of one activity more
+  pub index-none : (S : State) → Indexed p (fillAct S bucket (p .activities) 0) 0
+  index-none S = record {
+    heads = λ b l. rw (fill-act S bucket 0 (p .activities) b l) (last-none (bucketOf p) b);
+    nexts = λ j l. absurd (omega arith);
+  }
+
+  module _ (S : State) (i : ℕ) where
+    -- as the code puts it
+    pub index-put : (T U : State) (id last : ℕ) → id ≡ idOf p i → last ≡ S .act bucket (id % p .activities) → T ≡ putAct S nextId i last
+        → U ≡ putAct T bucket (id % p .activities) (i + 1) → U ≡ withIndex p S i
+    index-put T U id last e g t u =
+        let b : ℕ = id % p .activities in
+        u ∙ ap (λ (W : State). putAct W bucket b (i + 1)) t ∙ ap (λ (v : ℕ). putAct (putAct S nextId i v) bucket b (i + 1)) g
+        ∙ ap (λ (d : ℕ). putAct (putAct S nextId i (S .act bucket (d % p .activities))) bucket (d % p .activities) (i + 1)) e
+
+    module _ (l : i < p .activities) (I : Indexed p S i) where
+      pub index-more : Indexed p (withIndex p S i) (i + 1)
+      index-more =
+          let v : ℕ = S .act bucket (bucketOf p i) in
+          let T : State = putAct S nextId i v in
+          record {
+            heads =
+                λ b m.
+                    ⊎-elim (λ (e : b ≡ bucketOf p i). rw (e, act-same T bucket (bucketOf p i) (pos (i + 1))) (last-hit (bucketOf p) (bucketOf p i) i refl))
+                    (λ (n : b ≢ bucketOf p i).
+                    rw (act-row T bucket (bucketOf p i) (pos (i + 1)) bucket b n) (last-miss (bucketOf p) b i (S .act bucket b) (λ q. n (sym q)) (I .heads b m)))
+                    (eq-or-ne b (bucketOf p i));
+            nexts =
+                λ j m.
+                    ⊎-elim (λ (e : j ≡ i). rw (e, act-same S nextId i (pos v)) (I .heads (bucketOf p i) (mod-lt (idOf p i) (omega arith))))
+                    (λ (n : j ≢ i). rw (act-row S nextId i (pos v) nextId j n) (I .nexts j (omega arith))) (eq-or-ne j i);
+          }

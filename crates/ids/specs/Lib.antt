@@ -1,4 +1,8 @@
 -- Ids, parents and summaries in the lent memory.
 pub mod Index
 pub mod Lent
+pub mod Answers
 pub mod IndexLaws
+pub mod LentLaws
+pub mod JudgeLaws
+pub mod AnswerLaws

@@ -1,16 +1,25 @@
 // Activities by their ids, through an index in the lent memory, and rows 6 to 12 of 01's table.
 use sheet::Contents;
 ghost use mathlib.Core.Path.{_≡_};
-ghost use Prim.Native.Nat.{_≤_, _<_};
+ghost use Prim.Native.Nat.{_+_, _≤_, _<_};
+ghost use lib.ListN.{length};
 ghost use Rattle.order.specs.Plan.{planOf};
-ghost use Rattle.ids.specs.Index.{Indexed, foundIn};
+ghost use Rattle.order.specs.Checks.{firstOf, judgeActivity};
+ghost use Rattle.ids.specs.Index.{Indexed, foundIn, withIndex};
 ghost use Rattle.ids.specs.Lent.{Lent, stateIn};
+ghost use Rattle.ids.specs.Answers.{Answered, IndexedBy};
 
 pub mod fields;
 
 // The fields of an activity's row of the lent memory.
 const BUCKET: usize = 0;
 const NEXT_ID: usize = 1;
+
+// The answer of a check of rows 6 to 10: fine, or the row's number and its id.
+pub enum Check {
+    Fine,
+    Refused(u64, u64),
+}
 
 // The last of the first `n` activities that has the id, or the number of activities where none has.
 pub fn find(sheet: &[u8], contents: Contents, work: &[i64], n: usize, id: u64) -> usize
@@ -31,4 +40,85 @@ pub fn find(sheet: &[u8], contents: Contents, work: &[i64], n: usize, id: u64) -
         k = memory::get_act(work, a, l, j, NEXT_ID) as usize;
     }
     a
+}
+
+// Rows 6 to 9 for activity `i`, where the index has those before it.
+fn judge_activity(sheet: &[u8], contents: Contents, work: &[i64], i: usize) -> Check
+    requires { ⌜ Lent (now sheet) contents (now work) × (i < contents .activities) × Indexed (planOf (now sheet) contents) (stateIn contents (now work)) i ⌝ }
+    ensures { λ r. ⌜ Answered r (judgeActivity (planOf (now (sheet .entry)) contents) i) ⌝ }
+{
+    let id = fields::id_of(sheet, contents, i);
+    if find(sheet, contents, work, i, id) < contents.activities {
+        return Check::Refused(6, id);
+    }
+    let minutes = fields::minutes_of(sheet, contents, i);
+    if minutes < 0 {
+        return Check::Refused(7, id);
+    }
+    if minutes > 48_000_000 {
+        return Check::Refused(8, 0);
+    }
+    if fields::calendar_of(sheet, contents, i) >= contents.calendars as u64 {
+        return Check::Refused(9, id);
+    }
+    Check::Fine
+}
+
+// Puts activity `i` before those of its bucket.
+fn insert(sheet: &[u8], contents: Contents, work: &mut [i64], i: usize)
+    requires { ⌜ Lent (now sheet) contents (now work) × (i < contents .activities) ⌝ }
+    ensures { λ _. ⌜ (stateIn contents (now (work .exit)) ≡ withIndex (planOf (now (sheet .entry)) contents) (stateIn contents (now (work .entry))) i) × (length (now (work .exit)) ≡ length (now (work .entry))) ⌝ }
+{
+    let a = contents.activities;
+    let l = contents.links;
+    let b = fields::id_of(sheet, contents, i) as usize % a;
+    let last = memory::get_act(work, a, l, b, BUCKET);
+    memory::put_act(work, a, l, i, NEXT_ID, last);
+    memory::put_act(work, a, l, b, BUCKET, i as u64 + 1);
+}
+
+// Rows 6 to 9 for activity `i`, which comes into the index where it is fine.
+fn index_one(sheet: &[u8], contents: Contents, work: &mut [i64], i: usize) -> Check
+    requires { ⌜ Lent (now sheet) contents (now work) × (i < contents .activities) × Indexed (planOf (now sheet) contents) (stateIn contents (now work)) i ⌝ }
+    ensures { λ r. ⌜ Answered r (judgeActivity (planOf (now (sheet .entry)) contents) i) × IndexedBy (planOf (now (sheet .entry)) contents) (stateIn contents (now (work .entry))) (stateIn contents (now (work .exit))) (i + 1) r × (length (now (work .exit)) ≡ length (now (work .entry))) ⌝ }
+{
+    let check = judge_activity(sheet, contents, work, i);
+    match check {
+        Check::Refused(number, id) => {
+            return Check::Refused(number, id);
+        }
+        Check::Fine => {
+            insert(sheet, contents, work, i);
+            return Check::Fine;
+        }
+    }
+}
+
+// Rows 6 to 9 for all activities, from an index of none.
+fn index_activities(sheet: &[u8], contents: Contents, work: &mut [i64]) -> Check
+    requires { ⌜ Lent (now sheet) contents (now work) × Indexed (planOf (now sheet) contents) (stateIn contents (now work)) 0 ⌝ }
+    ensures { λ r. ⌜ Answered r (firstOf (judgeActivity (planOf (now (sheet .entry)) contents)) (contents .activities) 0) × IndexedBy (planOf (now (sheet .entry)) contents) (stateIn contents (now (work .entry))) (stateIn contents (now (work .exit))) (contents .activities) r × (length (now (work .exit)) ≡ length (now (work .entry))) ⌝ }
+{
+    let a = contents.activities;
+    let mut i: usize = 0;
+    while i < a {
+        let check = index_one(sheet, contents, work, i);
+        match check {
+            Check::Refused(number, id) => {
+                return Check::Refused(number, id);
+            }
+            Check::Fine => {}
+        }
+        i += 1;
+    }
+    Check::Fine
+}
+
+// Rows 6 to 9 for all activities: where they are fine, the memory has the index of their ids.
+pub fn index_all(sheet: &[u8], contents: Contents, work: &mut [i64]) -> Check
+    requires { ⌜ Lent (now sheet) contents (now work) ⌝ }
+    ensures { λ r. ⌜ Answered r (firstOf (judgeActivity (planOf (now (sheet .entry)) contents)) (contents .activities) 0) × IndexedBy (planOf (now (sheet .entry)) contents) (stateIn contents (now (work .entry))) (stateIn contents (now (work .exit))) (contents .activities) r × (length (now (work .exit)) ≡ length (now (work .entry))) ⌝ }
+{
+    memory::fill_act(work, contents.activities, contents.links, BUCKET, 0);
+    index_activities(sheet, contents, work)
 }
