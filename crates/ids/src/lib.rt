@@ -4,16 +4,20 @@ ghost use mathlib.Core.Path.{_≡_};
 ghost use Prim.Native.Nat.{_+_, _≤_, _<_};
 ghost use lib.ListN.{length};
 ghost use Rattle.order.specs.Plan.{planOf};
-ghost use Rattle.order.specs.Checks.{firstOf, judgeActivity};
+ghost use Rattle.order.specs.IdLaws.{DistinctIds};
+ghost use Rattle.order.specs.Checks.{firstOf, judgeActivity, judgeParent};
 ghost use Rattle.ids.specs.Index.{Indexed, foundIn, withIndex};
 ghost use Rattle.ids.specs.Lent.{Lent, stateIn};
-ghost use Rattle.ids.specs.Answers.{Answered, IndexedBy};
+ghost use Rattle.ids.specs.Answers.{Answered, IndexedBy, ParentedBy};
+ghost use Rattle.ids.specs.Parented.{Parented};
 
 pub mod fields;
 
 // The fields of an activity's row of the lent memory.
 const BUCKET: usize = 0;
 const NEXT_ID: usize = 1;
+const PARENT: usize = 2;
+const IS_SUMMARY: usize = 3;
 
 // The answer of a check of rows 6 to 10: fine, or the row's number and its id.
 pub enum Check {
@@ -80,7 +84,7 @@ fn insert(sheet: &[u8], contents: Contents, work: &mut [i64], i: usize)
 // Rows 6 to 9 for activity `i`, which comes into the index where it is fine.
 fn index_one(sheet: &[u8], contents: Contents, work: &mut [i64], i: usize) -> Check
     requires { ⌜ Lent (now sheet) contents (now work) × (i < contents .activities) × Indexed (planOf (now sheet) contents) (stateIn contents (now work)) i ⌝ }
-    ensures { λ r. ⌜ Answered r (judgeActivity (planOf (now (sheet .entry)) contents) i) × IndexedBy (planOf (now (sheet .entry)) contents) (stateIn contents (now (work .entry))) (stateIn contents (now (work .exit))) (i + 1) r × (length (now (work .exit)) ≡ length (now (work .entry))) ⌝ }
+    ensures { λ r. ⌜ Answered r (judgeActivity (planOf (now (sheet .entry)) contents) i) × IndexedBy (planOf (now (sheet .entry)) contents) (i + 1) (stateIn contents (now (work .entry))) (stateIn contents (now (work .exit))) r × (length (now (work .exit)) ≡ length (now (work .entry))) ⌝ }
 {
     let check = judge_activity(sheet, contents, work, i);
     match check {
@@ -97,7 +101,7 @@ fn index_one(sheet: &[u8], contents: Contents, work: &mut [i64], i: usize) -> Ch
 // Rows 6 to 9 for all activities, from an index of none.
 fn index_activities(sheet: &[u8], contents: Contents, work: &mut [i64]) -> Check
     requires { ⌜ Lent (now sheet) contents (now work) × Indexed (planOf (now sheet) contents) (stateIn contents (now work)) 0 ⌝ }
-    ensures { λ r. ⌜ Answered r (firstOf (judgeActivity (planOf (now (sheet .entry)) contents)) (contents .activities) 0) × IndexedBy (planOf (now (sheet .entry)) contents) (stateIn contents (now (work .entry))) (stateIn contents (now (work .exit))) (contents .activities) r × (length (now (work .exit)) ≡ length (now (work .entry))) ⌝ }
+    ensures { λ r. ⌜ Answered r (firstOf (judgeActivity (planOf (now (sheet .entry)) contents)) (contents .activities) 0) × IndexedBy (planOf (now (sheet .entry)) contents) (contents .activities) (stateIn contents (now (work .entry))) (stateIn contents (now (work .exit))) r × (length (now (work .exit)) ≡ length (now (work .entry))) ⌝ }
 {
     let a = contents.activities;
     let mut i: usize = 0;
@@ -117,8 +121,58 @@ fn index_activities(sheet: &[u8], contents: Contents, work: &mut [i64]) -> Check
 // Rows 6 to 9 for all activities: where they are fine, the memory has the index of their ids.
 pub fn index_all(sheet: &[u8], contents: Contents, work: &mut [i64]) -> Check
     requires { ⌜ Lent (now sheet) contents (now work) ⌝ }
-    ensures { λ r. ⌜ Answered r (firstOf (judgeActivity (planOf (now (sheet .entry)) contents)) (contents .activities) 0) × IndexedBy (planOf (now (sheet .entry)) contents) (stateIn contents (now (work .entry))) (stateIn contents (now (work .exit))) (contents .activities) r × (length (now (work .exit)) ≡ length (now (work .entry))) ⌝ }
+    ensures { λ r. ⌜ Answered r (firstOf (judgeActivity (planOf (now (sheet .entry)) contents)) (contents .activities) 0) × IndexedBy (planOf (now (sheet .entry)) contents) (contents .activities) (stateIn contents (now (work .entry))) (stateIn contents (now (work .exit))) r × (length (now (work .exit)) ≡ length (now (work .entry))) ⌝ }
 {
     memory::fill_act(work, contents.activities, contents.links, BUCKET, 0);
     index_activities(sheet, contents, work)
+}
+
+// Row 10 for activity `i`: its parent is looked for, kept, and marked as a summary.
+fn parent_one(sheet: &[u8], contents: Contents, work: &mut [i64], i: usize) -> Check
+    requires { ⌜ Lent (now sheet) contents (now work) × (i < contents .activities) × DistinctIds (planOf (now sheet) contents) × Indexed (planOf (now sheet) contents) (stateIn contents (now work)) (contents .activities) × Parented (planOf (now sheet) contents) (stateIn contents (now work)) i ⌝ }
+    ensures { λ r. ⌜ Answered r (judgeParent (planOf (now (sheet .entry)) contents) i) × ParentedBy (planOf (now (sheet .entry)) contents) (i + 1) (stateIn contents (now (work .entry))) (stateIn contents (now (work .exit))) r × (length (now (work .exit)) ≡ length (now (work .entry))) ⌝ }
+{
+    let a = contents.activities;
+    let l = contents.links;
+    let id = fields::parent_of(sheet, contents, i);
+    if id == 0 {
+        memory::put_act(work, a, l, i, PARENT, 0);
+        return Check::Fine;
+    }
+    let j = find(sheet, contents, work, a, id);
+    if j == a {
+        return Check::Refused(10, fields::id_of(sheet, contents, i));
+    }
+    memory::put_act(work, a, l, i, PARENT, j as u64 + 1);
+    memory::put_act(work, a, l, j, IS_SUMMARY, 1);
+    Check::Fine
+}
+
+// Row 10 for all activities, where none is marked yet.
+fn parent_activities(sheet: &[u8], contents: Contents, work: &mut [i64]) -> Check
+    requires { ⌜ Lent (now sheet) contents (now work) × DistinctIds (planOf (now sheet) contents) × Indexed (planOf (now sheet) contents) (stateIn contents (now work)) (contents .activities) × Parented (planOf (now sheet) contents) (stateIn contents (now work)) 0 ⌝ }
+    ensures { λ r. ⌜ Answered r (firstOf (judgeParent (planOf (now (sheet .entry)) contents)) (contents .activities) 0) × ParentedBy (planOf (now (sheet .entry)) contents) (contents .activities) (stateIn contents (now (work .entry))) (stateIn contents (now (work .exit))) r × (length (now (work .exit)) ≡ length (now (work .entry))) ⌝ }
+{
+    let a = contents.activities;
+    let mut i: usize = 0;
+    while i < a {
+        let check = parent_one(sheet, contents, work, i);
+        match check {
+            Check::Refused(number, id) => {
+                return Check::Refused(number, id);
+            }
+            Check::Fine => {}
+        }
+        i += 1;
+    }
+    Check::Fine
+}
+
+// Row 10 for all activities: where they are fine, the memory has their parents and marks the summaries.
+pub fn parents(sheet: &[u8], contents: Contents, work: &mut [i64]) -> Check
+    requires { ⌜ Lent (now sheet) contents (now work) × DistinctIds (planOf (now sheet) contents) × Indexed (planOf (now sheet) contents) (stateIn contents (now work)) (contents .activities) ⌝ }
+    ensures { λ r. ⌜ Answered r (firstOf (judgeParent (planOf (now (sheet .entry)) contents)) (contents .activities) 0) × ParentedBy (planOf (now (sheet .entry)) contents) (contents .activities) (stateIn contents (now (work .entry))) (stateIn contents (now (work .exit))) r × (length (now (work .exit)) ≡ length (now (work .entry))) ⌝ }
+{
+    memory::fill_act(work, contents.activities, contents.links, IS_SUMMARY, 0);
+    parent_activities(sheet, contents, work)
 }
