@@ -3,6 +3,7 @@ pub mod Index
 pub mod Parented
 pub mod Lent
 pub mod Answers
+pub mod Summaries
 pub mod IndexLaws
 pub mod LentLaws
 pub mod JudgeLaws
@@ -10,3 +11,5 @@ pub mod AnswerLaws
 pub mod PassSteps
 pub mod IndexSteps
 pub mod ParentedLaws
+pub mod ClimbSteps
+pub mod SummaryLaws

@@ -1,15 +1,23 @@
 // Activities by their ids, through an index in the lent memory, and rows 6 to 12 of 01's table.
 use sheet::Contents;
 ghost use mathlib.Core.Path.{_≡_};
-ghost use Prim.Native.Nat.{_+_, _≤_, _<_};
+ghost use mathlib.Core.Bool.{_&&_};
+ghost use Prim.Native.Nat.{ℕ, _+_, _≤_, _<_};
 ghost use lib.ListN.{length};
 ghost use Rattle.order.specs.Plan.{planOf};
 ghost use Rattle.order.specs.IdLaws.{DistinctIds};
-ghost use Rattle.order.specs.Checks.{firstOf, judgeActivity, judgeParent};
+ghost use Rattle.order.specs.Checks.{firstOf, judgeActivity, judgeParent, judgeSummary};
+ghost use Rattle.order.specs.FineLaws.{ParentsKnown};
+ghost use Rattle.order.specs.Ids.{summary};
+ghost use Rattle.network.specs.Parents.{loopSteps};
+ghost use Rattle.project.specs.Status.{isMilestone};
+ghost use Rattle.memory.specs.State.{Room, stateOf};
+ghost use Rattle.memory.specs.Fields.{parent};
 ghost use Rattle.ids.specs.Index.{Indexed, foundIn, withIndex};
 ghost use Rattle.ids.specs.Lent.{Lent, stateIn};
 ghost use Rattle.ids.specs.Answers.{Answered, IndexedBy, ParentedBy};
 ghost use Rattle.ids.specs.Parented.{Parented};
+ghost use Rattle.ids.specs.Summaries.{SummaryAnswered};
 
 pub mod fields;
 
@@ -23,6 +31,13 @@ const IS_SUMMARY: usize = 3;
 pub enum Check {
     Fine,
     Refused(u64, u64),
+}
+
+// The answer of rows 11 and 12: fine, the id of a milestone that is a parent, or the first activity of a loop of parents and its steps.
+pub enum SummaryCheck {
+    Fine,
+    Milestone(u64),
+    Loop(usize, usize),
 }
 
 // The last of the first `n` activities that has the id, or the number of activities where none has.
@@ -175,4 +190,77 @@ pub fn parents(sheet: &[u8], contents: Contents, work: &mut [i64]) -> Check
 {
     memory::fill_act(work, contents.activities, contents.links, IS_SUMMARY, 0);
     parent_activities(sheet, contents, work)
+}
+
+// How many steps lead upward from activity `i` to itself: 0 where it lies on no loop of parents.
+pub fn parent_loop_steps(work: &[i64], a: usize, l: usize, i: usize) -> usize
+    requires { ⌜ Room a l (now work) × (i < a) × ((j : ℕ) → j < a → stateOf a l (now work) .act parent j ≤ a) ⌝ }
+    ensures { λ r. ⌜ (r ≡ loopSteps (stateOf a l (now (work .entry)) .act parent) a i) × (r ≤ a) ⌝ }
+{
+    let mut up = memory::get_act(work, a, l, i, PARENT) as usize;
+    let mut k: usize = 1;
+    while k <= a {
+        if up == 0 {
+            return 0;
+        }
+        if up == i + 1 {
+            return k;
+        }
+        up = memory::get_act(work, a, l, up - 1, PARENT) as usize;
+        k += 1;
+    }
+    0
+}
+
+// Whether activity `i` is a milestone and a parent.
+fn is_milestone_parent(sheet: &[u8], contents: Contents, work: &[i64], i: usize) -> bool
+    requires { ⌜ Lent (now sheet) contents (now work) × (i < contents .activities) × Parented (planOf (now sheet) contents) (stateIn contents (now work)) (contents .activities) ⌝ }
+    ensures { λ r. ⌜ r ≡ (summary (planOf (now (sheet .entry)) contents) i && isMilestone (planOf (now (sheet .entry)) contents .activity i .kind)) ⌝ }
+{
+    let a = contents.activities;
+    let l = contents.links;
+    if memory::get_act(work, a, l, i, IS_SUMMARY) == 0 {
+        return false;
+    }
+    project::is_milestone(fields::kind_of(sheet, contents, i))
+}
+
+// Rows 11 and 12 for activity `i`.
+fn summary_one(sheet: &[u8], contents: Contents, work: &[i64], i: usize) -> SummaryCheck
+    requires { ⌜ Lent (now sheet) contents (now work) × (i < contents .activities) × ParentsKnown (planOf (now sheet) contents) × Parented (planOf (now sheet) contents) (stateIn contents (now work)) (contents .activities) ⌝ }
+    ensures { λ r. ⌜ SummaryAnswered (planOf (now (sheet .entry)) contents) r (judgeSummary (planOf (now (sheet .entry)) contents) i) ⌝ }
+{
+    if is_milestone_parent(sheet, contents, work, i) {
+        return SummaryCheck::Milestone(fields::id_of(sheet, contents, i));
+    }
+    let a = contents.activities;
+    let l = contents.links;
+    let steps = parent_loop_steps(work, a, l, i);
+    if steps > 0 {
+        return SummaryCheck::Loop(i, steps);
+    }
+    SummaryCheck::Fine
+}
+
+// Rows 11 and 12 for all activities.
+pub fn summaries(sheet: &[u8], contents: Contents, work: &[i64]) -> SummaryCheck
+    requires { ⌜ Lent (now sheet) contents (now work) × ParentsKnown (planOf (now sheet) contents) × Parented (planOf (now sheet) contents) (stateIn contents (now work)) (contents .activities) ⌝ }
+    ensures { λ r. ⌜ SummaryAnswered (planOf (now (sheet .entry)) contents) r (firstOf (judgeSummary (planOf (now (sheet .entry)) contents)) (contents .activities) 0) ⌝ }
+{
+    let a = contents.activities;
+    let mut i: usize = 0;
+    while i < a {
+        let check = summary_one(sheet, contents, work, i);
+        match check {
+            SummaryCheck::Milestone(id) => {
+                return SummaryCheck::Milestone(id);
+            }
+            SummaryCheck::Loop(first, steps) => {
+                return SummaryCheck::Loop(first, steps);
+            }
+            SummaryCheck::Fine => {}
+        }
+        i += 1;
+    }
+    SummaryCheck::Fine
 }
