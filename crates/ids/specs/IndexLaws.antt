@@ -4,18 +4,17 @@ use mathlib.Core.Bool.{true, false}
 use mathlib.Core.Logic.{⊎-elim, _≢_}
 use Prim.Native.Nat.{ℕ, zero, suc, _+_, _-_, _%_, _≤_, _<_}
 use native.Mathlib.Omega.{arith}
-use native.Mathlib.Numerals.{add-one}
 use native.Mathlib.Nat.{mod-lt}
 use borrow.Author.Tests.{eq-eqb, ne-eqb}
 use lib.Dec.{eqb}
 use lib.IntN.{pos}
 use Rattle.number.specs.Order.{cases, lt-or-le, eq-or-ne}
 use Rattle.memory.specs.State.{State, putAct, fillAct}
-use Rattle.memory.specs.StateLaws.{act-same, act-row, act-field, fill-act}
+use Rattle.memory.specs.StateLaws.{act-same, act-row, fill-act}
 use Rattle.memory.specs.Fields.{bucket, nextId}
 use Rattle.order.specs.Plan.{Plan}
 use Rattle.order.specs.Ids.{idOf, known, indexOf}
-use Rattle.order.specs.IdLaws.{DistinctIds, known-has, has-known, unknown-iff, index-of, index-of-id}
+use Rattle.order.specs.IdLaws.{DistinctIds, known-has, unknown-iff, index-of-id}
 use Rattle.ids.specs.Index.{Last, bucketOf, Indexed, withIndex, foundIn}
 
 -- ---- the last of none, and of one more

@@ -1,6 +1,5 @@
 -- What is kept of the memory where fields of activities are put.
-use mathlib.Core.Path.{_≡_, refl, _∙_}
-use mathlib.Core.Logic.{_≢_}
+use mathlib.Core.Path.{refl, _∙_}
 use Prim.Native.Nat.{ℕ}
 use lib.IntN.{pos}
 use Rattle.memory.specs.State.{State, putAct, fillAct}

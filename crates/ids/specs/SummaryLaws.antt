@@ -11,7 +11,7 @@ use Rattle.network.specs.Parents.{loopSteps}
 use Rattle.order.specs.Plan.{Plan}
 use Rattle.order.specs.Ids.{idOf, parentOf, summary}
 use Rattle.order.specs.IdLaws.{DistinctIds}
-use Rattle.order.specs.Checks.{Verdict, refuse, fine, firstOf, judgeActivity, judgeParent, judgeSummary}
+use Rattle.order.specs.Checks.{Verdict, refuse, firstOf, judgeActivity, judgeParent, judgeSummary}
 use Rattle.order.specs.CheckLaws.{summary-milestone, summary-loop, summary-passes}
 use Rattle.order.specs.VerdictLaws.{first-end, first-passes, first-stops}
 use Rattle.order.specs.FineLaws.{ParentsKnown, activities-fine, parents-fine, fine-distinct}

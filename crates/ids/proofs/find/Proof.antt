@@ -1,19 +1,14 @@
 -- `ids::find` meets its contract: it goes down the chain of the id's bucket.
 use borrow.Author.Needs.{needs}
-use mathlib.Core.Path.{_≡_, refl, sym, ap, _∙_, subst}
-use Prim.Native.Nat.{ℕ, zero, suc, _+_, _-_, _≤_, _<_}
+use mathlib.Core.Path.{_≡_, sym, _∙_, subst}
+use Prim.Native.Nat.{ℕ, _-_}
 use native.Mathlib.Omega.{arith}
 use native.Mathlib.Nat.{mod-lt}
-use Rattle.order.specs.Plan.{Plan, planOf}
-use Rattle.ids.specs.Index.{Indexed, foundIn}
+use Rattle.order.specs.Plan.{planOf}
 use Rattle.ids.specs.Lent.{stateIn}
 use Rattle.ids.specs.IndexLaws.{Down, down-start, down-turn, down-found, down-end, found-none}
 use Rattle.ids.proofs.find.Statement.{statement}
 use Rattle.ids.proofs.find.Tie as tie
-use Rattle.ids.proofs.find.Reads as reads
-use Rattle.ids.proofs.find.Lts as lts
-use Rattle.ids.proofs.fields.id_of.Reads as id-of-reads
-use Rattle.memory.proofs.get_act.Reads as get-act-reads
 
 abbrev Inv-loop : tie.InvT-loop
 Inv-loop sheet contents work n id a l k₀ k = Down (planOf sheet contents) n id k

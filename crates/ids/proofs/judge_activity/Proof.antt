@@ -1,5 +1,5 @@
 -- `ids::judge_activity` meets its contract.
-use mathlib.Core.Path.{_≡_, sym, ap, _∙_}
+use mathlib.Core.Path.{_≡_}
 use native.Mathlib.Omega.{arith}
 use mir.Syntax.{w32}
 use mir.Val.{toZ, ofZ}
@@ -10,18 +10,10 @@ use Rattle.ids.specs.JudgeLaws.{judged-met, judged-negative, judged-long
 use borrow.Author.Needs.{needs}
 use Rattle.ids.proofs.judge_activity.Statement.{statement}
 use Rattle.ids.proofs.judge_activity.Tie as tie
-use Rattle.ids.proofs.judge_activity.Reads as reads
-use Rattle.ids.proofs.judge_activity.Lts as lts
-use Rattle.ids.proofs.fields.calendar_of.Reads as calendar-of-reads
-use Rattle.ids.proofs.fields.id_of.Reads as id-of-reads
-use Rattle.ids.proofs.fields.minutes_of.Reads as minutes-of-reads
-use Rattle.ids.proofs.find.Reads as find-reads
 
--- src/lib.rt:50:9
 id-of-requires : tie.Need-id-of-requires
 id-of-requires c κs = search needs
 
--- src/lib.rt:51:8
 find-requires : tie.Need-find-requires
 find-requires c κs = search needs
 
@@ -34,7 +26,6 @@ returns c =
     let f = c .before .before .find in
     answered-refused 6 _ (omega arith) (judged-met p (x .i) (omega arith) _ _ (d .ensures .0) (f .ensures .0) (c .if1 .taken))
 
--- src/lib.rt:54:9
 minutes-of-requires : tie.Need-minutes-of-requires
 minutes-of-requires c κs = search needs
 
@@ -60,7 +51,6 @@ returns-3 c =
     let s : toZ w32 (ofZ w32 (m .result)) ≡ m .result = toZ-ofZ (record { sfits = m .ok }) in
     answered-refused 8 _ (omega arith) (judged-long p (x .i) (omega arith) _ _ (d .ensures .0) (f .ensures .0) (omega (arith, c .before .before .before .if1 .left)) _ (m .ensures) (rw s at (c .before .if2 .left)) (rw s at (c .if3 .taken)))
 
--- src/lib.rt:61:8
 calendar-of-requires : tie.Need-calendar-of-requires
 calendar-of-requires c κs = search needs
 

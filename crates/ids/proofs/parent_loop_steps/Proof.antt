@@ -1,6 +1,5 @@
 -- `ids::parent_loop_steps` meets its contract: k steps are made and lead to `up`.
 use borrow.Author.Needs.{needs}
-use mathlib.Core.Path.{_≡_}
 use Prim.Native.Nat.{_+_, _-_}
 use native.Mathlib.Omega.{arith}
 use Rattle.memory.specs.State.{stateOf}
