@@ -1,3 +1,8 @@
 -- The timetable rules.
 pub mod Rules
 pub mod Fit
+pub mod WalkLaws
+pub mod BoundLaws
+pub mod StepLaws
+pub mod PassLaws
+pub mod Earliest
