@@ -106,8 +106,7 @@ module _ (p : Plan) where
           let b = via-at (shift (lagOwn p k) (sourceOf p (k .kind) es ef) (k .lag)) (bounded (origin p)) (a .0) (a .1) in
           let z : a .0 ≡ b .0 = bounded-at (origin p) (b .0) (b .2) in
           let s = shift-sound (lagOwn p k) (sourceOf p (k .kind) es ef) (b .0) (k .lag) (b .1) in
-          let r = start-bound i (d .left i) (a .0) (k .kind) c (a .2) in
-          (
+          let r = start-bound i (d .left i) (a .0) (k .kind) c (a .2) in (
             λ h. r .0 (rw (z ∙ shift-unique (lagOwn p k) (sourceOf p (k .kind) es ef) (b .0) (h .lagged) (k .lag) s (h .shifted)) (h .bound)),
             λ l. record { lagged = a .0; shifted = rw z s; bound = r .1 l },
           )
@@ -118,8 +117,7 @@ module _ (p : Plan) where
       raised-bound (t ∷ ts) a b e =
           let r = via-at (linkStart p d i t) (λ s. raised p d i ts (max a s)) b e in
           let k = link-bound t (r .1) in
-          let q = raised-bound ts (max a (r .0)) b (r .2) in
-          (
+          let q = raised-bound ts (max a (r .0)) b (r .2) in (
             λ h. let l = k .0 (h .1 .0) in let m = h .0 in q .0 (omega arith, h .1 .1),
             λ l. let h = q .1 l in let m = h .0 in (omega arith, (k .1 (omega arith), h .1)),
           )
@@ -160,8 +158,7 @@ module _ (p : Plan) where
           let q = on-finish x (At a) (λ t. via Refused (startForFinish (own p i) (d .left i) t) (λ s. At (max a s))) e in
           let r = via-at (startForFinish (own p i) (d .left i) (q .0)) (λ s. At (max a s)) b (q .2) in
           let f : max a (r .0) ≡ b = (let y = r .2 in cc) in
-          let k = finish-bound (own p i) (kindOf p i) (d .left i) (q .0) c (r .1) in
-          (
+          let k = finish-bound (own p i) (kindOf p i) (d .left i) (q .0) c (r .1) in (
             λ h.
                 let m = h .0 in
                 let l = k .0 (rw (previous-finish-unique (own p i) (q .1) (h .1 .1)) (h .1 .2)) in
@@ -202,8 +199,7 @@ module _ (p : Plan) where
           let r₂ = via-at (constrained p d i k₂ (r₁ .0)) (levelled p d i x) b (r₁ .2) in
           let q₁ = constrained-bound k₁ m₁ a (r₁ .1) in
           let q₂ = constrained-bound k₂ m₂ (r₁ .0) (r₂ .1) in
-          let q₃ = levelled-bound x (r₂ .0) (r₂ .2) in
-          (
+          let q₃ = levelled-bound x (r₂ .0) (r₂ .2) in (
             λ h. q₃ .0 (q₂ .0 (q₁ .0 (h .0, h .1 .first), h .1 .second), h .1 .third),
             λ l.
                 let h₃ = q₃ .1 l in

@@ -196,8 +196,7 @@ module _ (p : Plan) where
     -- the dates that its step gives
     given : (i : ℕ) (t : Turn i) (s f m : ℕ) → trace .at (suc (t .q)) ≡ early p (trace .at (t .q)) i s f m → (d .es i ≡ s) × (d .ef i ≡ f)
     given i t s f m e =
-        let h = stands i t (suc (t .q)) (omega arith) (omega (arith, t .within)) in
-        (
+        let h = stands i t (suc (t .q)) (omega arith) (omega (arith, t .within)) in (
           h .es ∙ ap (λ (x : Early). x .es i) e ∙ put-here (trace .at (t .q) .es) i s,
           h .ef ∙ ap (λ (x : Early). x .ef i) e ∙ put-here (trace .at (t .q) .ef) i f,
         )

@@ -196,7 +196,10 @@ fn walk_back(work: &mut [i64], a: usize, l: usize, t: usize, start: usize) -> Wa
     loop {
         let mark = memory::get_act(work, a, l, x, 8) as usize;
         if mark > 0 {
-            return Way { from: mark - 1, end: m };
+            return Way {
+                from: mark - 1,
+                end: m,
+            };
         }
         x = step_back(work, a, l, t, m, x);
         m += 1;
