@@ -1,5 +1,5 @@
 -- Frames: one after another, a wider one, and those of puts, of a filled field and of chains.
-use mathlib.Core.Path.{_≡_, refl, sym, ap, _∙_}
+use mathlib.Core.Path.{_≡_, refl, sym, _∙_}
 use mathlib.Core.Bool.{Bool, true, false, not, _||_}
 use mathlib.Core.Logic.{_≢_, _⊎_, inl, inr, ⊎-elim}
 use Prim.Native.Nat.{ℕ, _≤_, _<_}
@@ -45,9 +45,6 @@ outside-ne lo hi f g o p q e = ⊎-elim (λ h. omega arith) (λ h. omega arith) 
 module _ (lo hi low high : ℕ) where
   pub frame-refl : (S : State) → Frame lo hi low high S S
   frame-refl S = record { acts = λ f n. refl; links = λ f n. refl; actsZ = λ f n. refl; linksZ = λ f n. refl }
-
-  pub frame-same : (S T : State) → T ≡ S → Frame lo hi low high S T
-  frame-same S T e = rw e (frame-refl S)
 
   pub frame-then : {S T U : State} → Frame lo hi low high S T → Frame lo hi low high T U → Frame lo hi low high S U
   frame-then p q = record {

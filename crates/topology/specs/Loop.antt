@@ -5,7 +5,7 @@ use Prim.Native.Nat.{ℕ, _+_, _-_, _≤_, _<_}
 use lib.ListN.{length, getD}
 use Rattle.memory.specs.State.{State, putAct}
 use Rattle.memory.specs.Fields.{waiting, seen, pathAt}
-use Rattle.network.specs.Kahn.{Drained, drained, kahn, goBack, namedLoop}
+use Rattle.network.specs.Kahn.{drained, kahn, goBack, namedLoop}
 use Rattle.topology.specs.Links.{linksOf, Ends}
 use Rattle.topology.specs.Frame.{Frame}
 use Rattle.topology.specs.Order.{ChainsIn}
@@ -23,6 +23,7 @@ loopAt = seen
 
 -- from S to T the loop is named: m activities, of which the first stands once more at the end of `namedLoop` and not in the state
 pub record NamedLoop (a t : ℕ) (S T : State) (m : ℕ) : Type 0 where
+  -- all but seen and pathAt of activities
   pub kept : Frame seen 10 0 0 S T
   pub some : 0 < m
   pub within : m ≤ a

@@ -7,13 +7,13 @@ use native.Mathlib.Omega.{arith}
 use lib.IntN.{pos}
 use lib.ListN.{length, getD}
 use Rattle.number.specs.Order.{eq-or-ne}
-use Rattle.cells.specs.Chain.{Stands, Chained}
+use Rattle.cells.specs.Chain.{Stands}
 use Rattle.memory.specs.State.{State, putAct}
 use Rattle.memory.specs.StateLaws.{act-same, act-row}
-use Rattle.memory.specs.Fields.{firstIn, waiting, orderAt, seen, pathAt, fromField, toField, nextInto}
+use Rattle.memory.specs.Fields.{firstIn, waiting, seen, pathAt, fromField, toField, nextInto}
 use Rattle.network.specs.Links.{Link}
-use Rattle.network.specs.Kahn.{Drained, drained, kahn, firstWaiting, waitingBefore, goBack, again, namedLoop}
-use Rattle.network.specs.Outgoing.{sources, sourcesFrom, waitingIn}
+use Rattle.network.specs.Kahn.{drained, firstWaiting, waitingBefore, goBack, again, namedLoop}
+use Rattle.network.specs.Outgoing.{sourcesFrom, waitingIn}
 use Rattle.network.specs.Pending.{Ranged}
 use Rattle.network.specs.Draining.{drained-kept, waits-below}
 use Rattle.network.specs.NamedLoop.{again-length, again-at, again-last, drained-back, first-waits}

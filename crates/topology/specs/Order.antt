@@ -6,7 +6,7 @@ use lib.ListN.{length, getD}
 use Rattle.cells.specs.Chain.{Chained}
 use Rattle.memory.specs.State.{State}
 use Rattle.memory.specs.Fields.{firstIn, firstOut, waiting, orderAt, seen, fromField, toField, nextInto, nextOut}
-use Rattle.network.specs.Kahn.{Drained, drained, kahn}
+use Rattle.network.specs.Kahn.{drained, kahn}
 use Rattle.network.specs.Array.{Progress}
 use Rattle.topology.specs.Links.{linksOf}
 use Rattle.topology.specs.Frame.{Frame}
@@ -25,6 +25,7 @@ pub record Draining (a t : ℕ) (S T : State) (h end : ℕ) : Type 0 where
 
 -- from S to T the chains are built and the r activities that come out are put in order
 pub record Topological (a t : ℕ) (S T : State) (r : ℕ) : Type 0 where
+  -- all but firstIn, firstOut, waiting and orderAt of activities and nextInto and nextOut of links
   pub kept : Frame firstIn seen nextInto 7 S T
   pub chainsIn : ChainsIn a t T
   pub chainsOut : ChainsOut a t T

@@ -1,15 +1,14 @@
 -- The walk along an activity's outgoing links, and the loop over the queue.
 use mathlib.Core.Path.{_≡_, refl, sym, ap, _∙_}
-use mathlib.Core.List.{List, [], _∷_}
+use mathlib.Core.List.{[], _∷_}
 use Prim.Native.Nat.{ℕ, _+_, _≤_, _<_}
 use native.Mathlib.Omega.{arith}
-use lib.ListN.{length, getD}
-use Rattle.cells.specs.Chain.{Stands, Chained}
+use Rattle.cells.specs.Chain.{Stands}
 use Rattle.memory.specs.State.{State}
 use Rattle.memory.specs.Fields.{firstIn, firstOut, waiting, orderAt, seen, fromField, toField, nextInto, nextOut}
 use Rattle.memory.specs.Chains.{Chains}
 use Rattle.network.specs.Kahn.{into}
-use Rattle.network.specs.Outgoing.{targets, targetsFrom}
+use Rattle.network.specs.Outgoing.{targetsFrom}
 use Rattle.network.specs.Array.{Progress, Filled}
 use Rattle.network.specs.ProgressLaws.{progress-le, progress-at, progress-enter}
 use Rattle.network.specs.ProgressEnds.{progress-start, progress-count, progress-length, progress-at-kahn}

@@ -1,10 +1,9 @@
 -- `topology::copy_loop` meets its contract: the first k places are copied.
-use borrow.Author.Needs.{needs}
-use mathlib.Core.Path.{_≡_, refl, ap, _∙_}
+use mathlib.Core.Path.{_≡_, refl}
 use Prim.Native.Nat.{ℕ, _-_, _≤_, _<_}
 use native.Mathlib.Omega.{arith}
 use lib.ListN.{length}
-use Rattle.memory.specs.State.{State, stateOf}
+use Rattle.memory.specs.State.{stateOf}
 use Rattle.memory.specs.Fields.{seen, pathAt}
 use Rattle.topology.specs.Frame.{Frame}
 use Rattle.topology.specs.FrameLaws.{frame-refl, frame-then, frame-put}

@@ -1,7 +1,6 @@
 -- `topology::count_incoming` meets its contract.
 use borrow.Author.Needs.{needs}
-use mathlib.Core.Path.{_≡_, refl, ap, _∙_}
-use Prim.Native.Nat.{ℕ}
+use mathlib.Core.Path.{ap, _∙_}
 use native.Mathlib.Omega.{arith}
 use Rattle.memory.specs.State.{State, stateOf}
 use Rattle.memory.specs.Fields.{fromField, toField, waiting, orderAt}

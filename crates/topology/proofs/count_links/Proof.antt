@@ -1,18 +1,16 @@
 -- `topology::count_links` meets its contract: the first k links are counted.
 use borrow.Author.Needs.{needs}
-use mathlib.Core.Path.{_≡_, refl, ap, _∙_}
+use mathlib.Core.Path.{_≡_, refl, ap}
 use Prim.Native.Nat.{ℕ, _-_, _≤_}
 use native.Mathlib.Omega.{arith}
 use lib.ListN.{length}
-use Rattle.memory.specs.State.{State, stateOf}
+use Rattle.memory.specs.State.{stateOf}
 use Rattle.memory.specs.Fields.{waiting, orderAt, toField}
-use Rattle.network.specs.Kahn.{into}
 use Rattle.network.specs.Prefix.{Counted, counted-start, counted-done, into-take-le}
 use Rattle.topology.specs.Links.{linksOf}
 use Rattle.topology.specs.LinksLaws.{links-length}
 use Rattle.topology.specs.Frame.{Frame}
 use Rattle.topology.specs.FrameLaws.{frame-refl, frame-then}
-use Rattle.topology.specs.Steps.{counted}
 use Rattle.topology.specs.StepLaws.{counted-frame, counted-step}
 use Rattle.topology.proofs.count_links.Statement.{statement}
 use Rattle.topology.proofs.count_links.Tie as tie

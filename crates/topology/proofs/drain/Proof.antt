@@ -1,6 +1,6 @@
 -- `topology::drain` meets its contract: h activities are out.
 use mathlib.Core.Path.{_≡_, refl, _∙_}
-use Prim.Native.Nat.{ℕ, _-_}
+use Prim.Native.Nat.{_-_}
 use native.Mathlib.Omega.{arith}
 use lib.ListN.{length}
 use Rattle.memory.specs.State.{stateOf}

@@ -1,10 +1,10 @@
 -- `topology::first_ready` meets its contract: the first m activities are looked at.
 use borrow.Author.Needs.{needs}
-use mathlib.Core.Path.{_≡_, refl, ap, _∙_}
-use Prim.Native.Nat.{ℕ, _-_, _≤_}
+use mathlib.Core.Path.{_≡_, refl}
+use Prim.Native.Nat.{_-_, _≤_}
 use native.Mathlib.Omega.{arith}
 use lib.ListN.{length}
-use Rattle.memory.specs.State.{State, stateOf}
+use Rattle.memory.specs.State.{stateOf}
 use Rattle.memory.specs.Fields.{waiting, orderAt, seen}
 use Rattle.network.specs.Array.{Filled}
 use Rattle.network.specs.ProgressEnds.{filled-start, filled-le}

@@ -1,9 +1,9 @@
 -- `topology::first_waiting` meets its contract: none below i waits.
-use mathlib.Core.Path.{_≡_, sym, ap, _∙_}
+use mathlib.Core.Path.{_≡_, sym, _∙_}
 use mathlib.Core.List.{List}
-use Prim.Native.Nat.{ℕ, _-_, _≤_}
+use Prim.Native.Nat.{_-_, _≤_}
 use native.Mathlib.Omega.{arith}
-use Rattle.memory.specs.State.{State, stateOf}
+use Rattle.memory.specs.State.{stateOf}
 use Rattle.memory.specs.Fields.{waiting}
 use Rattle.network.specs.Links.{Link}
 use Rattle.network.specs.Kahn.{firstWaiting}

@@ -1,7 +1,7 @@
 -- `topology::meet_link` meets its contract.
 use borrow.Author.Needs.{needs}
 use mathlib.Core.Path.{ap, _∙_}
-use Prim.Native.Nat.{ℕ, _-_}
+use Prim.Native.Nat.{_-_}
 use native.Mathlib.Omega.{arith}
 use Rattle.memory.specs.State.{State, stateOf, putAct}
 use Rattle.memory.specs.Fields.{waiting}

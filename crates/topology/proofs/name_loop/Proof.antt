@@ -1,7 +1,7 @@
 -- `topology::name_loop` meets its contract.
-use mathlib.Core.Path.{_≡_, _∙_}
+use mathlib.Core.Path.{_∙_}
 use native.Mathlib.Omega.{arith}
-use Rattle.memory.specs.State.{State, stateOf}
+use Rattle.memory.specs.State.{stateOf}
 use Rattle.memory.specs.Fields.{seen, pathAt}
 use Rattle.topology.specs.Links.{linksOf}
 use Rattle.topology.specs.Frame.{Frame}
@@ -31,7 +31,7 @@ walk-back-requires c κs =
 copy-loop-requires : tie.Need-copy-loop-requires
 copy-loop-requires c κs =
     let w = c .before .before .walk-back .ensures in
-    (omega (arith, w .1, c .before .before .before .before .before .before .before .fill-act .ensures .1, c .before .before .before .before .before .before .before .before .before .pre .0), w .0 .some, w .0 .within)
+    (omega (arith, w .1, c .before .before .before .before .before .before .before .fill-act .ensures .1, c .before .before .before .before .before .before .before .before .before .pre .0), omega (arith, w .0 .some), w .0 .within)
 
 same-length : tie.Need-same-length
 same-length c = c .before .copy-loop .ensures .3 ∙ c .before .before .before .before .walk-back .ensures .1 ∙ c .before .before .before .before .before .before .before .before .before .fill-act .ensures .1

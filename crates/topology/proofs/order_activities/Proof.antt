@@ -1,5 +1,5 @@
 -- `topology::order_activities` meets its contract.
-use mathlib.Core.Path.{_≡_, refl, _∙_}
+use mathlib.Core.Path.{refl, _∙_}
 use native.Mathlib.Omega.{arith}
 use Rattle.memory.specs.State.{stateOf}
 use Rattle.memory.specs.Fields.{fromField, toField}

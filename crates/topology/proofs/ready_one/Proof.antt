@@ -1,10 +1,10 @@
 -- `topology::ready_one` meets its contract.
 use borrow.Author.Needs.{needs}
 use mathlib.Core.Path.{_≡_, sym, ap, _∙_}
-use Prim.Native.Nat.{ℕ, _+_}
+use Prim.Native.Nat.{_+_}
 use native.Mathlib.Omega.{arith}
-use Rattle.memory.specs.State.{State, stateOf, putAct}
-use Rattle.memory.specs.Fields.{waiting, orderAt}
+use Rattle.memory.specs.State.{State, stateOf}
+use Rattle.memory.specs.Fields.{waiting}
 use Rattle.topology.specs.Steps.{queued}
 use Rattle.topology.specs.StepLaws.{readied-joins, readied-waits}
 use Rattle.topology.proofs.ready_one.Statement.{statement}

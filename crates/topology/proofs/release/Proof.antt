@@ -1,11 +1,10 @@
 -- `topology::release` meets its contract: the links of the chain before k are met.
-use borrow.Author.Needs.{needs}
-use mathlib.Core.Path.{_≡_, refl, sym, ap, _∙_}
-use Prim.Native.Nat.{ℕ, _+_, _-_, _≤_, _<_}
+use mathlib.Core.Path.{_≡_, refl, ap, _∙_}
+use Prim.Native.Nat.{_+_, _-_}
 use native.Mathlib.Omega.{arith}
 use lib.ListN.{length}
-use Rattle.memory.specs.State.{State, stateOf}
-use Rattle.memory.specs.Fields.{firstOut, orderAt, nextOut}
+use Rattle.memory.specs.State.{stateOf}
+use Rattle.memory.specs.Fields.{firstOut}
 use Rattle.network.specs.ProgressLaws.{progress-le, progress-at, progress-pos, progress-target, progress-space}
 use Rattle.topology.specs.OrderLaws.{Walk, walk-start, walk-meets, walk-step, walk-next, walk-later, walk-end}
 use Rattle.topology.proofs.release.Statement.{statement}

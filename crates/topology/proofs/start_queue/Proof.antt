@@ -1,5 +1,5 @@
 -- `topology::start_queue` meets its contract.
-use mathlib.Core.Path.{_≡_, _∙_}
+use mathlib.Core.Path.{_∙_}
 use native.Mathlib.Omega.{arith}
 use Rattle.topology.specs.OrderLaws.{draining-start}
 use Rattle.topology.proofs.start_queue.Statement.{statement}

@@ -1,6 +1,5 @@
 -- `topology::step_back` meets its contract.
-use mathlib.Core.Path.{_≡_, refl, ap, _∙_}
-use Prim.Native.Nat.{ℕ}
+use mathlib.Core.Path.{_≡_, ap, _∙_}
 use native.Mathlib.Omega.{arith}
 use Rattle.memory.specs.State.{State, stateOf, putAct}
 use Rattle.memory.specs.Fields.{seen, pathAt}

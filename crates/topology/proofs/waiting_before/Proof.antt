@@ -1,9 +1,9 @@
 -- `topology::waiting_before` meets its contract: none of the links into x before k comes from one that waits.
-use mathlib.Core.Path.{_≡_, sym, ap, _∙_}
-use Prim.Native.Nat.{ℕ, _-_, _≤_}
+use mathlib.Core.Path.{ap, _∙_}
+use Prim.Native.Nat.{_-_}
 use native.Mathlib.Omega.{arith}
-use Rattle.memory.specs.State.{State, stateOf}
-use Rattle.memory.specs.Fields.{waiting, fromField}
+use Rattle.memory.specs.State.{stateOf}
+use Rattle.memory.specs.Fields.{waiting}
 use Rattle.topology.specs.LoopLaws.{Looking, looking-start, looking-found, looking-step, looking-later, looking-end}
 use Rattle.topology.proofs.waiting_before.Statement.{statement}
 use Rattle.topology.proofs.waiting_before.Tie as tie

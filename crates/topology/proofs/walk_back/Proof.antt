@@ -1,10 +1,9 @@
 -- `topology::walk_back` meets its contract: m activities were passed.
-use mathlib.Core.Path.{_≡_, refl, sym, ap, _∙_}
-use Prim.Native.Nat.{ℕ, _-_}
+use mathlib.Core.Path.{_≡_, refl, _∙_}
+use Prim.Native.Nat.{_-_}
 use native.Mathlib.Omega.{arith}
 use lib.ListN.{length}
-use Rattle.memory.specs.State.{State, stateOf}
-use Rattle.memory.specs.Fields.{seen}
+use Rattle.memory.specs.State.{stateOf}
 use Rattle.topology.specs.Loop.{WalkedBack}
 use Rattle.topology.specs.LoopLaws.{ends-left, chains-left, GoingBack, going-start, going-inside, going-room, going-step, going-stop}
 use Rattle.topology.proofs.walk_back.Statement.{statement}
