@@ -4,10 +4,13 @@ use mathlib.Core.Path.{_≡_, refl, sym, ap, subst, _∙_}
 use mathlib.Core.Bool.{Bool, true, false}
 use mathlib.Core.List.{List}
 use mathlib.Core.Logic.{_⊎_, inl, inr, ⊎-elim, _≢_}
-use Prim.Native.Nat.{ℕ, zero, suc, _+_, _≤_, _<_}
+use Prim.Native.Nat.{ℕ, zero, suc, _+_, _^_, _≤_, _<_}
 use native.Mathlib.Omega.{arith}
 use lib.ListN.{length, getD}
-use Rattle.number.specs.Order.{lt-or-le}
+use lib.IntN.{ℤ, pos}
+use lib.Signed.{leZ}
+use Rattle.number.specs.ZedLaws.{le-leZ, minus-is}
+use Rattle.date.specs.Days.{midnight, signedMinute}
 use Rattle.worktime.specs.Worked.{count, IsAdvance}
 use Rattle.worktime.specs.Count.{count-mono}
 use Rattle.worktime.specs.Relations.{advance-mono}
@@ -43,6 +46,11 @@ use Rattle.timetable.specs.PassLaws.{Trace, through-trace, kept, tie-end
 -- a finish milestone has no minutes, as the sheet's fields say
 abbrev pub Momentary : Plan → Type 0
 Momentary p = (i : ℕ) → i < p .activities → kindOf p i ≡ FinishMilestone → full p i ≡ 0
+
+signed-le : {a b : ℕ} → a ≤ b → leZ (signedMinute a) (signedMinute b) ≡ true
+signed-le {a} {b} l =
+    le-leZ (signedMinute a) (signedMinute b)
+    (omega (arith, minus-is (pos a) (pos (midnight (2 ^ 31))), minus-is (pos b) (pos (midnight (2 ^ 31)))))
 
 -- ---- an earlier bound is a lesser one
 module _ (w : ℕ → Bool) where
@@ -327,3 +335,11 @@ module _ (p : Plan) where
 
       pub early-least : (i : ℕ) → i < p .activities → summary p i ≡ false → d .es i ≤ s i
       early-least i l z = let r = ordered-place ordered i l in below (suc (r .0)) i (r .0) (omega arith) (r .1) (r .2) z .0
+
+    -- ---- in signed minutes
+    pub early-obeys : Obeys p (λ i. signedMinute (d .es i))
+    early-obeys = record { s = d .es; f = d .ef; minutes = λ i l z. refl; obeyed = early-obeyed }
+
+    pub early-first : (start : ℕ → ℤ) → Obeys p start → (i : ℕ) → i < p .activities → summary p i ≡ false
+        → leZ (signedMinute (d .es i)) (start i) ≡ true
+    early-first start o i l z = rw (o .minutes i l z) (signed-le (early-least (o .s) (o .f) (o .obeyed) i l z))

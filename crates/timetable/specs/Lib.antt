@@ -6,3 +6,6 @@ pub mod BoundLaws
 pub mod StepLaws
 pub mod PassLaws
 pub mod Earliest
+pub mod HeldLaws
+pub mod Demand
+pub mod AnswerLaws
