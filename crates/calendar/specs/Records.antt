@@ -9,7 +9,7 @@ use Rattle.date.specs.Days.{weekday}
 use Rattle.number.specs.Bytes.{byteAt, u16At, biasedAt}
 use Rattle.calendar.specs.declared.Period.{Period}
 use Rattle.calendar.specs.declared.Hours.{Hours}
-use Rattle.calendar.specs.Hours.{none, Ordered}
+use Rattle.calendar.specs.Hours.{none, Ordered, works}
 
 -- ---- W (6 bytes with its kind): weekday u8, from and to, u16
 abbrev pub weekdayAt : List ℕ → ℕ → ℕ → ℕ
@@ -36,6 +36,11 @@ weekOf s at n =
 -- "A round-the-clock calendar of 1,440": every minute of every day
 unfoldable pub roundTheClock : List (List Period)
 roundTheClock = replicate 7 (record { from = 0; to = 1440 } ∷ replicate 7 none)
+
+-- "weekly hours": some weekday has them
+unfoldable pub weeklyHours : List (List Period) → Bool
+weeklyHours [] = false
+weeklyHours (r ∷ rs) = elim (works r) [ true ↦ true | false ↦ weeklyHours rs ]
 
 -- ---- E (9 bytes with its kind): day i32, from and to, u16
 abbrev pub exceptionDay : List ℕ → ℕ → ℕ → ℕ

@@ -1,6 +1,6 @@
--- The week of the W records, a record at a time, as a loop over them goes; and the round-the-clock week.
+-- The week of the W records, a record at a time, as a loop over them goes; weekly hours; and the round-the-clock week.
 use mathlib.Core.Path.{_≡_, refl, sym, ap, _∙_}
-use mathlib.Core.Bool.{true}
+use mathlib.Core.Bool.{true, false, true≢false}
 use mathlib.Core.Logic.{_⊎_, ⊎-elim}
 use mathlib.Core.List.{List, [], _∷_, _++_, append-assoc}
 use Prim.Native.Nat.{ℕ, zero, suc, _+_, _-_, _≤_, _<_}
@@ -8,12 +8,12 @@ use native.Mathlib.Omega.{arith}
 use native.Mathlib.Nat.{add-zero}
 use native.Mathlib.Numerals.{add-one}
 use borrow.Author.Tests.{eq-eqb, ne-eqb}
-use lib.ListN.{length, getD, set, replicate, length-append, length-replicate, getD-replicate}
-use lib.Seq.{set-append-seam, ext-getD}
-use Rattle.number.specs.Order.{eq-or-ne}
+use lib.ListN.{length, getD, set, drop, replicate, length-append, length-replicate, getD-replicate, drop-of-length-le}
+use lib.Seq.{set-append-seam, ext-getD, drop-cons}
+use Rattle.number.specs.Order.{eq-or-ne, cases}
 use Rattle.calendar.specs.declared.Period.{Period}
-use Rattle.calendar.specs.Hours.{none, held, Ordered}
-use Rattle.calendar.specs.Records.{weekdayAt, weekPeriodAt, weekPeriods, pad, weekOf, roundTheClock}
+use Rattle.calendar.specs.Hours.{none, held, Ordered, works}
+use Rattle.calendar.specs.Records.{weekdayAt, weekPeriodAt, weekPeriods, pad, weekOf, roundTheClock, weeklyHours}
 use Rattle.date.specs.Days.{weekday}
 use Rattle.calendar.specs.HoursLaws.{holds-in, held-here}
 
@@ -90,6 +90,41 @@ module _ (s : List ℕ) (at n : ℕ) where
   pub week-rows : (week : List (List Period)) → length week ≡ 7 → ((k : ℕ) → k < 7 → getD week k [] ≡ pad (weekPeriods s at k n)) → week ≡ weekOf s at n
   week-rows week l f = ext-getD [] week (weekOf s at n) (l ∙ sym week-length) (λ k h. f k (omega arith) ∙ sym (week-row k (omega arith)))
 
+-- ---- weekly hours
+module _ (r : List Period) (rs : List (List Period)) where
+  pub weekly-here : works r ≡ true → weeklyHours (r ∷ rs) ≡ true
+  unfolding weeklyHours
+  weekly-here e = rw (e, weeklyHours)
+
+  pub weekly-rest : works r ≡ false → weeklyHours (r ∷ rs) ≡ weeklyHours rs
+  unfolding weeklyHours
+  weekly-rest e = rw (e, weeklyHours)
+
+pub weekly-none : weeklyHours [] ≡ false
+unfolding weeklyHours
+weekly-none = refl
+
+-- the weekday that has hours
+pub row-of : (week : List (List Period)) → weeklyHours week ≡ true → (k : ℕ) × (k < length week) × (works (getD week k []) ≡ true)
+row-of [] e = absurd (true≢false (sym e ∙ weekly-none))
+row-of (r ∷ rs) e =
+    ⊎-elim (λ h. (0, omega arith, h)) (λ h. let s = row-of rs (sym (weekly-rest r rs h) ∙ e) in (suc (s .0), omega (arith, s .1), s .2)) (cases (works r))
+
+-- as a loop over the weekdays goes
+module _ (week : List (List Period)) (k : ℕ) where
+  pub weekly-end : length week ≤ k → weeklyHours (drop k week) ≡ false
+  weekly-end h = rw (drop-of-length-le week h) weekly-none
+
+  module _ (h : k < length week) where
+    head : weeklyHours (drop k week) ≡ weeklyHours (getD week k [] ∷ drop (k + 1) week)
+    head = rw (add-one, drop-cons week k [])
+
+    pub weekly-found : works (getD week k []) ≡ true → weeklyHours (drop k week) ≡ true
+    weekly-found e = head ∙ weekly-here (getD week k []) (drop (k + 1) week) e
+
+    pub weekly-skip : works (getD week k []) ≡ false → weeklyHours (drop k week) ≡ weeklyHours (drop (k + 1) week)
+    weekly-skip e = head ∙ weekly-rest (getD week k []) (drop (k + 1) week) e
+
 -- ---- round the clock
 abbrev pub wholeDay : List Period
 wholeDay = record { from = 0; to = 1440 } ∷ replicate 7 none
@@ -115,3 +150,7 @@ clock-held d m l = rw (clock-row (weekday d) (omega arith)) (whole-held m l)
 
 pub clock-ordered : (d : ℕ) → Ordered 0 (getD roundTheClock (weekday d) [])
 clock-ordered d = rw (clock-row (weekday d) (omega arith)) whole-ordered
+
+pub clock-weekly : weeklyHours roundTheClock ≡ true
+unfolding roundTheClock weeklyHours works
+clock-weekly = refl

@@ -4,7 +4,7 @@ ghost use mathlib.Core.List.{List};
 ghost use Prim.Native.Nat.{ℕ, _+_, _-_, _*_, _^_, min, _≤_, _<_};
 ghost use lib.ListN.{length, getD};
 ghost use Rattle.calendar.specs.Hours.{none, rank, select, nextIn, works, Ordered};
-ghost use Rattle.calendar.specs.Records.{weekPeriods, weekPeriodAt, pad, weekOf, roundTheClock, exceptionDay, exceptionPeriod, hoursOn, Valid, periodsOf, Within, FirstFrom};
+ghost use Rattle.calendar.specs.Records.{weekPeriods, weekPeriodAt, pad, weekOf, roundTheClock, weeklyHours, exceptionDay, exceptionPeriod, hoursOn, Valid, periodsOf, Within, FirstFrom};
 
 // A work period within a day: from and to, in minutes after midnight.
 pub struct Period {
@@ -76,6 +76,36 @@ pub fn round_the_clock() -> [[Period; 8]; 7]
     row[0] = Period { from: 0, to: 1440 };
     let week = [row; 7];
     week
+}
+
+// Whether some period of a row holds a minute.
+fn row_works(row: [Period; 8]) -> bool
+    ensures { λ r. ⌜ r ≡ works row ⌝ }
+{
+    let mut i: usize = 0;
+    while i < 8 {
+        let p = row[i];
+        if p.from < p.to {
+            return true;
+        }
+        i += 1;
+    }
+    false
+}
+
+// Whether some weekday has hours: what a calendar of 01 must have.
+pub fn has_hours(week: [[Period; 8]; 7]) -> bool
+    ensures { λ r. ⌜ r ≡ weeklyHours week ⌝ }
+{
+    let mut k: usize = 0;
+    while k < 7 {
+        let row = week[k];
+        if row_works(row) {
+            return true;
+        }
+        k += 1;
+    }
+    false
 }
 
 // The day of E record `i`.

@@ -31,6 +31,22 @@ pub one : nextStart w (at 4 960) ≡ At (at 7 480)
 unfolding at w week day hoursOn exceptionsOn held worked inYears reads nextStart least
 one = refl
 
+pub two : nextStart w (at 0 959) ≡ At (at 0 959)
+unfolding at w week day hoursOn exceptionsOn held worked inYears reads nextStart least
+two = refl
+
+pub three : previousFinish w (at 7 480) ≡ At (at 4 960)
+unfolding at w week day hoursOn exceptionsOn held worked inYears reads closing previousFinish greatest
+three = refl
+
+pub four : advance w (at 4 960) 1 ≡ At (at 7 481)
+unfolding at w week day hoursOn exceptionsOn held worked inYears reads advance forward
+four = refl
+
+pub five : advance w (at 5 0) 0 ≡ At (at 5 0)
+unfolding advance
+five = refl
+
 pub six : retreat w (at 7 480) 1 ≡ At (at 4 959)
 unfolding at w week day hoursOn exceptionsOn held worked inYears reads retreat backward
 six = refl
@@ -38,3 +54,11 @@ six = refl
 pub seven : between w (at 1 480) (at 0 480) ≡ Minutes (negsuc 479)
 unfolding at w week day hoursOn exceptionsOn held worked inYears reads between workFrom spanned
 seven = refl
+
+pub eight : startBy w (at 5 720) ≡ At (at 4 959)
+unfolding at w week day hoursOn exceptionsOn held worked inYears reads closing startBy previousFinish greatest
+eight = refl
+
+pub nine : nextFinish w (at 4 960) ≡ At (at 4 960)
+unfolding at w week day hoursOn exceptionsOn held worked inYears reads closing nextFinish
+nine = refl

@@ -3,3 +3,4 @@ pub mod Instances
 pub mod On
 pub mod Days
 pub mod Ways
+pub mod Weeks

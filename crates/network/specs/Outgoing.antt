@@ -4,13 +4,9 @@ use mathlib.Core.List.{List, [], _∷_, map}
 use Prim.Native.Nat.{ℕ, zero, suc, _+_, _-_}
 use lib.Dec.{eqb}
 use lib.ListN.{length, getD}
+use Rattle.cells.specs.Chain.{keyed}
 use Rattle.network.specs.Links.{Link, noLink}
 use Rattle.network.specs.Kahn.{Waiting, meet}
-
--- those of the m indexes from k on whose key is v, in rising order
-unfoldable pub having : (ℕ → ℕ) → ℕ → ℕ → ℕ → List ℕ
-having key v zero k = []
-having key v (suc m) k = elim (eqb (key k) v) [ true ↦ k ∷ having key v m (k + 1) | false ↦ having key v m (k + 1) ]
 
 abbrev pub fromAt : List Link → ℕ → ℕ
 fromAt links k = getD links k noLink .from
@@ -20,10 +16,10 @@ toAt links k = getD links k noLink .to
 
 -- the links that leave v, and those that enter it
 unfoldable pub outgoing : List Link → ℕ → List ℕ
-outgoing links v = having (fromAt links) v (length links) 0
+outgoing links v = keyed (fromAt links) v (length links) 0
 
 unfoldable pub incoming : List Link → ℕ → List ℕ
-incoming links v = having (toAt links) v (length links) 0
+incoming links v = keyed (toAt links) v (length links) 0
 
 -- where the links that leave v lead, in their order
 unfoldable pub targets : List Link → ℕ → List ℕ
@@ -37,10 +33,10 @@ sources (l ∷ ls) v = elim (eqb (l .to) v) [ true ↦ l .from ∷ sources ls v 
 
 -- the same from link k on, by index: what is left of a chain
 unfoldable pub targetsFrom : List Link → ℕ → ℕ → List ℕ
-targetsFrom links v k = map (toAt links) (having (fromAt links) v (length links - k) k)
+targetsFrom links v k = map (toAt links) (keyed (fromAt links) v (length links - k) k)
 
 unfoldable pub sourcesFrom : List Link → ℕ → ℕ → List ℕ
-sourcesFrom links v k = map (fromAt links) (having (toAt links) v (length links - k) k)
+sourcesFrom links v k = map (fromAt links) (keyed (toAt links) v (length links - k) k)
 
 -- links into each of a row of activities are met
 unfoldable pub meetAll : List ℕ → Waiting → Waiting

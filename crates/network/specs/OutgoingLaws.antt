@@ -12,28 +12,29 @@ use Rattle.network.specs.Kahn.{Waiting, meet, release}
 use Rattle.network.specs.Times.{same, same-cases, times, times-nil, times-cons}
 use Rattle.network.specs.Pending.{sent}
 use Rattle.network.specs.PendingLaws.{gate-one, gate-zero}
-use Rattle.network.specs.Outgoing.{having, fromAt, toAt, outgoing, incoming, targets, sources, meetAll}
+use Rattle.network.specs.Outgoing.{fromAt, toAt, outgoing, incoming, targets, sources, meetAll}
+use Rattle.cells.specs.Chain.{keyed}
 
 -- ---- the indexes from k on, of l in all
 
 module _ (key : ℕ → ℕ) (v : ℕ) where
-  having-yes : (m k : ℕ) → key k ≡ v → having key v (suc m) k ≡ k ∷ having key v m (k + 1)
-  unfolding having
-  having-yes m k e = simp (having, eq-eqb (key k) v e)
+  keyed-yes : (m k : ℕ) → key k ≡ v → keyed key v (suc m) k ≡ k ∷ keyed key v m (k + 1)
+  unfolding keyed
+  keyed-yes m k e = simp (keyed, eq-eqb (key k) v e)
 
-  having-no : (m k : ℕ) → key k ≢ v → having key v (suc m) k ≡ having key v m (k + 1)
-  unfolding having
-  having-no m k e = simp (having, ne-eqb (key k) v e)
+  keyed-no : (m k : ℕ) → key k ≢ v → keyed key v (suc m) k ≡ keyed key v m (k + 1)
+  unfolding keyed
+  keyed-no m k e = simp (keyed, ne-eqb (key k) v e)
 
-  pub having-end : (l k : ℕ) → l ≤ k → having key v (l - k) k ≡ []
-  unfolding having
-  having-end l k h = let e : l - k ≡ 0 = omega arith in rw e
+  pub keyed-end : (l k : ℕ) → l ≤ k → keyed key v (l - k) k ≡ []
+  unfolding keyed
+  keyed-end l k h = let e : l - k ≡ 0 = omega arith in rw e
 
-  pub having-hit : (l k : ℕ) → k < l → key k ≡ v → having key v (l - k) k ≡ k ∷ having key v (l - (k + 1)) (k + 1)
-  having-hit l k h e = let q : l - k ≡ suc (l - (k + 1)) = omega arith in rw q (having-yes (l - (k + 1)) k e)
+  pub keyed-hit : (l k : ℕ) → k < l → key k ≡ v → keyed key v (l - k) k ≡ k ∷ keyed key v (l - (k + 1)) (k + 1)
+  keyed-hit l k h e = let q : l - k ≡ suc (l - (k + 1)) = omega arith in rw q (keyed-yes (l - (k + 1)) k e)
 
-  pub having-miss : (l k : ℕ) → k < l → key k ≢ v → having key v (l - k) k ≡ having key v (l - (k + 1)) (k + 1)
-  having-miss l k h e = let q : l - k ≡ suc (l - (k + 1)) = omega arith in rw q (having-no (l - (k + 1)) k e)
+  pub keyed-miss : (l k : ℕ) → k < l → key k ≢ v → keyed key v (l - k) k ≡ keyed key v (l - (k + 1)) (k + 1)
+  keyed-miss l k h e = let q : l - k ≡ suc (l - (k + 1)) = omega arith in rw q (keyed-no (l - (k + 1)) k e)
 
 -- ---- the same by the links' other ends
 
@@ -55,41 +56,41 @@ sources-miss l ls v e = simp (sources, ne-eqb (l .to) v e)
 
 -- the indexes of a part of the links that begins at k, under functions that hold its ends
 module _ (key other : ℕ → ℕ) (v : ℕ) where
-  pub targets-having : (ls : List Link) (k : ℕ)
+  pub targets-keyed : (ls : List Link) (k : ℕ)
       → ((p : ℕ) → p < length ls → key (k + p) ≡ fromAt ls p) → ((p : ℕ) → p < length ls → other (k + p) ≡ toAt ls p)
-      → map other (having key v (length ls) k) ≡ targets ls v
-  unfolding having targets
-  targets-having [] k f t = refl
-  targets-having (l ∷ ls) k f t =
+      → map other (keyed key v (length ls) k) ≡ targets ls v
+  unfolding keyed targets
+  targets-keyed [] k f t = refl
+  targets-keyed (l ∷ ls) k f t =
       let a : key k ≡ l .from = ap key (omega arith) ∙ f 0 (omega arith) in
       let b : other k ≡ l .to = ap other (omega arith) ∙ t 0 (omega arith) in
-      let rest : map other (having key v (length ls) (k + 1)) ≡ targets ls v =
-      targets-having ls (k + 1) (λ p h. ap key (omega arith) ∙ f (suc p) (omega arith)) (λ p h. ap other (omega arith) ∙ t (suc p) (omega arith)) in
-      ⊎-elim (λ e. ap (map other) (having-yes key v (length ls) k (a ∙ e)) ∙ cc (targets-hit l ls v e))
-      (λ e. ap (map other) (having-no key v (length ls) k (λ q. e (sym a ∙ q))) ∙ cc (targets-miss l ls v e)) (eq-or-ne (l .from) v)
+      let rest : map other (keyed key v (length ls) (k + 1)) ≡ targets ls v =
+      targets-keyed ls (k + 1) (λ p h. ap key (omega arith) ∙ f (suc p) (omega arith)) (λ p h. ap other (omega arith) ∙ t (suc p) (omega arith)) in
+      ⊎-elim (λ e. ap (map other) (keyed-yes key v (length ls) k (a ∙ e)) ∙ cc (targets-hit l ls v e))
+      (λ e. ap (map other) (keyed-no key v (length ls) k (λ q. e (sym a ∙ q))) ∙ cc (targets-miss l ls v e)) (eq-or-ne (l .from) v)
 
-  pub sources-having : (ls : List Link) (k : ℕ)
+  pub sources-keyed : (ls : List Link) (k : ℕ)
       → ((p : ℕ) → p < length ls → key (k + p) ≡ toAt ls p) → ((p : ℕ) → p < length ls → other (k + p) ≡ fromAt ls p)
-      → map other (having key v (length ls) k) ≡ sources ls v
-  unfolding having sources
-  sources-having [] k f t = refl
-  sources-having (l ∷ ls) k f t =
+      → map other (keyed key v (length ls) k) ≡ sources ls v
+  unfolding keyed sources
+  sources-keyed [] k f t = refl
+  sources-keyed (l ∷ ls) k f t =
       let a : key k ≡ l .to = ap key (omega arith) ∙ f 0 (omega arith) in
       let b : other k ≡ l .from = ap other (omega arith) ∙ t 0 (omega arith) in
-      let rest : map other (having key v (length ls) (k + 1)) ≡ sources ls v =
-      sources-having ls (k + 1) (λ p h. ap key (omega arith) ∙ f (suc p) (omega arith)) (λ p h. ap other (omega arith) ∙ t (suc p) (omega arith)) in
-      ⊎-elim (λ e. ap (map other) (having-yes key v (length ls) k (a ∙ e)) ∙ cc (sources-hit l ls v e))
-      (λ e. ap (map other) (having-no key v (length ls) k (λ q. e (sym a ∙ q))) ∙ cc (sources-miss l ls v e)) (eq-or-ne (l .to) v)
+      let rest : map other (keyed key v (length ls) (k + 1)) ≡ sources ls v =
+      sources-keyed ls (k + 1) (λ p h. ap key (omega arith) ∙ f (suc p) (omega arith)) (λ p h. ap other (omega arith) ∙ t (suc p) (omega arith)) in
+      ⊎-elim (λ e. ap (map other) (keyed-yes key v (length ls) k (a ∙ e)) ∙ cc (sources-hit l ls v e))
+      (λ e. ap (map other) (keyed-no key v (length ls) k (λ q. e (sym a ∙ q))) ∙ cc (sources-miss l ls v e)) (eq-or-ne (l .to) v)
 
 pub targets-outgoing : (links : List Link) (v : ℕ) → map (toAt links) (outgoing links v) ≡ targets links v
 unfolding outgoing
 targets-outgoing links v =
-    targets-having (fromAt links) (toAt links) v links 0 (λ p h. ap (fromAt links) (omega arith)) (λ p h. ap (toAt links) (omega arith))
+    targets-keyed (fromAt links) (toAt links) v links 0 (λ p h. ap (fromAt links) (omega arith)) (λ p h. ap (toAt links) (omega arith))
 
 pub sources-incoming : (links : List Link) (v : ℕ) → map (fromAt links) (incoming links v) ≡ sources links v
 unfolding incoming
 sources-incoming links v =
-    sources-having (toAt links) (fromAt links) v links 0 (λ p h. ap (toAt links) (omega arith)) (λ p h. ap (fromAt links) (omega arith))
+    sources-keyed (toAt links) (fromAt links) v links 0 (λ p h. ap (toAt links) (omega arith)) (λ p h. ap (fromAt links) (omega arith))
 
 -- ---- releasing is meeting
 

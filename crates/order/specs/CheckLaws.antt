@@ -15,7 +15,8 @@ use Rattle.network.specs.Parents.{loopSteps, upward}
 use Rattle.order.specs.Plan.{Plan}
 use Rattle.order.specs.Ids.{idOf, known, parentOf, summary}
 use Rattle.order.specs.Ties.{ignored, tieTooLong, keptLinks}
-use Rattle.order.specs.Checks.{Verdict, refuse, fine, firstOf, named, refuseLoop, weekWorks, judgeCalendar, judgeActivity, judgeParent, judgeSummary, judgeLink, order, judgeOrder}
+use Rattle.order.specs.Checks.{Verdict, refuse, fine, firstOf, named, refuseLoop, judgeCalendar, judgeActivity, judgeParent, judgeSummary, judgeLink, order, judgeOrder}
+use Rattle.calendar.specs.Records.{weeklyHours}
 
 -- a check that refuses is not fine
 not-fine : {v : Verdict} (n : ℕ) {w : Verdict} → v ≡ w → w .number ≡ suc n → v .number ≡ 0 → ⊥
@@ -24,17 +25,17 @@ not-fine n e h z = omega (arith, ap (λ (u : Verdict). u .number) e)
 module _ (p : Plan) where
   -- ---- 5
   module _ (k : ℕ) where
-    pub calendar-works : weekWorks (p .week k) ≡ true → judgeCalendar p k ≡ fine
+    pub calendar-works : weeklyHours (p .week k) ≡ true → judgeCalendar p k ≡ fine
     unfolding judgeCalendar
     calendar-works e = simp (e, judgeCalendar)
 
-    pub calendar-empty : weekWorks (p .week k) ≡ false → judgeCalendar p k ≡ refuse 5 0
+    pub calendar-empty : weeklyHours (p .week k) ≡ false → judgeCalendar p k ≡ refuse 5 0
     unfolding judgeCalendar
     calendar-empty e = simp (e, judgeCalendar)
 
-    pub calendar-fine : (judgeCalendar p k .number ≡ 0) ↔ (weekWorks (p .week k) ≡ true)
+    pub calendar-fine : (judgeCalendar p k .number ≡ 0) ↔ (weeklyHours (p .week k) ≡ true)
     calendar-fine = (
-      λ z. ⊎-elim (λ e. e) (λ e. absurd (not-fine 4 (calendar-empty e) refl z)) (cases (weekWorks (p .week k))),
+      λ z. ⊎-elim (λ e. e) (λ e. absurd (not-fine 4 (calendar-empty e) refl z)) (cases (weeklyHours (p .week k))),
       λ e. ap (λ (u : Verdict). u .number) (calendar-works e),
     )
 

@@ -6,8 +6,7 @@ use Prim.Native.Nat.{ℕ, zero, suc}
 use lib.Dec.{eqb, ltb, leb}
 use lib.ListN.{length, getD}
 use Rattle.number.specs.Zed.{up, dn}
-use Rattle.calendar.specs.declared.Period.{Period}
-use Rattle.calendar.specs.Hours.{works}
+use Rattle.calendar.specs.Records.{weeklyHours}
 use Rattle.project.specs.Status.{isMilestone}
 use Rattle.network.specs.Kahn.{kahn, namedLoop}
 use Rattle.network.specs.Parents.{loopSteps, upward}
@@ -44,15 +43,10 @@ named id (i ∷ is) = id i ∷ named id is
 abbrev pub refuseLoop : ℕ → List ℕ → Verdict
 refuseLoop number loop = record { number = number; id = getD loop 0 0; loop = loop }
 
--- some row of the week has hours
-unfoldable pub weekWorks : List (List Period) → Bool
-weekWorks [] = false
-weekWorks (r ∷ rs) = elim (works r) [ true ↦ true | false ↦ weekWorks rs ]
-
 module _ (p : Plan) where
   -- 5, "calendar with no weekly hours"
   unfoldable pub judgeCalendar : ℕ → Verdict
-  judgeCalendar k = elim (weekWorks (p .week k)) [ true ↦ fine | false ↦ refuse 5 0 ]
+  judgeCalendar k = elim (weeklyHours (p .week k)) [ true ↦ fine | false ↦ refuse 5 0 ]
 
   -- 6, "id met before"; 7, "negative minutes"; 8, "too long": 100,000 days of 480 minutes; 9, "no such calendar"
   unfoldable pub judgeActivity : ℕ → Verdict

@@ -25,12 +25,14 @@ use Rattle.project.specs.declared.Project.{Project}
 use Rattle.project.specs.Status.{isMilestone}
 use Rattle.network.specs.Kahn.{put, joined, meet, release, drain, into, ready, drained, kahn, firstWaiting, waitingBefore, member, upTo, goBack, again, namedLoop}
 use Rattle.network.specs.Parents.{above, climb, stepsBack, loopSteps, upward}
-use Rattle.network.specs.Outgoing.{having, incoming, outgoing}
+use Rattle.network.specs.Outgoing.{incoming, outgoing}
+use Rattle.cells.specs.Chain.{keyed}
 use Rattle.order.specs.Plan.{Plan}
 use Rattle.order.specs.Ids.{known, indexFrom, indexOf, parentOf, parentAmong, summary}
 use Rattle.order.specs.Lags.{workingCalendar, lagCalendar, lagMinutes, lagBefore, lagTooLong}
 use Rattle.order.specs.Ties.{ignored, tieCalendar, tieTooLong, ignoredBelow, ignoredLinks, endsBelow, isOpen, openBelow, openEnds}
-use Rattle.order.specs.Checks.{Verdict, refuse, fine, refuseLoop, orElse, firstOf, weekWorks, judgeCalendar, judgeActivity, judgeParent, judgeSummary, judgeLink, judgeOrder, beforeOrdering, checked}
+use Rattle.order.specs.Checks.{Verdict, refuse, fine, refuseLoop, orElse, firstOf, judgeCalendar, judgeActivity, judgeParent, judgeSummary, judgeLink, judgeOrder, beforeOrdering, checked}
+use Rattle.calendar.specs.Records.{weeklyHours}
 
 abbrev project : Project
 project = record {
@@ -155,7 +157,7 @@ pub rows-are : rows
     ∷ refuseLoop 15 (2 ∷ 1 ∷ 2 ∷ [])
     ∷ fine
     ∷ []
-unfolding rows known indexFrom indexOf parentOf parentAmong summary workingCalendar lagCalendar lagMinutes lagBefore lagTooLong ignored tieCalendar tieTooLong endsBelow orElse firstOf weekWorks judgeCalendar judgeActivity judgeParent judgeSummary judgeLink judgeOrder beforeOrdering checked works isMilestone above climb stepsBack loopSteps upward put joined meet release drain into ready drained kahn firstWaiting waitingBefore member upTo goBack again namedLoop
+unfolding rows known indexFrom indexOf parentOf parentAmong summary workingCalendar lagCalendar lagMinutes lagBefore lagTooLong ignored tieCalendar tieTooLong endsBelow orElse firstOf weeklyHours judgeCalendar judgeActivity judgeParent judgeSummary judgeLink judgeOrder beforeOrdering checked works isMilestone above climb stepsBack loopSteps upward put joined meet release drain into ready drained kahn firstWaiting waitingBefore member upTo goBack again namedLoop
 rows-are = refl
 
 -- a lag: 100,000 days or 144,000,000 minutes either way, also where links before it are fine; not on an ignored link; 8 on the first link
@@ -179,7 +181,7 @@ lags =
 
 pub lags-are : lags
     ≡ fine ∷ fine ∷ refuse 8 0 ∷ refuse 8 0 ∷ fine ∷ refuse 8 0 ∷ fine ∷ refuse 8 0 ∷ refuse 8 0 ∷ fine ∷ fine ∷ refuse 8 0 ∷ []
-unfolding lags known indexFrom indexOf parentOf parentAmong summary workingCalendar lagCalendar lagMinutes lagBefore lagTooLong clampZ percentOf ignored tieCalendar tieTooLong endsBelow orElse firstOf weekWorks judgeCalendar judgeActivity judgeParent judgeSummary judgeLink judgeOrder beforeOrdering checked works isMilestone above climb stepsBack loopSteps upward put joined meet release drain into ready drained kahn firstWaiting waitingBefore member upTo goBack again namedLoop
+unfolding lags known indexFrom indexOf parentOf parentAmong summary workingCalendar lagCalendar lagMinutes lagBefore lagTooLong clampZ percentOf ignored tieCalendar tieTooLong endsBelow orElse firstOf weeklyHours judgeCalendar judgeActivity judgeParent judgeSummary judgeLink judgeOrder beforeOrdering checked works isMilestone above climb stepsBack loopSteps upward put joined meet release drain into ready drained kahn firstWaiting waitingBefore member upTo goBack again namedLoop
 lags-are = refl
 
 -- the order of the checks: 9 of the first activity before 6 of the second, 6 before 7 of one, 10 for all before 11 of the first, 11 of the
@@ -194,19 +196,19 @@ turns =
     ∷ []
 
 pub turns-are : turns ≡ refuse 9 1 ∷ refuse 6 1 ∷ refuse 10 3 ∷ refuse 11 1 ∷ refuseLoop 12 (1 ∷ 1 ∷ []) ∷ []
-unfolding turns known indexFrom indexOf parentOf parentAmong summary orElse firstOf weekWorks judgeCalendar judgeActivity judgeParent judgeSummary judgeLink beforeOrdering checked works isMilestone above climb stepsBack loopSteps upward
+unfolding turns known indexFrom indexOf parentOf parentAmong summary orElse firstOf weeklyHours judgeCalendar judgeActivity judgeParent judgeSummary judgeLink beforeOrdering checked works isMilestone above climb stepsBack loopSteps upward
 turns-are = refl
 
 -- open ends: of 1 to 2 and 2 to 3 they are 1 and 3; where 1 is a summary with child 4, the link from it is ignored, and they are 2, 3 and 4
 pub open-both-ends : openEnds (plan (task 1 ∷ task 2 ∷ task 3 ∷ []) (link 1 2 ∷ link 2 3 ∷ [])) ≡ 2
-unfolding known indexFrom indexOf parentOf parentAmong summary ignored endsBelow isOpen openBelow having incoming outgoing
+unfolding known indexFrom indexOf parentOf parentAmong summary ignored endsBelow isOpen openBelow keyed incoming outgoing
 open-both-ends = refl
 
 abbrev parted : Plan
 parted = plan (task 1 ∷ task 2 ∷ task 3 ∷ under 1 4 ∷ []) (link 2 3 ∷ link 1 2 ∷ [])
 
 pub open-without-ignored : openEnds parted ≡ 3
-unfolding known indexFrom indexOf parentOf parentAmong summary ignored endsBelow isOpen openBelow having incoming outgoing
+unfolding known indexFrom indexOf parentOf parentAmong summary ignored endsBelow isOpen openBelow keyed incoming outgoing
 open-without-ignored = refl
 
 pub ignored-position : ignoredLinks parted ≡ 1 ∷ []

@@ -5,7 +5,8 @@ use mathlib.Core.Logic.{_≢_, _↔_}
 use Prim.Native.Nat.{ℕ, _<_}
 use Rattle.order.specs.Plan.{Plan}
 use Rattle.order.specs.Ids.{known}
-use Rattle.order.specs.Checks.{orElse, weekWorks, judgeCalendar, judgeActivity, judgeParent, judgeSummary, judgeLink, beforeOrdering}
+use Rattle.order.specs.Checks.{orElse, judgeCalendar, judgeActivity, judgeParent, judgeSummary, judgeLink, beforeOrdering}
+use Rattle.calendar.specs.Records.{weeklyHours}
 use Rattle.order.specs.VerdictLaws.{or-fine, first-fine}
 use Rattle.order.specs.IdLaws.{DistinctIds, distinct-ids}
 use Rattle.order.specs.CheckLaws.{calendarsFirst, activitiesFirst, parentsFirst, summariesFirst, linksFirst, ActivityFine, SummaryFine, LinkFine, calendar-fine, activity-fine, parent-fine, summary-fine, link-fine}
@@ -25,7 +26,7 @@ module _ (p : Plan) where
   LinksFine = (k : ℕ) → k < p .links → LinkFine p k
 
   pub record PlanFine : Type 0 where
-    pub calendars : (k : ℕ) → k < p .calendars → weekWorks (p .week k) ≡ true
+    pub calendars : (k : ℕ) → k < p .calendars → weeklyHours (p .week k) ≡ true
     pub activities : ActivitiesFine
     pub parents : ParentsKnown
     pub summaries : SummariesFine
@@ -55,7 +56,7 @@ module _ (p : Plan) where
     λ h. first-fine (judgeLink p) (p .links) .1 (λ k l. link-fine p k .1 (h k l)),
   )
 
-  pub calendars-fine : (calendarsFirst p .number ≡ 0) ↔ ((k : ℕ) → k < p .calendars → weekWorks (p .week k) ≡ true)
+  pub calendars-fine : (calendarsFirst p .number ≡ 0) ↔ ((k : ℕ) → k < p .calendars → weeklyHours (p .week k) ≡ true)
   calendars-fine = (
     λ h k l. calendar-fine p k .0 (first-fine (judgeCalendar p) (p .calendars) .0 h k l),
     λ h. first-fine (judgeCalendar p) (p .calendars) .1 (λ k l. calendar-fine p k .1 (h k l)),

@@ -11,8 +11,9 @@ use lib.Dec.{eqb}
 use lib.ListN.{length}
 use Rattle.number.specs.Order.{cases, eq-or-ne}
 use Rattle.network.specs.Links.{Link, Linked}
-use Rattle.network.specs.Outgoing.{having, fromAt, toAt, incoming, outgoing}
-use Rattle.network.specs.OutgoingLaws.{having-end, having-hit, having-miss}
+use Rattle.network.specs.Outgoing.{fromAt, toAt, incoming, outgoing}
+use Rattle.cells.specs.Chain.{keyed}
+use Rattle.network.specs.OutgoingLaws.{keyed-end, keyed-hit, keyed-miss}
 use Rattle.order.specs.Plan.{Plan}
 use Rattle.order.specs.Ids.{summary}
 use Rattle.order.specs.Ties.{keptLinks, isOpen, openBelow}
@@ -20,26 +21,26 @@ use Rattle.order.specs.TieLaws.{KeptFrom, linked-kept, kept-linked}
 
 -- ---- some of l indexes has the key
 module _ (key : ℕ → ℕ) (v l : ℕ) where
-  from-having : (m k : ℕ) → l ≡ k + m → length (having key v (l - k) k) ≢ 0 → (j : ℕ) × (j < l) × (key j ≡ v)
-  from-having zero k e n = absurd (n (ap length (having-end key v l k (omega arith))))
-  from-having (suc m) k e n =
+  from-keyed : (m k : ℕ) → l ≡ k + m → length (keyed key v (l - k) k) ≢ 0 → (j : ℕ) × (j < l) × (key j ≡ v)
+  from-keyed zero k e n = absurd (n (ap length (keyed-end key v l k (omega arith))))
+  from-keyed (suc m) k e n =
       ⊎-elim (λ (h : key k ≡ v). (k, omega arith, h))
-      (λ (h : key k ≢ v). from-having m (k + 1) (omega arith) (λ z. n (ap length (having-miss key v l k (omega arith) h) ∙ z)))
+      (λ (h : key k ≢ v). from-keyed m (k + 1) (omega arith) (λ z. n (ap length (keyed-miss key v l k (omega arith) h) ∙ z)))
       (eq-or-ne (key k) v)
 
-  to-having : (m k j : ℕ) → l ≡ k + m → k ≤ j → j < l → key j ≡ v → length (having key v (l - k) k) ≢ 0
-  to-having zero k j e a b q z = omega arith
-  to-having (suc m) k j e a b q z =
-      ⊎-elim (λ (h : key k ≡ v). omega (arith, ap length (having-hit key v l k (omega arith) h)))
+  to-keyed : (m k j : ℕ) → l ≡ k + m → k ≤ j → j < l → key j ≡ v → length (keyed key v (l - k) k) ≢ 0
+  to-keyed zero k j e a b q z = omega arith
+  to-keyed (suc m) k j e a b q z =
+      ⊎-elim (λ (h : key k ≡ v). omega (arith, ap length (keyed-hit key v l k (omega arith) h)))
       (λ (h : key k ≢ v).
       let c : k + 1 ≤ j = ⊎-elim (λ (s : k ≡ j). absurd (h (ap key s ∙ q))) (λ s. omega arith) (eq-or-ne k j) in
-      to-having m (k + 1) j (omega arith) c b q (ap length (sym (having-miss key v l k (omega arith) h)) ∙ z)) (eq-or-ne (key k) v)
+      to-keyed m (k + 1) j (omega arith) c b q (ap length (sym (keyed-miss key v l k (omega arith) h)) ∙ z)) (eq-or-ne (key k) v)
 
-  having-iff : (length (having key v l 0) ≢ 0) ↔ ((j : ℕ) × (j < l) × (key j ≡ v))
-  having-iff =
+  keyed-iff : (length (keyed key v l 0) ≢ 0) ↔ ((j : ℕ) × (j < l) × (key j ≡ v))
+  keyed-iff =
       let e : l - 0 ≡ l = omega arith in (
-        λ n. from-having l 0 (omega arith) (rw e n),
-        λ w. rw e at (to-having l 0 (w .0) (omega arith) (omega arith) (w .1) (w .2)),
+        λ n. from-keyed l 0 (omega arith) (rw e n),
+        λ w. rw e at (to-keyed l 0 (w .0) (omega arith) (omega arith) (w .1) (w .2)),
       )
 
 module _ (links : List Link) (i : ℕ) where
@@ -47,18 +48,18 @@ module _ (links : List Link) (i : ℕ) where
   unfolding incoming
   incoming-iff = (
     λ n.
-        let r = having-iff (toAt links) i (length links) .0 n in
+        let r = keyed-iff (toAt links) i (length links) .0 n in
         (fromAt links (r .0), record { place = r .0; within = r .1; leaves = refl; enters = r .2 }),
-    λ w. having-iff (toAt links) i (length links) .1 (w .1 .place, w .1 .within, w .1 .enters),
+    λ w. keyed-iff (toAt links) i (length links) .1 (w .1 .place, w .1 .within, w .1 .enters),
   )
 
   pub outgoing-iff : (length (outgoing links i) ≢ 0) ↔ ((j : ℕ) × Linked links i j)
   unfolding outgoing
   outgoing-iff = (
     λ n.
-        let r = having-iff (fromAt links) i (length links) .0 n in
+        let r = keyed-iff (fromAt links) i (length links) .0 n in
         (toAt links (r .0), record { place = r .0; within = r .1; leaves = r .2; enters = refl }),
-    λ w. having-iff (fromAt links) i (length links) .1 (w .1 .place, w .1 .within, w .1 .leaves),
+    λ w. keyed-iff (fromAt links) i (length links) .1 (w .1 .place, w .1 .within, w .1 .leaves),
   )
 
 module _ (p : Plan) where

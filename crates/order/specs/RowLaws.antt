@@ -14,7 +14,8 @@ use Rattle.network.specs.Parents.{loopSteps, upward}
 use Rattle.order.specs.Plan.{Plan}
 use Rattle.order.specs.Ids.{idOf, known, parentOf, summary}
 use Rattle.order.specs.Ties.{ignored, tieTooLong, keptLinks}
-use Rattle.order.specs.Checks.{Verdict, refuse, fine, orElse, named, refuseLoop, weekWorks, judgeCalendar, judgeActivity, judgeParent, judgeSummary, judgeLink, order, judgeOrder, beforeOrdering, checked}
+use Rattle.order.specs.Checks.{Verdict, refuse, fine, orElse, named, refuseLoop, judgeCalendar, judgeActivity, judgeParent, judgeSummary, judgeLink, order, judgeOrder, beforeOrdering, checked}
+use Rattle.calendar.specs.Records.{weeklyHours}
 use Rattle.order.specs.VerdictLaws.{or-both, first-each}
 use Rattle.order.specs.CheckLaws.{calendarsFirst, activitiesFirst, parentsFirst, summariesFirst, linksFirst}
 
@@ -27,7 +28,7 @@ module _ (P : Verdict → Type 0) where
   module _ (p : Plan) where
     pub calendar-rows : (k : ℕ) → P fine → P (refuse 5 0) → P (judgeCalendar p k)
     unfolding judgeCalendar
-    calendar-rows k f a = either (weekWorks (p .week k)) f a
+    calendar-rows k f a = either (weeklyHours (p .week k)) f a
 
     pub activity-rows : (i : ℕ) → P fine → P (refuse 6 (idOf p i)) → P (refuse 7 (idOf p i)) → P (refuse 8 0) → P (refuse 9 (idOf p i))
         → P (judgeActivity p i)

@@ -99,7 +99,7 @@ module _ (p : Plan) where
 
     unfoldable pub heldLate : ℕ → ℕ → Walk
     heldLate i latest = elim (summary p i) [
-      true ↦ At latest
+      | true ↦ At latest
       | false ↦
           via Refused (limitedBy i (recorded p i) (p .activity i .constraint) latest)
           (limitedBy i (recorded p i) (p .activity i .«secondary_constraint»))
@@ -110,7 +110,7 @@ module _ (p : Plan) where
     unfoldable pub lifted : ℕ → ℕ → ℕ → Walk
     lifted i latest f =
         elim (ltb f (d .ef i) && leb (d .ef i) latest) [
-          false ↦ At f
+          | false ↦ At f
           | true ↦ via Refused (latestSame (own p i) f) (λ s. elim (leb (d .ef i) s) [ true ↦ At (d .ef i) | false ↦ At f ])
         ]
 

@@ -84,7 +84,7 @@ module _ (p : Plan) where
         via Refused (advance (own p i) (d .es i) n)
         (λ t. via Refused (placeStart (own p i) (kindOf p i) t)
         (λ moved. elim (eqb (d .left i) 0) [
-          true ↦ At moved
+          | true ↦ At moved
           | false ↦ via Refused (advance (own p i) (d .ef i) n) (λ f. retreat (own p i) f (d .left i))
         ]))
 

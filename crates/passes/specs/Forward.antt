@@ -127,7 +127,7 @@ module _ (p : Plan) where
     -- both constraints in turn, then the levelled start; a summary has none
     unfoldable pub held : ℕ → ℕ → Walk
     held i start = elim (summary p i) [
-      true ↦ At start
+      | true ↦ At start
       | false ↦
           via Refused (constrained i (p .activity i .constraint) start)
           (λ s. via Refused (constrained i (p .activity i .«secondary_constraint») s) (levelled i (p .activity i .levelled)))

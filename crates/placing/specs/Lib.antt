@@ -1,2 +1,5 @@
 -- Where an activity's work can begin and end.
 pub mod Placing
+pub mod PlacingLaws
+pub mod PlacingSound
+pub mod DateSound

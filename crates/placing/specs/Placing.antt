@@ -1,7 +1,7 @@
 -- Where an activity's work can begin and end, on its own calendar: 000's placing of starts, finishes, constraints and recorded dates. `w` is the calendar's
 -- worked minutes, `kind` what the activity is, and `left` its minutes of work left.
-use mathlib.Core.Bool.{Bool, true, false, _&&_, _||_}
-use Prim.Native.Nat.{ℕ, _+_, _*_, _/_, max}
+use mathlib.Core.Bool.{Bool, true, false, _&&_}
+use Prim.Native.Nat.{ℕ, _+_, _/_, max}
 use lib.Dec.{eqb, leb}
 use Rattle.date.specs.declared.Date.{Date}
 use Rattle.date.specs.Days.{biased, midnight}
@@ -32,6 +32,27 @@ via refused (Refused k) go = refused k
 unfoldable pub bounded : ℕ → ℕ → Walk
 bounded origin t = elim (leb t (origin + 288000000) && leb origin (t + 288000000)) [ true ↦ At t | false ↦ Refused tooLong ]
 
+-- a start milestone, or a task with no work left
+unfoldable pub isMoment : ActivityKind → ℕ → Bool
+isMoment Task left = eqb left 0
+isMoment StartMilestone left = true
+isMoment FinishMilestone left = false
+
+-- what a search found, or else a minute given
+abbrev pub found : ℕ → Walk → ℕ
+found t (At u) = u
+found t (Refused k) = t
+
+-- a walk's answer as a constraint's time
+abbrev pub momentOf : Walk → Moment
+momentOf (At t) = Moment.At t
+momentOf (Refused k) = Moment.Refused k
+
+-- recorded work from s on, with the finish that a walk found: never before the start
+abbrev pub completed : ℕ → Walk → Actual
+completed s (At f) = Completed s (max f s)
+completed s (Refused k) = Actual.Refused k
+
 module _ (w : ℕ → Bool) where
   -- 000's `place_start`: a finish milestone at the next finish, any other at the next start
   unfoldable pub placeStart : ActivityKind → ℕ → Walk
@@ -46,12 +67,6 @@ module _ (w : ℕ → Bool) where
   -- `start_for_finish`: the earliest start that finishes no earlier than t
   unfoldable pub startForFinish : ℕ → ℕ → Walk
   startForFinish left t = elim (eqb left 0) [ true ↦ At t | false ↦ via Refused (nextFinish w t) (λ f. retreat w f left) ]
-
-  -- a start milestone, or a task with no work left
-  unfoldable pub isMoment : ActivityKind → ℕ → Bool
-  isMoment Task left = eqb left 0
-  isMoment StartMilestone left = true
-  isMoment FinishMilestone left = false
 
   -- `place_finish`: the latest finish at or before t; of a start milestone or a task with no work left, the next start after it where that is not after t
   unfoldable pub placeFinish : ActivityKind → ℕ → ℕ → Walk
@@ -76,16 +91,8 @@ module _ (w : ℕ → Bool) where
   finishForStartBy left t = elim (eqb left 0) [ true ↦ At t | false ↦ via Refused (startBy w t) (λ s. advance w s left) ]
 
   -- the start of a day's first work period, or its midnight where it has none
-  abbrev pub found : ℕ → Walk → ℕ
-  found t (At u) = u
-  found t (Refused k) = t
-
   unfoldable pub dayStart : ℕ → ℕ
   dayStart t = found t (least w 1440 t)
-
-  abbrev pub momentOf : Walk → Moment
-  momentOf (At t) = Moment.At t
-  momentOf (Refused k) = Moment.Refused k
 
   -- `constraint_time`: for a start the start of its day's work, for a finish the last finish by the end of its day
   unfoldable pub constraintTime : End → Moment
@@ -95,10 +102,6 @@ module _ (w : ℕ → Bool) where
 
   -- 000's `actual`: the next start from the recorded start day on (the finish day where only that is given), and the last finish by the end of the
   -- finish day, which is not before that start
-  abbrev pub completed : ℕ → Walk → Actual
-  completed s (At f) = Completed s (max f s)
-  completed s (Refused k) = Actual.Refused k
-
   unfoldable pub actual : OptionalDate → OptionalDate → Actual
   actual Absent Absent = Unstarted
   actual (On d) Absent = via Actual.Refused (nextStart w (midnightOf d)) (λ s. Begun s)

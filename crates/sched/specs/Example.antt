@@ -31,9 +31,11 @@ use Rattle.placing.specs.Placing.{bounded, placeStart, startForFinish, isMoment
 use Rattle.order.specs.Ids.{known, indexFrom, indexOf, parentOf, parentAmong, summary}
 use Rattle.order.specs.Ties.{ignored, tieCalendar, tieTooLong, tieOf, keptBelow, ignoredBelow, endsBelow, isOpen, openBelow}
 use Rattle.order.specs.Lags.{workingCalendar, lagCalendar, lagMinutes, lagBefore, lagTooLong}
-use Rattle.order.specs.Checks.{orElse, firstOf, weekWorks, judgeCalendar, judgeActivity, judgeParent, judgeSummary, judgeLink, judgeOrder, beforeOrdering, checked}
+use Rattle.order.specs.Checks.{orElse, firstOf, judgeCalendar, judgeActivity, judgeParent, judgeSummary, judgeLink, judgeOrder, beforeOrdering, checked}
+use Rattle.calendar.specs.Records.{weeklyHours}
 use Rattle.network.specs.Kahn.{put, joined, meet, release, drain, into, ready, drained, kahn, firstWaiting, waitingBefore, member, upTo, goBack, again, namedLoop}
-use Rattle.network.specs.Outgoing.{having, outgoing, incoming, targets, sources, targetsFrom, sourcesFrom, meetAll, waitingIn}
+use Rattle.network.specs.Outgoing.{outgoing, incoming, targets, sources, targetsFrom, sourcesFrom, meetAll, waitingIn}
+use Rattle.cells.specs.Chain.{keyed}
 use Rattle.network.specs.Parents.{above, climb, stepsBack, loopSteps, upward}
 use Rattle.network.specs.ParentLinks.{toParent, parentLinks, firstOnLoop, parentLoop, stepsOut, depth}
 use Rattle.passes.specs.Plan.{recorded, full}
@@ -110,5 +112,5 @@ pub answered : planned lent example ≡ record {
     work = replicate 3 (pos 0);
   };
 }
-unfolding workday exampleWeek task tasks example lent reads least nextStart greatest previousFinish nextFinish workingAt previousStart startBy forward advance backward retreat shift spanned workFrom between dayWork workedBefore count closing inYears held worked rank select nextIn works bounded placeStart startForFinish isMoment placeFinish finishForStart finishForStartBy dayStart constraintTime actual known indexFrom indexOf parentOf parentAmong summary ignored tieCalendar tieTooLong tieOf keptBelow ignoredBelow endsBelow isOpen openBelow workingCalendar lagCalendar lagMinutes lagBefore lagTooLong orElse firstOf weekWorks judgeCalendar judgeActivity judgeParent judgeSummary judgeLink judgeOrder beforeOrdering checked put joined meet release drain into ready drained kahn firstWaiting waitingBefore member upTo goBack again namedLoop having outgoing incoming targets sources targetsFrom sourcesFrom meetAll waitingIn above climb stepsBack loopSteps upward toParent parentLinks firstOnLoop parentLoop stepsOut depth recorded full through leftOf leftBelow forwardBound raised constrained forward-held minutesFrom placed forward-forward greatestBelow allSummaries finish end overLag linkFinish lowered limited heldLate lifted placedLate backward-backward gap slackBy holdsLate heldStart heldMove freed freeFloat lastOnes drives marked onPath forwardPass backwardPass freePass pathPass run totalOf shown shownBelow summariesAt deepestFirst childrenBelow rolled results finishDay minuteOf rowOf rowsBelow refusedWith accepted planned roomFor outcome isMilestone onStart boundsStart statusOf minZ maxZ clampZ percentOf wholeDays
+unfolding workday exampleWeek task tasks example lent reads least nextStart greatest previousFinish nextFinish workingAt previousStart startBy forward advance backward retreat shift spanned workFrom between dayWork workedBefore count closing inYears held worked rank select nextIn works bounded placeStart startForFinish isMoment placeFinish finishForStart finishForStartBy dayStart constraintTime actual known indexFrom indexOf parentOf parentAmong summary ignored tieCalendar tieTooLong tieOf keptBelow ignoredBelow endsBelow isOpen openBelow workingCalendar lagCalendar lagMinutes lagBefore lagTooLong orElse firstOf weeklyHours judgeCalendar judgeActivity judgeParent judgeSummary judgeLink judgeOrder beforeOrdering checked put joined meet release drain into ready drained kahn firstWaiting waitingBefore member upTo goBack again namedLoop keyed outgoing incoming targets sources targetsFrom sourcesFrom meetAll waitingIn above climb stepsBack loopSteps upward toParent parentLinks firstOnLoop parentLoop stepsOut depth recorded full through leftOf leftBelow forwardBound raised constrained forward-held minutesFrom placed forward-forward greatestBelow allSummaries finish end overLag linkFinish lowered limited heldLate lifted placedLate backward-backward gap slackBy holdsLate heldStart heldMove freed freeFloat lastOnes drives marked onPath forwardPass backwardPass freePass pathPass run totalOf shown shownBelow summariesAt deepestFirst childrenBelow rolled results finishDay minuteOf rowOf rowsBelow refusedWith accepted planned roomFor outcome isMilestone onStart boundsStart statusOf minZ maxZ clampZ percentOf wholeDays
 answered = refl

@@ -21,9 +21,11 @@ use Rattle.placing.specs.Placing.{bounded, placeStart, startForFinish, isMoment
 use Rattle.order.specs.Ids.{known, indexFrom, indexOf, parentOf, parentAmong, summary}
 use Rattle.order.specs.Ties.{ignored, tieCalendar, tieTooLong, tieOf, keptBelow, ignoredBelow, endsBelow, isOpen, openBelow}
 use Rattle.order.specs.Lags.{workingCalendar, lagCalendar, lagMinutes, lagBefore, lagTooLong}
-use Rattle.order.specs.Checks.{orElse, firstOf, weekWorks, judgeCalendar as checks-judgeCalendar, judgeActivity as checks-judgeActivity, judgeParent, judgeSummary, judgeLink as checks-judgeLink, judgeOrder, beforeOrdering, checked}
+use Rattle.order.specs.Checks.{orElse, firstOf, judgeCalendar as checks-judgeCalendar, judgeActivity as checks-judgeActivity, judgeParent, judgeSummary, judgeLink as checks-judgeLink, judgeOrder, beforeOrdering, checked}
+use Rattle.calendar.specs.Records.{weeklyHours}
 use Rattle.network.specs.Kahn.{put, joined, meet, release, drain, into, ready, drained, kahn, firstWaiting, waitingBefore, member, upTo, goBack, again, namedLoop}
-use Rattle.network.specs.Outgoing.{having, outgoing, incoming, targets, sources, targetsFrom, sourcesFrom, meetAll, waitingIn}
+use Rattle.network.specs.Outgoing.{outgoing, incoming, targets, sources, targetsFrom, sourcesFrom, meetAll, waitingIn}
+use Rattle.cells.specs.Chain.{keyed}
 use Rattle.network.specs.Parents.{above, climb, stepsBack, loopSteps, upward}
 use Rattle.network.specs.ParentLinks.{toParent, parentLinks, firstOnLoop, parentLoop, stepsOut, depth}
 use Rattle.passes.specs.Plan.{recorded, full}
@@ -54,5 +56,5 @@ pub answered : outcome exampleSheet lent ≡ record {
     work = replicate 145 (pos 0);
   };
 }
-unfolding exampleSheet lent judged judgeCalendar periodOk weekAfter judgeWeek noWork exceptionAfter judgeException judgeActivity judgeLink run weeksFrom exceptionsFrom activitiesFrom linksFrom calendarsFrom readSheet weekCount exceptionsAt exceptionCount nextCalendar placeAt calendarAt weekAt calendarEnd dayOk dayOrAbsent headerOk calendarOk constraintOk activityOk linkOk optionalDateAt remainingAt activityKindOf constraintOf activityAt relationshipTypeOf lagOf relationshipAt lagCalendarOf floatKindOf progressModeOf criticalByOf projectAt weekPeriods weekOf roundTheClock exceptionsOn hoursOn recordPeriods periodsOf u16At u32At signed32 i32At biasedAt weekOfCalendar exceptionPlace exceptionNumber hoursOfCalendar dayLengthOfCalendar planOf reads least nextStart greatest previousFinish nextFinish workingAt previousStart startBy forward advance backward retreat shift spanned workFrom between dayWork workedBefore count closing inYears held worked rank select nextIn works bounded placeStart startForFinish isMoment placeFinish finishForStart finishForStartBy dayStart constraintTime actual known indexFrom indexOf parentOf parentAmong summary ignored tieCalendar tieTooLong tieOf keptBelow ignoredBelow endsBelow isOpen openBelow workingCalendar lagCalendar lagMinutes lagBefore lagTooLong orElse firstOf weekWorks checks-judgeCalendar checks-judgeActivity judgeParent judgeSummary checks-judgeLink judgeOrder beforeOrdering checked put joined meet release drain into ready drained kahn firstWaiting waitingBefore member upTo goBack again namedLoop having outgoing incoming targets sources targetsFrom sourcesFrom meetAll waitingIn above climb stepsBack loopSteps upward toParent parentLinks firstOnLoop parentLoop stepsOut depth recorded full through leftOf leftBelow forwardBound raised constrained forward-held minutesFrom placed forward-forward greatestBelow allSummaries finish end overLag linkFinish lowered limited heldLate lifted placedLate backward-backward gap slackBy holdsLate heldStart heldMove freed freeFloat lastOnes drives marked onPath forwardPass backwardPass freePass pathPass run-run totalOf shown shownBelow summariesAt deepestFirst childrenBelow rolled results finishDay minuteOf rowOf rowsBelow refusedWith accepted planned roomFor outcome isMilestone onStart boundsStart statusOf minZ maxZ clampZ percentOf wholeDays
+unfolding exampleSheet lent judged judgeCalendar periodOk weekAfter judgeWeek noWork exceptionAfter judgeException judgeActivity judgeLink run weeksFrom exceptionsFrom activitiesFrom linksFrom calendarsFrom readSheet weekCount exceptionsAt exceptionCount nextCalendar placeAt calendarAt weekAt calendarEnd dayOk dayOrAbsent headerOk calendarOk constraintOk activityOk linkOk optionalDateAt remainingAt activityKindOf constraintOf activityAt relationshipTypeOf lagOf relationshipAt lagCalendarOf floatKindOf progressModeOf criticalByOf projectAt weekPeriods weekOf roundTheClock exceptionsOn hoursOn recordPeriods periodsOf u16At u32At signed32 i32At biasedAt weekOfCalendar exceptionPlace exceptionNumber hoursOfCalendar dayLengthOfCalendar planOf reads least nextStart greatest previousFinish nextFinish workingAt previousStart startBy forward advance backward retreat shift spanned workFrom between dayWork workedBefore count closing inYears held worked rank select nextIn works bounded placeStart startForFinish isMoment placeFinish finishForStart finishForStartBy dayStart constraintTime actual known indexFrom indexOf parentOf parentAmong summary ignored tieCalendar tieTooLong tieOf keptBelow ignoredBelow endsBelow isOpen openBelow workingCalendar lagCalendar lagMinutes lagBefore lagTooLong orElse firstOf weeklyHours checks-judgeCalendar checks-judgeActivity judgeParent judgeSummary checks-judgeLink judgeOrder beforeOrdering checked put joined meet release drain into ready drained kahn firstWaiting waitingBefore member upTo goBack again namedLoop keyed outgoing incoming targets sources targetsFrom sourcesFrom meetAll waitingIn above climb stepsBack loopSteps upward toParent parentLinks firstOnLoop parentLoop stepsOut depth recorded full through leftOf leftBelow forwardBound raised constrained forward-held minutesFrom placed forward-forward greatestBelow allSummaries finish end overLag linkFinish lowered limited heldLate lifted placedLate backward-backward gap slackBy holdsLate heldStart heldMove freed freeFloat lastOnes drives marked onPath forwardPass backwardPass freePass pathPass run-run totalOf shown shownBelow summariesAt deepestFirst childrenBelow rolled results finishDay minuteOf rowOf rowsBelow refusedWith accepted planned roomFor outcome isMilestone onStart boundsStart statusOf minZ maxZ clampZ percentOf wholeDays
 answered = refl

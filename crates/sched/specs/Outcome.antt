@@ -92,7 +92,7 @@ ranWith m p (refused k) = refusedWith m k 0 []
 
 unfoldable pub planned : Lent → Plan → Ended
 planned m p = elim (eqb (checked p .number) 0) [
-  true ↦ ranWith m p (run p)
+  | true ↦ ranWith m p (run p)
   | false ↦ refusedWith m (checked p .number) (checked p .id) (checked p .loop)
 ]
 

@@ -1,0 +1,35 @@
+-- The answers of the checks in 01's numbers, and what the memory holds where they are fine.
+use mathlib.Core.Path.{_≡_}
+use Prim.Native.Nat.{ℕ, _<_}
+use Rattle.memory.specs.State.{State}
+use Rattle.memory.specs.Fields.{bucket, nextId, parent, isSummary}
+use Rattle.order.specs.Plan.{Plan}
+use Rattle.order.specs.Checks.{Verdict, refuse, fine}
+use Rattle.ids.specs.declared.Check.{Check}
+use Rattle.ids.specs.declared.Check.the-variants.{Fine, Refused}
+use Rattle.ids.specs.Index.{Indexed}
+use Rattle.ids.specs.Lent.{KeptBut}
+use Rattle.ids.specs.Parented.{Parented}
+
+-- rows 6 to 10: the number and its id
+abbrev pub verdictOf : Check → Verdict
+verdictOf Fine = fine
+verdictOf (Refused number id) = refuse number id
+
+-- r answers v, and a refusal has a row's number
+pub record Answered (r : Check) (v : Verdict) : Type 0 where
+  pub is : verdictOf r ≡ v
+  pub row : (number id : ℕ) → r ≡ Refused number id → 0 < number
+
+-- S became T: but for the fields f and g of activities it is the same, and where the answer is fine H holds of it
+pub record PassedBy (f g : ℕ) (H : State → Type 0) (S T : State) (r : Check) : Type 0 where
+  pub kept : KeptBut f g S T
+  pub holds : r ≡ Fine → H T
+
+-- the index of the first n activities
+abbrev pub IndexedBy : Plan → ℕ → State → State → Check → Type 0
+IndexedBy p n = PassedBy bucket nextId (λ (T : State). Indexed p T n)
+
+-- the parents of the first n activities
+abbrev pub ParentedBy : Plan → ℕ → State → State → Check → Type 0
+ParentedBy p n = PassedBy parent isSummary (λ (T : State). Parented p T n)
