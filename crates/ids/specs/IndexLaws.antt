@@ -121,8 +121,8 @@ module _ (p : Plan) where
             is = λ m z. L .is m z ∙ e;
             missed =
                 λ m a b.
-                    ⊎-elim (λ (u : m < j). other-bucket m (λ z. L .last m a u (z ∙ sym e)))
-                    (λ (u : j ≤ m). ⊎-elim (λ (v : m ≡ j). rw v n) (λ (v : m ≢ j). D .missed m (omega arith) b) (eq-or-ne m j)) (lt-or-le m j);
+                ⊎-elim (λ (u : m < j). other-bucket m (λ z. L .last m a u (z ∙ sym e)))
+                (λ (u : j ≤ m). ⊎-elim (λ (v : m ≡ j). rw v n) (λ (v : m ≢ j). D .missed m (omega arith) b) (eq-or-ne m j)) (lt-or-le m j);
           })
 
     pub down-found : (h : ℕ) → 0 < h → Down h → idOf p (h - 1) ≡ id → foundIn p n id ≡ h - 1
@@ -155,12 +155,12 @@ module _ (p : Plan) where
           record {
             heads =
                 λ b m.
-                    ⊎-elim (λ (e : b ≡ bucketOf p i). rw (e, act-same T bucket (bucketOf p i) (pos (i + 1))) (last-hit (bucketOf p) (bucketOf p i) i refl))
-                    (λ (n : b ≢ bucketOf p i).
-                    rw (act-row T bucket (bucketOf p i) (pos (i + 1)) bucket b n) (last-miss (bucketOf p) b i (S .act bucket b) (λ q. n (sym q)) (I .heads b m)))
-                    (eq-or-ne b (bucketOf p i));
+                ⊎-elim (λ (e : b ≡ bucketOf p i). rw (e, act-same T bucket (bucketOf p i) (pos (i + 1))) (last-hit (bucketOf p) (bucketOf p i) i refl))
+                (λ (n : b ≢ bucketOf p i).
+                rw (act-row T bucket (bucketOf p i) (pos (i + 1)) bucket b n) (last-miss (bucketOf p) b i (S .act bucket b) (λ q. n (sym q)) (I .heads b m)))
+                (eq-or-ne b (bucketOf p i));
             nexts =
                 λ j m.
-                    ⊎-elim (λ (e : j ≡ i). rw (e, act-same S nextId i (pos v)) (I .heads (bucketOf p i) (mod-lt (idOf p i) (omega arith))))
-                    (λ (n : j ≢ i). rw (act-row S nextId i (pos v) nextId j n) (I .nexts j (omega arith))) (eq-or-ne j i);
+                ⊎-elim (λ (e : j ≡ i). rw (e, act-same S nextId i (pos v)) (I .heads (bucketOf p i) (mod-lt (idOf p i) (omega arith))))
+                (λ (n : j ≢ i). rw (act-row S nextId i (pos v) nextId j n) (I .nexts j (omega arith))) (eq-or-ne j i);
           }

@@ -60,8 +60,8 @@ module _ (p : Plan) where
             (record {
               parents =
                   λ j l.
-                      ⊎-elim (λ (h : j ≡ i). rw (h, act-same S parent i (pos 0)) (sym q))
-                      (λ (h : j ≢ i). act-row S parent i (pos 0) parent j h ∙ P .parents j (omega arith)) (eq-or-ne j i);
+                  ⊎-elim (λ (h : j ≡ i). rw (h, act-same S parent i (pos 0)) (sym q))
+                  (λ (h : j ≢ i). act-row S parent i (pos 0) parent j h ∙ P .parents j (omega arith)) (eq-or-ne j i);
               marks = λ j l. P .marks j l ∙ ap bit (sym (among-other p i j (λ h. omega arith)));
             })
 
@@ -100,12 +100,12 @@ module _ (p : Plan) where
                 (record {
                   parents =
                       λ m b.
-                          ⊎-elim (λ (h : m ≡ i). rw (h, act-same S parent i (pos (j + 1))) (add-one j ∙ sym above))
-                          (λ (h : m ≢ i). act-row S parent i (pos (j + 1)) parent m h ∙ P .parents m (omega arith)) (eq-or-ne m i);
+                      ⊎-elim (λ (h : m ≡ i). rw (h, act-same S parent i (pos (j + 1))) (add-one j ∙ sym above))
+                      (λ (h : m ≢ i). act-row S parent i (pos (j + 1)) parent m h ∙ P .parents m (omega arith)) (eq-or-ne m i);
                   marks =
                       λ m b.
-                          ⊎-elim (λ (h : m ≡ j). rw (h, act-same W isSummary j (pos 1)) (ap bit (sym (among-child p i j above))))
-                          (λ (h : m ≢ j).
-                          act-row W isSummary j (pos 1) isSummary m h ∙ P .marks m b ∙ ap bit (sym (among-other p i m (λ k. h (omega (arith, above))))))
-                          (eq-or-ne m j);
+                      ⊎-elim (λ (h : m ≡ j). rw (h, act-same W isSummary j (pos 1)) (ap bit (sym (among-child p i j above))))
+                      (λ (h : m ≢ j).
+                      act-row W isSummary j (pos 1) isSummary m h ∙ P .marks m b ∙ ap bit (sym (among-other p i m (λ k. h (omega (arith, above))))))
+                      (eq-or-ne m j);
                 })

@@ -40,7 +40,7 @@ module _ (f g : ℕ) (H : State → ℕ → Type 0) (judge : ℕ → Verdict) (n
         pub passing-stop : (number id : ℕ) → r ≡ Refused number id → Whole S U (Refused number id)
         passing-stop number id e = (
           subst (λ (s : Check). Answered s (firstOf judge n 0)) e
-          (subst (Answered r) (sym (first-stops judge n i l (refused-number A number id e)) ∙ X .judged) A),
+              (subst (Answered r) (sym (first-stops judge n i l (refused-number A number id e)) ∙ X .judged) A),
           record { kept = kept-then f g (X .kept) (B .kept); holds = λ q. not-refused q },
         )
 

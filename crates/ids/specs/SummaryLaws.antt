@@ -72,10 +72,10 @@ module _ (p : Plan) where
             is = ap (λ (k : ℕ). summaryVerdict p (Loop i k)) steps-are ∙ sym (summary-loop p i (sym m ∙ task) (λ z. omega (arith, steps-are)));
             loop =
                 λ j k q.
-                    let a : i ≡ j = cc in
-                    let b : steps ≡ k = cc in
-                    subst (λ (x : ℕ). LoopFrom p x k) a
-                    (subst (λ (y : ℕ). LoopFrom p i y) b (record { below = l; some = some; within = within; least = steps-are }));
+                let a : i ≡ j = cc in
+                let b : steps ≡ k = cc in
+                subst (λ (x : ℕ). LoopFrom p x k) a
+                (subst (λ (y : ℕ). LoopFrom p i y) b (record { below = l; some = some; within = within; least = steps-are }));
           }
 
           pub answered-free : steps ≡ 0 → SummaryAnswered p Fine (judgeSummary p i)

@@ -23,8 +23,11 @@ pub mod fields;
 
 // The fields of an activity's row of the lent memory.
 const BUCKET: usize = 0;
+
 const NEXT_ID: usize = 1;
+
 const PARENT: usize = 2;
+
 const IS_SUMMARY: usize = 3;
 
 // The answer of a check of rows 6 to 10: fine, or the row's number and its id.

@@ -44,8 +44,8 @@ returns c =
     let g = c .before .check .given in
     let o = c .before .before .before .before .index-one in
     let a =
-        passing-stop bucket nextId (Indexed p) (judgeActivity p) (x .contents .activities) S (stateIn (x .contents) (L .work)) (L .i) (L .inv .1)
-        (omega arith) _ _ (o .ensures .0) (o .ensures .1) (g .0 .0) (g .0 .1 .0) (g .1) in
+    passing-stop bucket nextId (Indexed p) (judgeActivity p) (x .contents .activities) S (stateIn (x .contents) (L .work)) (L .i) (L .inv .1)
+    (omega arith) _ _ (o .ensures .0) (o .ensures .1) (g .0 .0) (g .0 .1 .0) (g .1) in
     (a .0, a .1, omega arith)
 
 enum-told : tie.Need-enum-told Inv-loop μ-loop
@@ -63,11 +63,10 @@ loop-again c =
     let p = planOf (x .sheet .now) (x .contents) in
     let S = stateIn (x .contents) (x .work .now) in
     let L = c .before .before .before .before .before .before .loop in
-    let o = c .before .before .before .index-one in
-    (
+    let o = c .before .before .before .index-one in (
       omega arith,
       passing-turn bucket nextId (Indexed p) (judgeActivity p) (x .contents .activities) S (stateIn (x .contents) (L .work)) (L .i) (L .inv .1)
-      (omega arith) _ _ (o .ensures .0) (o .ensures .1) (c .enum-told .given .1),
+          (omega arith) _ _ (o .ensures .0) (o .ensures .1) (c .enum-told .given .1),
     )
 
 same-length-2 : tie.Need-same-length-2 Inv-loop μ-loop

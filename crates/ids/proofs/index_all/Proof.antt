@@ -32,8 +32,7 @@ returns c =
     let x = c .before .before .before .before .before .before .before .args in
     let p = planOf (x .sheet .now) (x .contents) in
     let S = stateIn (x .contents) (x .work .now) in
-    let o = c .before .index-activities .ensures in
-    (
+    let o = c .before .index-activities .ensures in (
       o .0,
       passed-from bucket nextId (λ (T : State). Indexed p T (x .contents .activities)) (emptied-kept p S _ (c .before .before .before .before .fill-act .ensures .0)) (o .1),
       omega arith,

@@ -27,8 +27,8 @@ returns c =
     let p = planOf (x .sheet .now) (x .contents) in
     let g = c .before .check .given in
     let a =
-        step-refused bucket nextId (λ (T : State). Indexed p T (x .i + 1)) (stateIn (x .contents) (x .work .now)) _ (c .before .before .before .judge-activity .ensures)
-        (g .0 .0) (g .0 .1 .0) (g .1) in
+    step-refused bucket nextId (λ (T : State). Indexed p T (x .i + 1)) (stateIn (x .contents) (x .work .now)) _ (c .before .before .before .judge-activity .ensures)
+    (g .0 .0) (g .0 .1 .0) (g .1) in
     (a .0, a .1, omega arith)
 
 enum-told : tie.Need-enum-told
@@ -48,8 +48,8 @@ returns-2 c =
     let S = stateIn (x .contents) (x .work .now) in
     let e = c .before .insert .ensures .0 in
     let a =
-        step-fine bucket nextId (λ (T : State). Indexed p T (x .i + 1)) S _ _ (c .before .before .before .before .before .judge-activity .ensures) (c .before .before .before .enum-told .given .1)
-        (inserted-kept p S _ (x .i) e) (inserted p S _ (x .i) e (omega arith) (c .before .before .before .before .before .before .before .before .pre .2)) in
+    step-fine bucket nextId (λ (T : State). Indexed p T (x .i + 1)) S _ _ (c .before .before .before .before .before .judge-activity .ensures) (c .before .before .before .enum-told .given .1)
+    (inserted-kept p S _ (x .i) e) (inserted p S _ (x .i) e (omega arith) (c .before .before .before .before .before .before .before .before .pre .2)) in
     (a .0, a .1, omega arith)
 
 pub index-one-spec : {M : Type 1} → statement M

@@ -33,10 +33,9 @@ same-length c = search needs
 returns : tie.Need-returns
 unfolding planOf
 returns c =
-    let x = c .before .before .before .before .before .before .before .before .before .before .args in
-    (
+    let x = c .before .before .before .before .before .before .before .before .before .before .args in (
       index-put (planOf (x .sheet .now) (x .contents)) (stateIn (x .contents) (x .work .now)) (x .i) _ _ _ _
-      (c .before .before .before .before .before .before .before .before .id-of .ensures .0) (c .before .before .before .before .before .before .get-act .ensures .0) (c .before .before .before .before .put-act .ensures .0) (c .before .put-act2 .ensures .0),
+          (c .before .before .before .before .before .before .before .before .id-of .ensures .0) (c .before .before .before .before .before .before .get-act .ensures .0) (c .before .before .before .before .put-act .ensures .0) (c .before .put-act2 .ensures .0),
       omega arith,
     )
 

@@ -30,8 +30,7 @@ loop-holds c =
 parent-one-requires : tie.Need-parent-one-requires Inv-loop μ-loop
 parent-one-requires c κs =
     let x = c .before .before .before .before .args in
-    let X = c .before .before .loop .inv .1 in
-    (
+    let X = c .before .before .loop .inv .1 in (
       record { read = c .before .before .before .before .pre .0 .read; room = omega arith },
       omega arith,
       c .before .before .before .before .pre .1,
@@ -54,8 +53,8 @@ returns c =
     let g = c .before .check .given in
     let o = c .before .before .before .before .parent-one in
     let a =
-        passing-stop parent isSummary (Parented p) (judgeParent p) (x .contents .activities) S (stateIn (x .contents) (L .work)) (L .i) (L .inv .1)
-        (omega arith) _ _ (o .ensures .0) (o .ensures .1) (g .0 .0) (g .0 .1 .0) (g .1) in
+    passing-stop parent isSummary (Parented p) (judgeParent p) (x .contents .activities) S (stateIn (x .contents) (L .work)) (L .i) (L .inv .1)
+    (omega arith) _ _ (o .ensures .0) (o .ensures .1) (g .0 .0) (g .0 .1 .0) (g .1) in
     (a .0, a .1, omega arith)
 
 enum-told : tie.Need-enum-told Inv-loop μ-loop
@@ -73,11 +72,10 @@ loop-again c =
     let p = planOf (x .sheet .now) (x .contents) in
     let S = stateIn (x .contents) (x .work .now) in
     let L = c .before .before .before .before .before .before .loop in
-    let o = c .before .before .before .parent-one in
-    (
+    let o = c .before .before .before .parent-one in (
       omega arith,
       passing-turn parent isSummary (Parented p) (judgeParent p) (x .contents .activities) S (stateIn (x .contents) (L .work)) (L .i) (L .inv .1)
-      (omega arith) _ _ (o .ensures .0) (o .ensures .1) (c .enum-told .given .1),
+          (omega arith) _ _ (o .ensures .0) (o .ensures .1) (c .enum-told .given .1),
     )
 
 same-length-2 : tie.Need-same-length-2 Inv-loop μ-loop

@@ -30,8 +30,7 @@ returns c =
     let P = c .before .before .before .before .before .before .pre .4 in
     let d = c .before .before .before .before .parent-of .ensures .0 in
     let z = c .before .before .before .if1 .taken in
-    let e = c .before .put-act .ensures .0 in
-    (
+    let e = c .before .put-act .ensures .0 in (
       answered-fine (top-fine p S (x .i) P _ d z),
       record { kept = top-kept p S (x .i) P _ d z _ e; holds = λ q. top-parented p S (x .i) P _ d z _ e },
       omega arith,
@@ -54,8 +53,7 @@ returns-2 c =
     let S = stateIn (x .contents) (x .work .now) in
     let P = c .before .before .before .before .before .before .before .pre .4 in
     let d = c .before .before .before .before .before .parent-of .ensures .0 in
-    let z = c .before .before .before .before .if1 .left in
-    (
+    let z = c .before .before .before .before .if1 .left in (
       answered-refused 10 _ (omega arith) (ap (refuse 10) (c .id-of .ensures .0) ∙ unknown-refused p S (x .i) P _ d z _ (c .before .before .find .ensures .0) (c .before .if2 .taken)),
       record { kept = kept-refl parent isSummary S; holds = λ q. not-refused q },
       omega arith,
@@ -86,8 +84,7 @@ returns-3 c =
     let l : c .before .before .before .before .before .before .before .find .result < p .activities = omega (arith, c .before .before .before .before .before .before .if2 .left, c .before .before .before .before .before .before .before .find .ensures .1) in
     let D = c .before .before .before .before .before .before .before .before .before .before .before .before .pre .2 in
     let t = c .before .before .before .before .put-act2 .ensures .0 in
-    let u = c .before .put-act3 .ensures .0 in
-    (
+    let u = c .before .put-act3 .ensures .0 in (
       answered-fine (known-fine p S (x .i) P _ d z _ f l),
       record { kept = known-kept p S (x .i) P _ d z _ f l D _ _ t u; holds = λ q. known-parented p S (x .i) P _ d z _ f l D _ _ t u },
       omega arith,

@@ -20,8 +20,7 @@ parent-activities-requires c κs =
     let x = c .before .before .before .before .before .args in
     let p = planOf (x .sheet .now) (x .contents) in
     let S = stateIn (x .contents) (x .work .now) in
-    let e = c .before .before .fill-act .ensures .0 in
-    (
+    let e = c .before .before .fill-act .ensures .0 in (
       record { read = c .before .before .before .before .before .pre .0 .read; room = omega arith },
       c .before .before .before .before .before .pre .1,
       indexed-kept p (unmarked-kept p S _ e) (c .before .before .before .before .before .pre .2),
@@ -37,8 +36,7 @@ returns c =
     let x = c .before .before .before .before .before .before .before .args in
     let p = planOf (x .sheet .now) (x .contents) in
     let S = stateIn (x .contents) (x .work .now) in
-    let o = c .before .parent-activities .ensures in
-    (
+    let o = c .before .parent-activities .ensures in (
       o .0,
       passed-from parent isSummary (λ (T : State). Parented p T (x .contents .activities)) (unmarked-kept p S _ (c .before .before .before .before .fill-act .ensures .0)) (o .1),
       omega arith,
