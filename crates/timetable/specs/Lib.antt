@@ -11,3 +11,4 @@ pub mod HeldLaws
 pub mod Demand
 pub mod AnswerLaws
 pub mod CalendarAnswers
+pub mod SheetPlan
