@@ -65,7 +65,7 @@ module _ (p : Plan) (d : Early) where
   abbrev late : ℕ → Bool
   late i = isLate (p .activity i .constraint) || isLate (p .activity i .«secondary_constraint»)
 
-  completed-begun : (i : ℕ) (x y : Walk) (l : Bool) → (notBegun p d (via Actual.Refused x (λ s. completed (own p i) s y)) && l) ≡ false
+  completed-begun : (i : ℕ) (x y : Walk) (l : Bool) → (notBegun p d (via Actual.Refused x (λ s. completed s y)) && l) ≡ false
   completed-begun i (At t) (At u) l = refl
   completed-begun i (At t) (Refused k) l = refl
   completed-begun i (Refused k) y l = refl

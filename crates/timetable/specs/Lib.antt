@@ -10,3 +10,5 @@ pub mod Earliest
 pub mod HeldLaws
 pub mod Demand
 pub mod AnswerLaws
+pub mod CalendarAnswers
+pub mod SheetPlan

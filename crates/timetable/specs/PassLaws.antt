@@ -10,8 +10,9 @@ use lib.ListN.{length, getD}
 use borrow.Author.Tests.{eq-eqb, eqb-true}
 use Rattle.number.specs.Order.{lt-or-le, eq-or-ne}
 use Rattle.worktime.specs.declared.Walk.the-variants.{At}
+use Rattle.cells.specs.Chain.{keyed}
 use Rattle.network.specs.Links.{Link, noLink, Linked}
-use Rattle.network.specs.Outgoing.{having, toAt, incoming}
+use Rattle.network.specs.Outgoing.{toAt, incoming}
 use Rattle.placing.specs.declared.Actual.the-variants.{Unstarted}
 use Rattle.placing.specs.Placing.{via}
 use Rattle.order.specs.Plan.{Plan}
@@ -65,19 +66,19 @@ module _ (P : ℕ → Type 0) (key : ℕ → ℕ) (v : ℕ) where
   each-pick true k ks r = (λ e. r .0, r .1)
   each-pick false k ks r = (λ e. absurd (true≢false (sym e)), r)
 
-  pub having-each : (n k : ℕ) → ((j : ℕ) → k ≤ j → j < n + k → key j ≡ v → P j) → Each P (having key v n k)
-  unfolding having
-  having-each zero k h = tt
-  having-each (suc n) k h =
-      pick-each (eqb (key k) v) k (having key v n (k + 1)) (λ e. h k (omega arith) (omega arith) (eqb-true _ _ e))
-      (having-each n (k + 1) (λ j a b e. h j (omega arith) (omega arith) e))
+  pub keyed-each : (n k : ℕ) → ((j : ℕ) → k ≤ j → j < n + k → key j ≡ v → P j) → Each P (keyed key v n k)
+  unfolding keyed
+  keyed-each zero k h = tt
+  keyed-each (suc n) k h =
+      pick-each (eqb (key k) v) k (keyed key v n (k + 1)) (λ e. h k (omega arith) (omega arith) (eqb-true _ _ e))
+      (keyed-each n (k + 1) (λ j a b e. h j (omega arith) (omega arith) e))
 
-  pub each-having : (n k : ℕ) → Each P (having key v n k) → (j : ℕ) → k ≤ j → j < n + k → key j ≡ v → P j
-  unfolding having
-  each-having zero k r j a b e = absurd (omega arith)
-  each-having (suc n) k r j a b e =
-      let q = each-pick (eqb (key k) v) k (having key v n (k + 1)) r in
-      ⊎-elim (λ z. rw z (q .0 (eq-eqb (key k) v (ap key (sym z) ∙ e)))) (λ z. each-having n (k + 1) (q .1) j (omega arith) (omega arith) e)
+  pub each-keyed : (n k : ℕ) → Each P (keyed key v n k) → (j : ℕ) → k ≤ j → j < n + k → key j ≡ v → P j
+  unfolding keyed
+  each-keyed zero k r j a b e = absurd (omega arith)
+  each-keyed (suc n) k r j a b e =
+      let q = each-pick (eqb (key k) v) k (keyed key v n (k + 1)) r in
+      ⊎-elim (λ z. rw z (q .0 (eq-eqb (key k) v (ap key (sym z) ∙ e)))) (λ z. each-keyed n (k + 1) (q .1) j (omega arith) (omega arith) e)
       (eq-or-ne j k)
 
 or-none : (a b : Bool) → (a || b) ≡ false → (a ≡ false) × (b ≡ false)
@@ -106,13 +107,13 @@ module _ (p : Plan) where
     pub into-each : ((t : ℕ) → t < kept → tie p t .to ≡ i → P t) → Each P (tiesInto p i)
     unfolding incoming
     into-each h =
-        having-each P (toAt (keptLinks p)) i (length (keptLinks p)) 0
+        keyed-each P (toAt (keptLinks p)) i (length (keptLinks p)) 0
         (λ t a b e. let l : t < kept = omega (arith, ends-length p (p .links)) in h t l (sym (tie-ends t l .1) ∙ e))
 
     pub each-into : Each P (tiesInto p i) → (t : ℕ) → t < kept → tie p t .to ≡ i → P t
     unfolding incoming
     each-into r t l e =
-        each-having P (toAt (keptLinks p)) i (length (keptLinks p)) 0 r t (omega arith) (omega (arith, ends-length p (p .links)))
+        each-keyed P (toAt (keptLinks p)) i (length (keptLinks p)) 0 r t (omega arith) (omega (arith, ends-length p (p .links)))
         (tie-ends t l .1 ∙ e)
 
   -- ---- the work left

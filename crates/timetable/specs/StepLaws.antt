@@ -80,8 +80,8 @@ module _ (p : Plan) where
       done : (s f : ℕ) → actual (own p i) x y ≡ Completed s f → CompletedAt p i x y s f ⊥ → d′ ≡ early p d i s f (d .left i) → Sort x y
 
     completed-walks : (a b : Date) (x y : Walk) → nextStart (own p i) (midnightOf a) ≡ x → previousFinish (own p i) (evening (midnightOf b)) ≡ y
-        → forwardBy p d i (via Actual.Refused x (λ s. completed (own p i) s y)) ≡ leaves d′
-        → (s : ℕ) × (f : ℕ) × (via Actual.Refused x (λ s. completed (own p i) s y) ≡ Completed s f) × Recorded (own p i) a b s f
+        → forwardBy p d i (via Actual.Refused x (λ s. completed s y)) ≡ leaves d′
+        → (s : ℕ) × (f : ℕ) × (via Actual.Refused x (λ s. completed s y) ≡ Completed s f) × Recorded (own p i) a b s f
         × (d′ ≡ early p d i s f (d .left i))
     completed-walks a b (At t) (At u) q r e = (
       t,

@@ -87,11 +87,11 @@ module _ (w : ℕ → Bool) where
       record { may = next-finish-may n; after = next-finish-after w n; least = λ v m l. next-finish-mono w l n (next-finish-still v m) }
 
   -- ---- the time of a constraint
-  moment-at : (x : Walk) {t : ℕ} → momentOf w x ≡ Moment.At t → x ≡ At t
+  moment-at : (x : Walk) {t : ℕ} → momentOf x ≡ Moment.At t → x ≡ At t
   moment-at (At u) e = cc
   moment-at (Refused k) e = let z : _≡_ {A = ℕ} 0 1 = cc in absurd (omega arith)
 
-  some-time : (x : Walk) → momentOf w x ≡ Nowhere → ⊥
+  some-time : (x : Walk) → momentOf x ≡ Nowhere → ⊥
   some-time (At u) e = let z : _≡_ {A = ℕ} 0 1 = cc in omega arith
   some-time (Refused k) e = let z : _≡_ {A = ℕ} 0 1 = cc in omega arith
 
