@@ -2,14 +2,11 @@
 use mathlib.Core.Path.{_≡_}
 use mathlib.Core.Bool.{Bool, true, false}
 use Prim.Native.Nat.{ℕ, _<_}
+use Rattle.number.specs.Bit.{bit}
 use Rattle.memory.specs.State.{State}
 use Rattle.memory.specs.Fields.{parent, isSummary}
 use Rattle.order.specs.Plan.{Plan}
 use Rattle.order.specs.Ids.{parentOf, parentAmong}
-
-abbrev pub bit : Bool → ℕ
-bit true = 1
-bit false = 0
 
 -- the memory has the parents of the first n activities, and marks those that are above one of them
 pub record Parented (p : Plan) (S : State) (n : ℕ) : Type 0 where

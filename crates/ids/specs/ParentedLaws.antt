@@ -20,7 +20,8 @@ use Rattle.ids.specs.Index.{Last, bucketOf, Indexed, foundIn}
 use Rattle.ids.specs.IndexLaws.{found-known, found-unknown, found-index}
 use Rattle.ids.specs.Lent.{KeptBut}
 use Rattle.ids.specs.LentLaws.{kept-then, kept-first, kept-second, kept-fill-second}
-use Rattle.ids.specs.Parented.{bit, Parented}
+use Rattle.number.specs.Bit.{bit}
+use Rattle.ids.specs.Parented.{Parented}
 
 module _ (p : Plan) where
   -- the index stays

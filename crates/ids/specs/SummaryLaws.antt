@@ -22,7 +22,8 @@ use Rattle.ids.specs.declared.SummaryCheck.{SummaryCheck}
 use Rattle.ids.specs.declared.SummaryCheck.the-variants.{Fine, Milestone, Loop}
 use Rattle.ids.specs.Answers.{Answered}
 use Rattle.ids.specs.AnswerLaws.{fine-number}
-use Rattle.ids.specs.Parented.{bit, Parented}
+use Rattle.number.specs.Bit.{bit}
+use Rattle.ids.specs.Parented.{Parented}
 use Rattle.ids.specs.Summaries.{summaryVerdict, LoopFrom, SummaryAnswered}
 use Rattle.ids.specs.ClimbSteps.{loop-steps-same}
 
