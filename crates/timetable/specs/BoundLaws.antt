@@ -35,7 +35,7 @@ use Rattle.passes.specs.Dates.{Early}
 use Rattle.passes.specs.Forward.{sourceOf, forwardBound, startFor, linkBound, linkStart, raised, onTime, constrained, levelled, held}
 use Rattle.timetable.specs.Rules.{IsShift, MayStart, FinishBound, Bounds, FinishDate, Meets, MeetsLevelled}
 use Rattle.timetable.specs.Fit.{Mild}
-use Rattle.timetable.specs.WalkLaws.{via-at, bounded-at, shift-sound, shift-unique, start-time, finish-time, start-somewhere, finish-somewhere, start-for-moment, start-for-work}
+use Rattle.timetable.specs.WalkLaws.{via-answers, bounded-at, shift-sound, shift-unique, start-time, finish-time, start-somewhere, finish-somewhere, start-for-moment, start-for-work}
 
 -- work of a kind may start at v, and n minutes of it end at g; a finish milestone has none
 pub record Starts (w : ℕ → Bool) (kind : ActivityKind) (n v g : ℕ) : Type 0 where
@@ -102,8 +102,8 @@ module _ (p : Plan) where
           let k = tie p t in
           let es = begun p (recorded p (k .from)) (d .es (k .from)) in
           let ef = d .ef (k .from) in
-          let a = via-at (linkBound p d t) (startFor p i (d .left i) (k .kind)) x e in
-          let b = via-at (shift (lagOwn p k) (sourceOf p (k .kind) es ef) (k .lag)) (bounded (origin p)) (a .0) (a .1) in
+          let a = via-answers (linkBound p d t) (startFor p i (d .left i) (k .kind)) x e in
+          let b = via-answers (shift (lagOwn p k) (sourceOf p (k .kind) es ef) (k .lag)) (bounded (origin p)) (a .0) (a .1) in
           let z : a .0 ≡ b .0 = bounded-at (origin p) (b .0) (b .2) in
           let s = shift-sound (lagOwn p k) (sourceOf p (k .kind) es ef) (b .0) (k .lag) (b .1) in
           let r = start-bound i (d .left i) (a .0) (k .kind) c (a .2) in (
@@ -115,7 +115,7 @@ module _ (p : Plan) where
       unfolding raised
       raised-bound [] a b e = let z : a ≡ b = cc in (λ h. omega arith, λ l. (omega arith, tt))
       raised-bound (t ∷ ts) a b e =
-          let r = via-at (linkStart p d i t) (λ s. raised p d i ts (max a s)) b e in
+          let r = via-answers (linkStart p d i t) (λ s. raised p d i ts (max a s)) b e in
           let k = link-bound t (r .1) in
           let q = raised-bound ts (max a (r .0)) b (r .2) in (
             λ h. let l = k .0 (h .1 .0) in let m = h .0 in q .0 (omega arith, h .1 .1),
@@ -126,7 +126,7 @@ module _ (p : Plan) where
       on-time : (m : Moment) (x : Walk) (go : ℕ → Walk) {b : ℕ} → onTime p d m x go ≡ At b
           → ((t : ℕ) × (m ≡ Moment.At t) × (go t ≡ At b)) ⊎ ((m ≡ Nowhere) × (x ≡ At b))
       on-time (Moment.At t) x go {b} e =
-          let r = via-at (bounded (origin p) t) go b e in
+          let r = via-answers (bounded (origin p) t) go b e in
           let z : r .0 ≡ t = bounded-at (origin p) t (r .1) in
           inl (t, refl, ap go (sym z) ∙ r .2)
       on-time Nowhere x go e = inr (refl, e)
@@ -156,7 +156,7 @@ module _ (p : Plan) where
           → ((a ≤ v) × FinishDate p i x g) ↔ (b ≤ v)
       finish-date x a {b} e =
           let q = on-finish x (At a) (λ t. via Refused (startForFinish (own p i) (d .left i) t) (λ s. At (max a s))) e in
-          let r = via-at (startForFinish (own p i) (d .left i) (q .0)) (λ s. At (max a s)) b (q .2) in
+          let r = via-answers (startForFinish (own p i) (d .left i) (q .0)) (λ s. At (max a s)) b (q .2) in
           let f : max a (r .0) ≡ b = (let y = r .2 in cc) in
           let k = finish-bound (own p i) (kindOf p i) (d .left i) (q .0) c (r .1) in (
             λ h.
@@ -195,8 +195,8 @@ module _ (p : Plan) where
           let x = p .activity i .levelled in
           let rest : ℕ → Walk = λ s. via Refused (constrained p d i k₂ s) (levelled p d i x) in
           let e₀ = sym (on-false (summary p i) (At a) (via Refused (constrained p d i k₁ a) rest) z) ∙ e in
-          let r₁ = via-at (constrained p d i k₁ a) rest b e₀ in
-          let r₂ = via-at (constrained p d i k₂ (r₁ .0)) (levelled p d i x) b (r₁ .2) in
+          let r₁ = via-answers (constrained p d i k₁ a) rest b e₀ in
+          let r₂ = via-answers (constrained p d i k₂ (r₁ .0)) (levelled p d i x) b (r₁ .2) in
           let q₁ = constrained-bound k₁ m₁ a (r₁ .1) in
           let q₂ = constrained-bound k₂ m₂ (r₁ .0) (r₂ .1) in
           let q₃ = levelled-bound x (r₂ .0) (r₂ .2) in (

@@ -1,22 +1,20 @@
 -- What the answer of several walks says of each of them, and where an activity's start is placed.
-use mathlib.Core.Path.{_≡_, refl, sym, ap, _∙_}
-use mathlib.Core.Bool.{Bool, true, false, _&&_}
-use mathlib.Core.Logic.{_⊎_, inl, inr, ⊎-elim}
+use mathlib.Core.Path.{_≡_, refl, sym, _∙_}
+use mathlib.Core.Bool.{Bool}
+use mathlib.Core.Logic.{inl, inr, ⊎-elim}
 use Prim.Native.Nat.{ℕ, _+_, _/_, _≤_, _<_}
 use native.Mathlib.Omega.{arith}
-use lib.Dec.{eqb, leb}
 use lib.IntN.{ℤ, pos, negsuc}
-use borrow.Author.Tests.{eq-eqb, ne-eqb}
 use Rattle.number.specs.Order.{cases}
 use Rattle.date.specs.declared.Date.{Date}
 use Rattle.date.specs.Years.{inYears}
 use Rattle.worktime.specs.declared.Walk.{Walk}
 use Rattle.worktime.specs.declared.Walk.the-variants.{At, Refused}
-use Rattle.worktime.specs.Walks.{reads, tooLong, previousFinish, nextFinish, retreat, shift}
-use Rattle.worktime.specs.Worked.{closing, IsNextFinish, IsPreviousFinish, IsRetreat}
-use Rattle.worktime.specs.Relations.{next-start-here, next-finish-here, next-finish-later, next-finish-mono, next-finish-after, advance-unique, advance-mono, retreat-unique, retreat-mono}
-use Rattle.worktime.specs.Reads.{at-or-refused, on-true, on-false, reads-in, reads-out}
-use Rattle.worktime.specs.Answers.{next-start-sound, next-finish-sound, previous-finish-sound}
+use Rattle.worktime.specs.Walks.{reads, previousFinish, shift}
+use Rattle.worktime.specs.Worked.{IsNextFinish, IsPreviousFinish, IsRetreat}
+use Rattle.worktime.specs.Relations.{advance-unique, advance-mono, retreat-unique, retreat-mono}
+use Rattle.worktime.specs.Reads.{at-or-refused, reads-in, reads-out}
+use Rattle.worktime.specs.Answers.{previous-finish-sound}
 use Rattle.worktime.specs.Shift.{advance-sound, retreat-sound, shift-forward, shift-back}
 use Rattle.project.specs.declared.ActivityKind.{ActivityKind}
 use Rattle.project.specs.declared.ActivityKind.the-variants.{Task, StartMilestone, FinishMilestone}
@@ -24,26 +22,22 @@ use Rattle.project.specs.declared.End.the-variants.{Start, Finish}
 use Rattle.placing.specs.declared.Moment.{Moment}
 use Rattle.placing.specs.declared.Moment.the-variants.{Nowhere}
 use Rattle.placing.specs.Placing.{via, bounded, midnightOf, placeStart, startForFinish, dayStart, momentOf, constraintTime}
+use Rattle.placing.specs.PlacingSound as sound
 use Rattle.passes.specs.Plan.{evening}
 use Rattle.passes.specs.Dates.{Pass, leaves, refused}
 use Rattle.timetable.specs.Rules.{IsShift, MayStart}
 
 -- ---- one after the other
-pub via-at : (x : Walk) (go : ℕ → Walk) (v : ℕ) → via Refused x go ≡ At v → (u : ℕ) × (x ≡ At u) × (go u ≡ At v)
-via-at (At u) go v e = (u, refl, e)
-via-at (Refused k) go v e = absurd (at-or-refused e refl)
+pub via-answers : (x : Walk) (go : ℕ → Walk) (v : ℕ) → via Refused x go ≡ At v → (u : ℕ) × (x ≡ At u) × (go u ≡ At v)
+via-answers (At u) go v e = (u, refl, e)
+via-answers (Refused k) go v e = absurd (at-or-refused e refl)
 
 pub via-leaves : {A : Type 0} (x : Walk) (go : ℕ → Pass A) (d : A) → via refused x go ≡ leaves d → (u : ℕ) × (x ≡ At u) × (go u ≡ leaves d)
 via-leaves (At u) go d e = (u, refl, e)
 via-leaves (Refused k) go d e = let z : _≡_ {A = ℕ} 0 1 = cc in absurd (omega arith)
 
 pub bounded-at : (o t : ℕ) {u : ℕ} → bounded o t ≡ At u → u ≡ t
-unfolding bounded
-bounded-at o t {u} e = by (leb t (o + 288000000) && leb o (t + 288000000)) e
-  where
-    by : (b : Bool) → elim b [ true ↦ At t | false ↦ Refused tooLong ] ≡ At u → u ≡ t
-    by true e = cc
-    by false e = absurd (at-or-refused e refl)
+bounded-at o t {u} e = sound.bounded-sound o t u e .0
 
 pub reads-at : (d t : ℕ) {u : ℕ} → reads Refused d (At t) ≡ At u → u ≡ t
 reads-at d t {u} e =
@@ -69,22 +63,20 @@ module _ (w : ℕ → Bool) where
     pub after : t ≤ s
     pub least : (v : ℕ) → MayStart w kind v → t ≤ v → s ≤ v
 
-  next-finish-still : (v : ℕ) → (w v ≡ true) ⊎ (closing w v ≡ true) → IsNextFinish w v v
-  next-finish-still v m =
-      ⊎-elim (λ h. ⊎-elim (λ c. next-finish-here w c) (λ c. next-finish-later w c (next-start-here w h)) (cases (closing w v)))
-      (λ c. next-finish-here w c) m
+  may-of : (kind : ActivityKind) (v : ℕ) → sound.MayStart w kind v → MayStart w kind v
+  may-of Task v m = ⊎-elim (λ h. h) (λ q. sound.clash (let e = q .0 in cc)) m
+  may-of StartMilestone v m = ⊎-elim (λ h. h) (λ q. sound.clash (let e = q .0 in cc)) m
+  may-of FinishMilestone v m = ⊎-elim inl (λ q. inr (q .1)) m
 
-  next-finish-may : {t s : ℕ} → IsNextFinish w t s → (w s ≡ true) ⊎ (closing w s ≡ true)
-  next-finish-may {t} {s} n =
-      ⊎-elim (λ c. inr (ap (closing w) (n .here c) ∙ c)) (λ c. inl (n .later c .worked)) (cases (closing w t))
+  of-may : (kind : ActivityKind) (v : ℕ) → MayStart w kind v → sound.MayStart w kind v
+  of-may Task v h = inl h
+  of-may StartMilestone v h = inl h
+  of-may FinishMilestone v m = ⊎-elim inl (λ h. inr (refl, h)) m
 
   pub place-sound : (t : ℕ) {s : ℕ} (kind : ActivityKind) → placeStart w kind t ≡ At s → IsPlace kind t s
-  unfolding placeStart
-  place-sound t Task e = let n = next-start-sound w e .0 in record { may = n .worked; after = n .after; least = λ v m l. n .least v l m }
-  place-sound t StartMilestone e = let n = next-start-sound w e .0 in record { may = n .worked; after = n .after; least = λ v m l. n .least v l m }
-  place-sound t FinishMilestone e =
-      let n = next-finish-sound w e .0 in
-      record { may = next-finish-may n; after = next-finish-after w n; least = λ v m l. next-finish-mono w l n (next-finish-still v m) }
+  place-sound t {s} kind e =
+      let r = sound.place-start-sound w kind t s e in
+      record { may = may-of kind s (r .may); after = r .after; least = λ v m l. r .least v l (of-may kind v m) }
 
   -- ---- the time of a constraint
   moment-at : (x : Walk) {t : ℕ} → momentOf x ≡ Moment.At t → x ≡ At t
@@ -113,13 +105,7 @@ module _ (w : ℕ → Bool) where
 
   -- ---- the start for a finish
   pub start-for-moment : (t : ℕ) {u : ℕ} → startForFinish w 0 t ≡ At u → u ≡ t
-  unfolding startForFinish
-  start-for-moment t {u} e =
-      let f = on-true (eqb 0 0) (At t) (via Refused (nextFinish w t) (λ f. retreat w f 0)) (eq-eqb 0 0 refl) in cc
+  start-for-moment t {u} e = sound.start-for-finish-sound w 0 t u e .still refl
 
   pub start-for-work : (n t : ℕ) {u : ℕ} → 0 < n → startForFinish w n t ≡ At u → (f : ℕ) × IsNextFinish w t f × IsRetreat w f n u
-  unfolding startForFinish
-  start-for-work n t {u} l e =
-      let f = on-false (eqb n 0) (At t) (via Refused (nextFinish w t) (λ f. retreat w f n)) (ne-eqb n 0 (λ z. omega arith)) in
-      let r = via-at (nextFinish w t) (λ f. retreat w f n) u (sym f ∙ e) in
-      (r .0, next-finish-sound w (r .1) .0, retreat-sound w (r .2) .0)
+  start-for-work n t {u} l e = let r = sound.start-for-finish-sound w n t u e in (r .finish, r .next l, r .back l)
