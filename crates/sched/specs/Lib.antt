@@ -3,3 +3,4 @@ pub mod Results
 pub mod Outcome
 pub mod Example
 pub mod ExampleSheet
+pub mod ExampleRules
