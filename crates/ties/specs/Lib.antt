@@ -1,0 +1,2 @@
+-- Links with their ends and lags.
+pub mod Widened
