@@ -1,2 +1,4 @@
 -- Links with their ends and lags.
+pub mod Ends
+pub mod EndLaws
 pub mod Widened
