@@ -1,4 +1,5 @@
 // What stands in the record of link `k` of a sheet that was read.
+use project::LagCalendar;
 use project::LagKind;
 use sheet::Contents;
 ghost use mathlib.Core.Path.{_≡_};
@@ -25,4 +26,12 @@ pub fn lag_of(sheet: &[u8], contents: Contents, k: usize) -> LagKind
     ensures { λ r. ⌜ r ≡ planOf (now (sheet .entry)) contents .link k .lag ⌝ }
 {
     project::records::read_lag(sheet, contents.at + 45 * contents.activities + 16 * k)
+}
+
+// The calendar that the project's working lags count on.
+pub fn lag_calendar_of(sheet: &[u8], contents: Contents) -> LagCalendar
+    requires { ⌜ SheetRead (now sheet) contents ⌝ }
+    ensures { λ r. ⌜ r ≡ planOf (now (sheet .entry)) contents .project .«lag_calendar» ⌝ }
+{
+    project::codes::lag_calendar_of(number::byte(sheet, 13))
 }

@@ -1,14 +1,25 @@
 // Links: rows 13, 14 and 8 of 01's table, kept and ignored links, and lags in minutes.
 use sheet::Contents;
-ghost use Prim.Native.Nat.{_<_};
+ghost use mathlib.Core.Path.{_≡_};
+ghost use mathlib.Core.Bool.{_||_};
+ghost use Prim.Native.Nat.{_≤_, _<_};
+ghost use lib.Dec.{ltb};
+ghost use Rattle.memory.specs.State.{Room, stateOf};
+ghost use Rattle.memory.specs.Fields.{isSummary};
+ghost use Rattle.sheet.specs.Known.{SheetRead};
 ghost use Rattle.order.specs.Plan.{planOf};
 ghost use Rattle.order.specs.IdLaws.{DistinctIds};
+ghost use Rattle.order.specs.FineLaws.{ActivitiesFine};
+ghost use Rattle.order.specs.Ties.{tieCalendar, tieTooLong};
 ghost use Rattle.ids.specs.Index.{Indexed};
 ghost use Rattle.ids.specs.Lent.{Lent, stateIn};
-ghost use Rattle.ties.specs.Ends.{EndsOf};
+ghost use Rattle.ties.specs.Ends.{Between, EndsOf};
+ghost use Rattle.ties.specs.Lengths.{Lengths};
 
 pub mod fields;
 pub mod lags;
+
+const IS_SUMMARY: usize = 3;
 
 // The ends of a link by the activities' numbers, or the row that refuses it and its id.
 pub enum Ends {
@@ -36,4 +47,38 @@ pub fn link_ends(sheet: &[u8], contents: Contents, work: &[i64], k: usize) -> En
         return Ends::Refused(14, pred);
     }
     Ends::Known(from, to)
+}
+
+// Whether one of two activities is marked as a summary.
+pub fn is_either_marked(work: &[i64], a: usize, l: usize, from: usize, to: usize) -> bool
+    requires { ⌜ Room a l (now work) × (from < a) × (to < a) ⌝ }
+    ensures { λ r. ⌜ r ≡ (ltb 0 (stateOf a l (now (work .entry)) .act isSummary from) || ltb 0 (stateOf a l (now (work .entry)) .act isSummary to)) ⌝ }
+{
+    if memory::get_act(work, a, l, from, IS_SUMMARY) > 0 {
+        return true;
+    }
+    memory::get_act(work, a, l, to, IS_SUMMARY) > 0
+}
+
+// The calendar that the lag of link `k` counts on.
+pub fn tie_calendar(sheet: &[u8], contents: Contents, k: usize, from: usize, to: usize) -> u64
+    requires { ⌜ SheetRead (now sheet) contents × (k < contents .links) × ActivitiesFine (planOf (now sheet) contents) × Between (planOf (now sheet) contents) k from to ⌝ }
+    ensures { λ r. ⌜ (r ≡ tieCalendar (planOf (now (sheet .entry)) contents) k) × (r ≤ contents .calendars) ⌝ }
+{
+    let by = fields::lag_calendar_of(sheet, contents);
+    let pred = ids::fields::calendar_of(sheet, contents, from);
+    let succ = ids::fields::calendar_of(sheet, contents, to);
+    let lag = fields::lag_of(sheet, contents, k);
+    lags::lag_calendar(lag, by, pred, succ, contents.calendars as u64)
+}
+
+// Row 8 for the lag of link `k`; `lengths` has the day length of each calendar, and of the round-the-clock one.
+pub fn is_tie_too_long(sheet: &[u8], contents: Contents, lengths: &[u64], k: usize, from: usize, to: usize) -> bool
+    requires { ⌜ SheetRead (now sheet) contents × (k < contents .links) × ActivitiesFine (planOf (now sheet) contents) × Between (planOf (now sheet) contents) k from to × Lengths (planOf (now sheet) contents) (now lengths) ⌝ }
+    ensures { λ r. ⌜ r ≡ tieTooLong (planOf (now (sheet .entry)) contents) k ⌝ }
+{
+    let calendar = tie_calendar(sheet, contents, k, from, to);
+    let lag = fields::lag_of(sheet, contents, k);
+    let minutes = ids::fields::minutes_of(sheet, contents, from);
+    lags::is_lag_too_long(lag, lengths[calendar as usize], minutes as i64)
 }
