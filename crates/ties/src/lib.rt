@@ -12,9 +12,11 @@ ghost use Rattle.order.specs.IdLaws.{DistinctIds};
 ghost use Rattle.order.specs.FineLaws.{ActivitiesFine};
 ghost use Rattle.order.specs.Ties.{tieCalendar, tieTooLong};
 ghost use Rattle.ids.specs.Index.{Indexed};
+ghost use Rattle.ids.specs.Parented.{Parented};
 ghost use Rattle.ids.specs.Lent.{Lent, stateIn};
 ghost use Rattle.ties.specs.Ends.{Between, EndsOf};
 ghost use Rattle.ties.specs.Lengths.{Lengths};
+ghost use Rattle.ties.specs.Checked.{LinkAnswered};
 
 pub mod fields;
 pub mod lags;
@@ -25,6 +27,13 @@ const IS_SUMMARY: usize = 3;
 pub enum Ends {
     Refused(u64, u64),
     Known(usize, usize),
+}
+
+// The answer of rows 13, 14 and 8 for a link: the row that refuses it and its id, or ignored, or kept with its ends.
+pub enum LinkCheck {
+    Refused(u64, u64),
+    Ignored,
+    Kept(usize, usize),
 }
 
 // Rows 13 and 14 for link `k`.
@@ -73,7 +82,14 @@ pub fn tie_calendar(sheet: &[u8], contents: Contents, k: usize, from: usize, to:
 }
 
 // Row 8 for the lag of link `k`; `lengths` has the day length of each calendar, and of the round-the-clock one.
-pub fn is_tie_too_long(sheet: &[u8], contents: Contents, lengths: &[u64], k: usize, from: usize, to: usize) -> bool
+pub fn is_tie_too_long(
+    sheet: &[u8],
+    contents: Contents,
+    lengths: &[u64],
+    k: usize,
+    from: usize,
+    to: usize,
+) -> bool
     requires { ⌜ SheetRead (now sheet) contents × (k < contents .links) × ActivitiesFine (planOf (now sheet) contents) × Between (planOf (now sheet) contents) k from to × Lengths (planOf (now sheet) contents) (now lengths) ⌝ }
     ensures { λ r. ⌜ r ≡ tieTooLong (planOf (now (sheet .entry)) contents) k ⌝ }
 {
@@ -81,4 +97,32 @@ pub fn is_tie_too_long(sheet: &[u8], contents: Contents, lengths: &[u64], k: usi
     let lag = fields::lag_of(sheet, contents, k);
     let minutes = ids::fields::minutes_of(sheet, contents, from);
     lags::is_lag_too_long(lag, lengths[calendar as usize], minutes as i64)
+}
+
+// Rows 13, 14 and 8 for link `k`.
+pub fn link_check(
+    sheet: &[u8],
+    contents: Contents,
+    work: &[i64],
+    lengths: &[u64],
+    k: usize,
+) -> LinkCheck
+    requires { ⌜ Lent (now sheet) contents (now work) × (k < contents .links) × DistinctIds (planOf (now sheet) contents) × Indexed (planOf (now sheet) contents) (stateIn contents (now work)) (contents .activities) × Parented (planOf (now sheet) contents) (stateIn contents (now work)) (contents .activities) × ActivitiesFine (planOf (now sheet) contents) × Lengths (planOf (now sheet) contents) (now lengths) ⌝ }
+    ensures { λ r. ⌜ LinkAnswered (planOf (now (sheet .entry)) contents) k r ⌝ }
+{
+    let ends = link_ends(sheet, contents, work, k);
+    match ends {
+        Ends::Refused(number, id) => {
+            return LinkCheck::Refused(number, id);
+        }
+        Ends::Known(from, to) => {
+            if is_either_marked(work, contents.activities, contents.links, from, to) {
+                return LinkCheck::Ignored;
+            }
+            if is_tie_too_long(sheet, contents, lengths, k, from, to) {
+                return LinkCheck::Refused(8, 0);
+            }
+            return LinkCheck::Kept(from, to);
+        }
+    }
 }

@@ -54,7 +54,7 @@ returns c =
     let e = rw (widened-back _ (fits (c .before .before))) at (c .is-lag-too-long .ensures) in
     e
     ∙ long-is p (x .k) (x .from) (x .to) (s .pre .3) _ _ _ (c .before .before .before .lag-of .ensures)
-      (s .pre .4 .is (t .result) (t .ensures .1) ∙ ap (p .dayLength) (t .ensures .0)) (c .before .before .minutes-of .ensures)
+    (s .pre .4 .is (t .result) (t .ensures .1) ∙ ap (p .dayLength) (t .ensures .0)) (c .before .before .minutes-of .ensures)
 
 pub is-tie-too-long-spec : {M : Type 1} → statement M
 is-tie-too-long-spec =

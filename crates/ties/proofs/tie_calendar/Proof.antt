@@ -35,7 +35,7 @@ returns c =
     let x = c .before .before .before .before .before .before .args in
     let p = planOf (x .sheet .now) (x .contents) in (
       c .lag-calendar .ensures .0
-      ∙ calendar-is p (x .k) (x .from) (x .to) (c .before .before .before .before .before .before .pre .3) _ _ _ _ (c .before .lag-of .ensures) (c .before .before .before .before .lag-calendar-of .ensures) (c .before .before .before .calendar-of .ensures .0) (c .before .before .calendar-of2 .ensures .0),
+          ∙ calendar-is p (x .k) (x .from) (x .to) (c .before .before .before .before .before .before .pre .3) _ _ _ _ (c .before .lag-of .ensures) (c .before .before .before .before .lag-calendar-of .ensures) (c .before .before .before .calendar-of .ensures .0) (c .before .before .calendar-of2 .ensures .0),
       c .lag-calendar .ensures .1,
     )
 
