@@ -12,7 +12,8 @@ use Rattle.order.specs.Plan.{Plan}
 use Rattle.order.specs.Ids.{summary}
 use Rattle.order.specs.Lags.{lagCalendar, lagTooLong}
 use Rattle.order.specs.Ties.{fromOf, toOf, ignored, calendarOf, tieCalendar, tieTooLong}
-use Rattle.ids.specs.Parented.{bit, Parented}
+use Rattle.number.specs.Bit.{bit}
+use Rattle.ids.specs.Parented.{Parented}
 use Rattle.ids.specs.SummaryLaws.{marks-summary}
 use Rattle.ties.specs.Ends.{Between}
 
