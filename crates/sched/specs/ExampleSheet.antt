@@ -6,7 +6,8 @@ use lib.IntN.{ℤ, pos, negsuc}
 use lib.ListN.{replicate}
 use Rattle.sched.specs.declared.Answer.the-variants.{Accepted}
 use Rattle.sched.specs.Outcome.{Lent, Ended}
-use Rattle.sheet.specs.Reading.{judged, judgeCalendar, periodOk, weekAfter, judgeWeek, noWork, exceptionAfter, judgeException, judgeActivity, judgeLink, run, weeksFrom, exceptionsFrom, activitiesFrom, linksFrom, calendarsFrom, readSheet}
+use Rattle.sheet.specs.Reading.{run, weeksFrom, exceptionsFrom, activitiesFrom, linksFrom, calendarsFrom, readSheet}
+use Rattle.judges.specs.Judging.{judged, judgeCalendar, periodOk, weekAfter, judgeWeek, noWork, exceptionAfter, judgeException, judgeActivity, judgeLink}
 use Rattle.sheet.specs.Places.{weekCount, exceptionsAt, exceptionCount, nextCalendar, placeAt, calendarAt, weekAt, calendarEnd}
 use Rattle.project.specs.Fields.{dayOk, dayOrAbsent, headerOk, calendarOk, constraintOk, activityOk, linkOk}
 use Rattle.project.specs.Records.{optionalDateAt, remainingAt, activityKindOf, constraintOf, activityAt, relationshipTypeOf, lagOf, relationshipAt, lagCalendarOf, floatKindOf, progressModeOf, criticalByOf, projectAt}

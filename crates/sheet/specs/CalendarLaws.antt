@@ -14,7 +14,8 @@ use Rattle.sheet.specs.declared.Run.{Run}
 use Rattle.sheet.specs.declared.Run.the-variants.{Count}
 use Rattle.sheet.specs.declared.Calendars.{Calendars}
 use Rattle.sheet.specs.declared.Calendars.the-variants.{Ended}
-use Rattle.sheet.specs.Reading.{misplaced, judgeCalendar, judgeWeek, judgeException, weeksFrom, exceptionsFrom, afterExceptions, afterWeeks, calendarsFrom}
+use Rattle.sheet.specs.Reading.{weeksFrom, exceptionsFrom, afterExceptions, afterWeeks, calendarsFrom}
+use Rattle.judges.specs.Judging.{misplaced, judgeCalendar, judgeWeek, judgeException}
 use Rattle.sheet.specs.Places.{countOf, weekCount, exceptionsAt, exceptionCount, nextCalendar, calendarAt, weekAt, exceptionsEnd, weeksEnd, calendarEnd}
 use Rattle.sheet.specs.Known.{CalendarRead}
 use Rattle.sheet.specs.RunLaws.{Row, two, never-counted, run-refuses}

@@ -10,7 +10,8 @@ use Rattle.sheet.specs.declared.Run.{Run}
 use Rattle.sheet.specs.declared.Run.the-variants.{Count}
 use Rattle.sheet.specs.declared.Calendars.{Calendars}
 use Rattle.sheet.specs.declared.Calendars.the-variants.{Ended}
-use Rattle.sheet.specs.Reading.{misplaced, judgeCalendar, calendarsFrom}
+use Rattle.sheet.specs.Reading.{calendarsFrom}
+use Rattle.judges.specs.Judging.{misplaced, judgeCalendar}
 use Rattle.sheet.specs.Places.{calendarEnd}
 use Rattle.sheet.specs.JudgeLaws.{calendar-stands}
 use Rattle.sheet.specs.CalendarLaws.{remaining, remaining-all, calendars-end, calendars-cut, calendars-refused, calendars-stop, calendars-more, end-known}

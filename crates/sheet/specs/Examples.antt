@@ -7,7 +7,8 @@ use Rattle.sheet.specs.declared.Sheet.the-variants.{Read}
 use Rattle.number.specs.Bytes.{u16At, u32At, biasedAt}
 use Rattle.calendar.specs.Records.{weekPeriods}
 use Rattle.project.specs.Fields.{dayOk, dayOrAbsent, headerOk, calendarOk, constraintOk, activityOk, linkOk}
-use Rattle.sheet.specs.Reading.{judged, judgeCalendar, periodOk, weekAfter, judgeWeek, judgeActivity, judgeLink, run, weeksFrom, exceptionsFrom, activitiesFrom, linksFrom, calendarsFrom, readSheet}
+use Rattle.sheet.specs.Reading.{run, weeksFrom, exceptionsFrom, activitiesFrom, linksFrom, calendarsFrom, readSheet}
+use Rattle.judges.specs.Judging.{judged, judgeCalendar, periodOk, weekAfter, judgeWeek, judgeActivity, judgeLink}
 
 -- "start 19723; [..] all codes and the threshold 0, optional fields absent"
 abbrev header : List ℕ

@@ -12,7 +12,7 @@ use Rattle.number.specs.Tests.{and-both, or-either}
 use Rattle.calendar.specs.declared.Period.{Period}
 use Rattle.calendar.specs.Records.{weekdayAt, weekPeriodAt, weekPeriods, exceptionDay, exceptionPeriod}
 use Rattle.project.specs.Fields.{activitySize, linkSize, dayOk, calendarOk, activityOk, linkOk}
-use Rattle.sheet.specs.Reading.{outOfRange, beyondLimit, judged, judgeCalendar, periodOk, weekAfter, judgeWeek, noWork, exceptionAfter, judgeException, judgeActivity, judgeLink}
+use Rattle.judges.specs.Judging.{outOfRange, beyondLimit, judged, judgeCalendar, periodOk, weekAfter, judgeWeek, noWork, exceptionAfter, judgeException, judgeActivity, judgeLink}
 use Rattle.sheet.specs.RunLaws.{Row}
 
 -- ---- judged

@@ -6,7 +6,8 @@ use native.Mathlib.Omega.{arith}
 use native.Mathlib.Nat.{mul-suc}
 use borrow.Author.Tests.{eq-eqb, ne-eqb}
 use Rattle.project.specs.Fields.{weekKind, exceptionKind, activityKind, linkKind, weekSize, exceptionSize, activitySize, linkSize}
-use Rattle.sheet.specs.Reading.{judgeWeek, judgeException, judgeActivity, judgeLink, weeksFrom, exceptionsFrom, activitiesFrom, linksFrom}
+use Rattle.sheet.specs.Reading.{weeksFrom, exceptionsFrom, activitiesFrom, linksFrom}
+use Rattle.judges.specs.Judging.{judgeWeek, judgeException, judgeActivity, judgeLink}
 use Rattle.sheet.specs.Kinds.{sizeOf, judgeOf, runOf}
 
 -- ---- by the kind's tests

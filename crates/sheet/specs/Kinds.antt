@@ -6,7 +6,8 @@ use lib.Dec.{eqb}
 use lib.ListN.{length}
 use Rattle.project.specs.Fields.{weekKind, exceptionKind, activityKind, weekSize, exceptionSize, activitySize, linkSize}
 use Rattle.sheet.specs.declared.Run.{Run}
-use Rattle.sheet.specs.Reading.{judgeWeek, judgeException, judgeActivity, judgeLink, run}
+use Rattle.sheet.specs.Reading.{run}
+use Rattle.judges.specs.Judging.{judgeWeek, judgeException, judgeActivity, judgeLink}
 
 unfoldable pub sizeOf : ℕ → ℕ
 sizeOf kind = elim (eqb kind weekKind) [

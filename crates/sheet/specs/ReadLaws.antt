@@ -17,7 +17,8 @@ use Rattle.sheet.specs.declared.Calendars.the-variants.{Ended}
 use Rattle.sheet.specs.declared.Contents.{Contents}
 use Rattle.sheet.specs.declared.Sheet.{Sheet}
 use Rattle.sheet.specs.declared.Sheet.the-variants.{Read}
-use Rattle.sheet.specs.Reading.{misplaced, outOfRange, judgeActivity, judgeLink, activitiesFrom, linksFrom, calendarsFrom, afterLinks, afterActivities, afterCalendars, readSheet}
+use Rattle.sheet.specs.Reading.{activitiesFrom, linksFrom, calendarsFrom, afterLinks, afterActivities, afterCalendars, readSheet}
+use Rattle.judges.specs.Judging.{misplaced, outOfRange, judgeActivity, judgeLink}
 use Rattle.sheet.specs.Known.{HeaderRead, SheetRead}
 use Rattle.sheet.specs.RunLaws.{Row, two, Counted, run-counted, run-refuses}
 use Rattle.sheet.specs.JudgeLaws.{activity-stands, activity-row, link-stands, link-row}

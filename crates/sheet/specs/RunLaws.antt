@@ -11,7 +11,8 @@ use Rattle.number.specs.Bytes.{byteAt}
 use Rattle.number.specs.Order.{lt-or-le, eq-or-ne}
 use Rattle.sheet.specs.declared.Run.{Run}
 use Rattle.sheet.specs.declared.Run.the-variants.{Count}
-use Rattle.sheet.specs.Reading.{misplaced, beyondLimit, run}
+use Rattle.sheet.specs.Reading.{run}
+use Rattle.judges.specs.Judging.{misplaced, beyondLimit}
 
 -- rows 2, 3 and 4
 pub record Row (r : ℕ) : Type 0 where

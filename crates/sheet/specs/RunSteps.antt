@@ -11,7 +11,7 @@ use Rattle.number.specs.Bytes.{byteAt}
 use Rattle.number.specs.Order.{lt-or-le}
 use Rattle.sheet.specs.declared.Run.{Run}
 use Rattle.sheet.specs.declared.Run.the-variants.{Count}
-use Rattle.sheet.specs.Reading.{misplaced}
+use Rattle.judges.specs.Judging.{misplaced}
 use Rattle.sheet.specs.Kinds.{sizeOf, judgeOf, runOf}
 use Rattle.sheet.specs.KindLaws.{next-record}
 use Rattle.sheet.specs.RunLaws.{Counted, run-counted, rest, rest-all, run-end, run-cut, run-refused, run-more}

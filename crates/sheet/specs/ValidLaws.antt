@@ -16,7 +16,8 @@ use Rattle.calendar.specs.WeekLaws.{week-row}
 use Rattle.calendar.specs.DayLaws.{hours-week, hours-own}
 use Rattle.project.specs.Fields.{weekKind, exceptionKind, weekSize, exceptionSize}
 use Rattle.sheet.specs.declared.Run.the-variants.{Count}
-use Rattle.sheet.specs.Reading.{judgeWeek, judgeException, weeksFrom, exceptionsFrom}
+use Rattle.sheet.specs.Reading.{weeksFrom, exceptionsFrom}
+use Rattle.judges.specs.Judging.{judgeWeek, judgeException}
 use Rattle.sheet.specs.RunLaws.{Counted, run-counted}
 use Rattle.sheet.specs.JudgeLaws.{WeekStands, week-stands, week-after, ExceptionStands, exception-stands, exception-after}
 use Rattle.sheet.specs.InOrder.{InOrder, chosen, chosen-take, chosen-skip, keys-sorted, chosen-ordered, ordered-pad}

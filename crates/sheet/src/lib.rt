@@ -7,7 +7,6 @@ ghost use Rattle.sheet.specs.Reading.{calendarsFrom, afterLinks, afterAc
 ghost use Rattle.sheet.specs.Places.{calendarEnd, placeAt};
 ghost use Rattle.sheet.specs.Known.{CalendarRead};
 
-pub mod judges;
 pub mod runs;
 
 // How many records of one kind stand in a row, or the refusal of one of them.

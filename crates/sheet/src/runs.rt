@@ -1,6 +1,5 @@
 // Runs of records of one kind.
 use crate::Run;
-use crate::judges;
 ghost use mathlib.Core.Path.{_≡_};
 ghost use Prim.Native.Nat.{_+_, _*_, _≤_, _<_};
 ghost use lib.ListN.{length};

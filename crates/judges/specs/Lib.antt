@@ -1,0 +1,3 @@
+-- The judges of one record.
+pub mod Judging
+pub mod StepLaws
