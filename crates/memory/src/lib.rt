@@ -6,6 +6,8 @@ ghost use lib.ListN.{length};
 ghost use Rattle.memory.specs.State.{Room, stateOf, putAct, putActZ, putLink, putLinkZ, fillAct};
 ghost use Rattle.memory.specs.Chains.{linked, linkedFrom, withChains, Chains};
 
+pub mod fields;
+
 // Field `f` of activity `i`: 0 where it is negative.
 pub fn get_act(work: &[i64], a: usize, l: usize, i: usize, f: usize) -> u64
     requires { ⌜ Room a l (now work) × (i < a) × (f < 64) ⌝ }

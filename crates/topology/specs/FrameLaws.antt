@@ -23,14 +23,14 @@ not-true false e = refl
 outside-cases : (lo hi f : ℕ) → outside lo hi f ≡ true → (f < lo) ⊎ (hi ≤ f)
 outside-cases lo hi f e = ⊎-elim (λ h. inl (ltb-true f lo h)) (λ h. inr (ltb-false f hi (not-true (ltb f hi) h))) (or-cases (ltb f lo) (not (ltb f hi)) e)
 
-outside-below : (lo hi f : ℕ) → f < lo → outside lo hi f ≡ true
+pub outside-below : (lo hi f : ℕ) → f < lo → outside lo hi f ≡ true
 outside-below lo hi f h = simp (lt-ltb _ _ h)
 
 or-true : (b : Bool) → b || true ≡ true
 or-true true = refl
 or-true false = refl
 
-outside-above : (lo hi f : ℕ) → hi ≤ f → outside lo hi f ≡ true
+pub outside-above : (lo hi f : ℕ) → hi ≤ f → outside lo hi f ≡ true
 outside-above lo hi f h = simp (le-ltb _ _ h) (or-true (ltb f lo))
 
 -- what lies outside a wider stretch lies outside a narrower one

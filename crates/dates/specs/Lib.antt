@@ -1,0 +1,6 @@
+-- The run's dates in the lent memory.
+pub mod Columns
+pub mod Standing
+pub mod ColumnLaws
+pub mod StandingLaws
+pub mod ThroughLaws
