@@ -1,5 +1,4 @@
 -- The scheduling call.
-pub mod Results
 pub mod Outcome
 pub mod Example
 pub mod ExampleSheet
