@@ -1,8 +1,9 @@
 -- The scheduling call.
-pub mod Results
+pub mod Outcome
 pub mod Refusals
 pub mod RunRefusals
-pub mod Outcome
+pub mod RowLaws
+pub mod Demand
 pub mod Example
 pub mod ExampleSheet
 pub mod ExampleRules
