@@ -5,5 +5,6 @@ pub mod RunRefusals
 pub mod RowLaws
 pub mod Demand
 pub mod Example
+pub mod Marked
 pub mod ExampleSheet
 pub mod ExampleRules
