@@ -5,3 +5,4 @@ pub mod ColumnLaws
 pub mod StandingLaws
 pub mod ThroughLaws
 pub mod ReadLaws
+pub mod Bounds
