@@ -6,3 +6,4 @@ pub mod StandingLaws
 pub mod ThroughLaws
 pub mod ReadLaws
 pub mod Bounds
+pub mod FineLaws
