@@ -15,7 +15,7 @@ use Rattle.order.specs.Checks.{refuse, fine, firstOf, judgeLink}
 use Rattle.ids.specs.Index.{Indexed}
 use Rattle.ids.specs.Parented.{Parented}
 use Rattle.ids.specs.Lent.{Lent, stateIn}
-use Rattle.ties.specs.Lengths.{Lengths}
+use Rattle.calendars.specs.Calendars.{Lengths}
 use Rattle.links.specs.declared.LinkStep.{LinkStep}
 use Rattle.links.specs.declared.LinkStep.the-variants as step
 use Rattle.links.specs.declared.Linked.{Linked}
@@ -45,8 +45,8 @@ module _ (p : Plan) where
 
   -- the first k links: t are kept and stand in the first rows, and n are ignored and stand at the beginning of names
   pub record LinksIn (k t n : ℕ) (T : State) (names after : List ℕ) : Type 0 where
-    pub kept : t ≡ length (keptBelow p k)
-    pub passed : n ≡ length (ignoredBelow p k)
+    pub kept-count : t ≡ length (keptBelow p k)
+    pub ignored-count : n ≡ length (ignoredBelow p k)
     pub tied : (q : ℕ) → q < t → tieIn T q ≡ tieOf p (getD (keptBelow p k) q 0)
     pub named : after ≡ ignoredBelow p k ++ drop n names
 

@@ -1,13 +1,12 @@
 -- The loop over the links: those before k are fine, and stand in the memory or in names.
 use mathlib.Core.Path.{_≡_, refl, sym, ap, subst, _∙_}
-use mathlib.Core.Bool.{true, false}
 use mathlib.Core.List.{List, [], _∷_, _++_}
 use mathlib.Core.Logic.{⊎-elim, _≢_}
 use Prim.Native.Nat.{ℕ, suc, _+_, _-_, _≤_, _<_}
 use native.Mathlib.Omega.{arith}
 use native.Mathlib.Numerals.{add-one}
 use lib.IntN.{ℤ}
-use lib.ListN.{length, getD, set, drop, length-append, List·getD-append}
+use lib.ListN.{length, set, drop, length-append, List·getD-append}
 use lib.Seq.{getD-at, set-at, drop-cons, append-snoc}
 use Rattle.number.specs.Order.{eq-or-ne}
 use Rattle.project.specs.Records.{relationshipTypeOf}
@@ -15,18 +14,17 @@ use Rattle.memory.specs.State.{State}
 use Rattle.memory.specs.Fields.{fromField, toField, kindField, lagField, lagCalendarField}
 use Rattle.sheet.specs.declared.Contents.{Contents}
 use Rattle.order.specs.Plan.{Plan, planOf}
-use Rattle.order.specs.Ties.{ignored, tieOf, keptBelow, ignoredBelow}
+use Rattle.order.specs.Ties.{tieOf, keptBelow, ignoredBelow}
 use Rattle.order.specs.TieLaws.{kept-none, ignored-none, kept-ignored, ignored-ignored, kept-kept, ignored-kept, kept-and-ignored}
-use Rattle.order.specs.Checks.{Verdict, refuse, fine, firstOf, judgeLink}
+use Rattle.order.specs.Checks.{Verdict, fine, firstOf, judgeLink}
 use Rattle.order.specs.VerdictLaws.{first-start, first-end, first-passes, first-stops}
 use Rattle.ids.specs.Index.{Indexed}
 use Rattle.ids.specs.Parented.{Parented}
-use Rattle.ids.specs.Lent.{Lent, stateIn}
+use Rattle.ids.specs.Lent.{stateIn}
 use Rattle.links.specs.declared.LinkStep.{LinkStep}
 use Rattle.links.specs.declared.LinkStep.the-variants as step
-use Rattle.links.specs.declared.Linked.{Linked}
 use Rattle.links.specs.declared.Linked.the-variants as linked
-use Rattle.links.specs.Stored.{tieIn, Stored}
+use Rattle.links.specs.Stored.{tieIn}
 use Rattle.links.specs.Answers.{Judging, ActsKept, LinkedOne, LinksIn, LinkedAll}
 
 -- ---- where the activities' fields stay
@@ -71,8 +69,8 @@ module _ (p : Plan) (S : State) (names : List ℕ) where
     judged = first-start (judgeLink p) (p .links);
     kept = record { acts = refl; actsZ = refl };
     links = record {
-      kept = rw (kept-none p);
-      passed = rw (ignored-none p);
+      kept-count = rw (kept-none p);
+      ignored-count = rw (ignored-none p);
       tied = λ q l. absurd (omega arith);
       named = rw (ignored-none p);
     };
@@ -81,7 +79,7 @@ module _ (p : Plan) (S : State) (names : List ℕ) where
   module _ (k t n : ℕ) (T : State) (after : List ℕ) (X : Linking k t n T after) where
     -- there is a row and a place for one more
     pub kept-le : t + n ≤ k
-    kept-le = omega (arith, kept-and-ignored p k, X .links .kept, X .links .passed)
+    kept-le = omega (arith, kept-and-ignored p k, X .links .kept-count, X .links .ignored-count)
 
     pub linking-end : p .links ≤ k → LinkedAll p T names after (linked.Linked t n)
     linking-end l =
@@ -109,10 +107,10 @@ module _ (p : Plan) (S : State) (names : List ℕ) where
             judged = passes (a .0);
             kept = rw (a .2) (X .kept);
             links = record {
-              kept = X .links .kept ∙ ap length (sym (kept-ignored p k (a .1)));
-              passed = omega (arith, X .links .passed, ap length (ignored-ignored p k (a .1)) ∙ length-append (ignoredBelow p k) (k ∷ []));
+              kept-count = X .links .kept-count ∙ ap length (sym (kept-ignored p k (a .1)));
+              ignored-count = omega (arith, X .links .ignored-count, ap length (ignored-ignored p k (a .1)) ∙ length-append (ignoredBelow p k) (k ∷ []));
               tied = rw (a .2, kept-ignored p k (a .1)) (X .links .tied);
-              named = rw (ignored-ignored p k (a .1)) (a .3 ∙ one-more names after (ignoredBelow p k) n k (X .links .passed) h (X .links .named));
+              named = rw (ignored-ignored p k (a .1)) (a .3 ∙ one-more names after (ignoredBelow p k) n k (X .links .ignored-count) h (X .links .named));
             };
           }
 
@@ -123,10 +121,10 @@ module _ (p : Plan) (S : State) (names : List ℕ) where
             judged = passes (a .0);
             kept = acts-then (X .kept) (record { acts = a .2 .acts; actsZ = a .2 .actsZ });
             links = record {
-              kept = omega (arith, X .links .kept, ap length (kept-kept p k (a .1)) ∙ length-append (keptBelow p k) (k ∷ []));
-              passed = X .links .passed ∙ ap length (sym (ignored-kept p k (a .1)));
+              kept-count = omega (arith, X .links .kept-count, ap length (kept-kept p k (a .1)) ∙ length-append (keptBelow p k) (k ∷ []));
+              ignored-count = X .links .ignored-count ∙ ap length (sym (ignored-kept p k (a .1)));
               tied = λ q b. rw (kept-kept p k (a .1))
-                  (⊎-elim (λ (h : q ≡ t). ap (tieIn U) h ∙ a .2 .row ∙ ap (tieOf p) (sym (getD-at (keptBelow p k) k [] 0 q (sym (X .links .kept) ∙ sym h))))
+                  (⊎-elim (λ (h : q ≡ t). ap (tieIn U) h ∙ a .2 .row ∙ ap (tieOf p) (sym (getD-at (keptBelow p k) k [] 0 q (sym (X .links .kept-count) ∙ sym h))))
                   (λ (h : q ≢ t).
                   let m : q < t = omega arith in
                   (λ z. record {
@@ -135,7 +133,7 @@ module _ (p : Plan) (S : State) (names : List ℕ) where
                     kind = relationshipTypeOf (a .2 .rows kindField q h z);
                     lag = a .2 .rowsZ lagField q h z;
                     calendar = a .2 .rows lagCalendarField q h z;
-                  }) ∙ X .links .tied q m ∙ ap (tieOf p) (sym (List·getD-append (keptBelow p k) (k ∷ []) 0 q (omega (arith, X .links .kept))))) (eq-or-ne q t));
+                  }) ∙ X .links .tied q m ∙ ap (tieOf p) (sym (List·getD-append (keptBelow p k) (k ∷ []) 0 q (omega (arith, X .links .kept-count))))) (eq-or-ne q t));
               named = rw (ignored-kept p k (a .1)) (a .3 ∙ X .links .named);
             };
           }

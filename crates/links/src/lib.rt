@@ -16,7 +16,7 @@ ghost use Rattle.ids.specs.Index.{Indexed};
 ghost use Rattle.ids.specs.Parented.{Parented};
 ghost use Rattle.ids.specs.Lent.{Lent, stateIn};
 ghost use Rattle.ties.specs.Ends.{Between};
-ghost use Rattle.ties.specs.Lengths.{Lengths};
+ghost use Rattle.calendars.specs.Calendars.{Lengths};
 ghost use Rattle.links.specs.Stored.{withTie, Stored};
 ghost use Rattle.links.specs.Answers.{Judging, LinkedOne, LinkedAll, ActsKept};
 

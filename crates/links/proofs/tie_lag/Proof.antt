@@ -1,6 +1,6 @@
 -- `links::tie_lag` meets its contract.
 use borrow.Author.Needs.{needs}
-use mathlib.Core.Path.{_≡_, ap, _∙_}
+use mathlib.Core.Path.{ap, _∙_}
 use native.Mathlib.Omega.{arith}
 use mir.Facts.{toZ-ofZ}
 use mir.Syntax.{w32}
