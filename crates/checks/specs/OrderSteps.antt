@@ -25,10 +25,10 @@ use Rattle.order.specs.CheckLaws.{order-whole, order-loop}
 use Rattle.order.specs.FineLaws.{LinksFine}
 use Rattle.passes.specs.Plan.{tie}
 use Rattle.dates.specs.Standing.{tieIn, Standing}
-use Rattle.checks.specs.Stored.{Stored}
+use Rattle.checks.specs.StoredLinks.{StoredLinks}
 use Rattle.checks.specs.Column.{LoopIn}
 
-module _ (p : Plan) {t : ℕ} {S : State} (W : Stored p t S) where
+module _ (p : Plan) {t : ℕ} {S : State} (W : StoredLinks p t S) where
   -- the k-th kept link among all
   keptAt : ℕ → ℕ
   keptAt k = getD (keptBelow p (p .links)) k 0

@@ -12,7 +12,7 @@ use Rattle.order.specs.Checks.{Verdict, refuse, refuseLoop, orElse, beforeOrder
 use Rattle.order.specs.CheckLaws.{calendarsFirst, activitiesFirst, parentsFirst, summariesFirst, linksFirst}
 use Rattle.order.specs.VerdictLaws.{or-first, or-second}
 use Rattle.checks.specs.declared.Checked.{Checked}
-use Rattle.checks.specs.Stages.{Judged, RefusedAs}
+use Rattle.checks.specs.Stages.{idsVerdict, summariesVerdict, Judged, RefusedAs}
 
 or-assoc : (u v w : Verdict) → orElse (orElse u v) w ≡ orElse u (orElse v w)
 or-assoc u v w =
@@ -22,17 +22,7 @@ or-assoc u v w =
     ap (λ (x : Verdict). orElse x w) (or-first u v n) ∙ or-first u w n ∙ sym (or-first u (orElse v w) n)) (eq-or-ne (u .number) 0)
 
 module _ (p : Plan) where
-  -- rows 5 to 10; rows 13, 14, 8 and then 15; with 11 and 12 before those
-  abbrev pub idsVerdict : Verdict
-  idsVerdict = orElse (calendarsFirst p) (orElse (activitiesFirst p) (parentsFirst p))
-
-  abbrev pub linksVerdict : Verdict
-  linksVerdict = orElse (linksFirst p) (judgeOrder p)
-
-  abbrev pub summariesVerdict : Verdict
-  summariesVerdict = orElse (summariesFirst p) linksVerdict
-
-  pub checked-is : orElse idsVerdict summariesVerdict ≡ checked p
+  pub checked-is : orElse (idsVerdict p) (summariesVerdict p) ≡ checked p
   unfolding checked beforeOrdering
   checked-is =
       let c = calendarsFirst p in
@@ -75,3 +65,9 @@ module _ (p : Plan) where
           named = n;
           cleared = w;
         })
+
+  -- by the lengths that names and memory had before
+  pub judged-sizes : (v : Verdict) {size size′ room room′ : ℕ} (names : List ℕ) (work : List ℤ) (r : Checked) → size ≡ size′ → room ≡ room′
+      → Judged p v size room names work r → Judged p v size′ room′ names work r
+  judged-sizes v {size} {size′} {room} {room′} names work r e f h =
+      subst (λ (n : ℕ). Judged p v size′ n names work r) f (subst (λ (n : ℕ). Judged p v n room names work r) e h)

@@ -4,15 +4,49 @@ use mathlib.Core.List.{List, _++_}
 use Prim.Native.Nat.{ℕ, _-_, _<_}
 use lib.IntN.{ℤ, pos}
 use lib.ListN.{length, replicate}
-use Rattle.memory.specs.State.{stateOf}
+use Rattle.memory.specs.State.{State, stateOf}
 use Rattle.sheet.specs.declared.Contents.{Contents}
 use Rattle.order.specs.Plan.{Plan, planOf}
 use Rattle.order.specs.Ties.{ignoredLinks, openEnds}
-use Rattle.order.specs.Checks.{Verdict, checked}
+use Rattle.order.specs.Checks.{Verdict, orElse, judgeOrder, checked}
+use Rattle.order.specs.CheckLaws.{calendarsFirst, activitiesFirst, parentsFirst, summariesFirst, linksFirst}
+use Rattle.order.specs.IdLaws.{DistinctIds}
+use Rattle.order.specs.FineLaws.{ActivitiesFine, ParentsKnown}
+use Rattle.ids.specs.declared.Check.{Check}
+use Rattle.ids.specs.declared.Check.the-variants as check
+use Rattle.ids.specs.Index.{Indexed}
+use Rattle.ids.specs.Parented.{Parented}
+use Rattle.ids.specs.Answers.{Answered}
 use Rattle.dates.specs.Standing.{Standing, Ready}
 use Rattle.checks.specs.declared.Checked.{Checked}
 use Rattle.checks.specs.declared.Checked.the-variants.{Fine, Refused}
 use Rattle.checks.specs.Names.{thenZeros}
+
+-- ---- the verdicts of the parts
+module _ (p : Plan) where
+  -- rows 5 to 10
+  abbrev pub idsVerdict : Verdict
+  idsVerdict = orElse (calendarsFirst p) (orElse (activitiesFirst p) (parentsFirst p))
+
+  -- rows 13, 14 and 8 of the links, then 15
+  abbrev pub linksVerdict : Verdict
+  linksVerdict = orElse (linksFirst p) (judgeOrder p)
+
+  -- rows 11 and 12, then those
+  abbrev pub summariesVerdict : Verdict
+  summariesVerdict = orElse (summariesFirst p) linksVerdict
+
+  -- what holds and stands in the memory where rows 5 to 10 are fine
+  pub record Prepared (S : State) : Type 0 where
+    pub activities : ActivitiesFine p
+    pub distinct : DistinctIds p
+    pub known : ParentsKnown p
+    pub indexed : Indexed p S (p .activities)
+    pub parented : Parented p S (p .activities)
+
+  pub record IdsChecked (r : Check) (S : State) : Type 0 where
+    pub answered : Answered r idsVerdict
+    pub holds : r ≡ check.Fine → Prepared S
 
 -- ---- some of the checks: v is their verdict, `size` the length of the names and `room` that of the memory
 module _ (p : Plan) (v : Verdict) (size room : ℕ) (names : List ℕ) (work : List ℤ) where

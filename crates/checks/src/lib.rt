@@ -1,12 +1,15 @@
 // Rows 5 to 15 of 01's table in one call: the plan is ready for the passes, or it is refused with the names of its loop.
-use sheet::Contents;
+use ids::Check;
+use ids::SummaryCheck;
+use links::Linked;
 use memory::fields;
+use sheet::Contents;
 ghost use mathlib.Core.Path.{_≡_};
-ghost use Prim.Native.Nat.{ℕ, _+_, _≤_, _<_};
+ghost use Prim.Native.Nat.{_+_, _≤_, _<_, max};
 ghost use lib.ListN.{length, getD, set, replicate};
 ghost use lib.IntN.{pos};
 ghost use Rattle.sheet.specs.Known.{SheetRead};
-ghost use Rattle.memory.specs.State.{Room, stateOf};
+ghost use Rattle.memory.specs.State.{Room};
 ghost use Rattle.network.specs.Parents.{upward};
 ghost use Rattle.network.specs.Kahn.{namedLoop};
 ghost use Rattle.order.specs.Plan.{planOf};
@@ -17,11 +20,12 @@ ghost use Rattle.order.specs.FineLaws.{ParentsKnown, LinksFine};
 ghost use Rattle.ids.specs.Lent.{Lent, stateIn};
 ghost use Rattle.ids.specs.Parented.{Parented};
 ghost use Rattle.ids.specs.Summaries.{LoopFrom};
+ghost use Rattle.calendars.specs.Calendars.{Places, Lengths};
 ghost use Rattle.dates.specs.Standing.{Standing};
 ghost use Rattle.checks.specs.Names.{thenZeros};
 ghost use Rattle.checks.specs.Column.{LoopIn};
-ghost use Rattle.checks.specs.Stored.{Stored};
-ghost use Rattle.checks.specs.Stages.{Judged};
+ghost use Rattle.checks.specs.StoredLinks.{StoredLinks};
+ghost use Rattle.checks.specs.Stages.{linksVerdict, summariesVerdict, Prepared, IdsChecked, Judged, PlanChecked};
 
 // The answer: how many links are kept and how many ignored, and how many open ends there are; or a row's number and its id.
 pub enum Checked {
@@ -119,7 +123,7 @@ fn refuse_loop(names: &[u32], work: &mut [i64], number: u64) -> Checked
 
 // Row 15: the order by the `t` kept links, which are stored; then the plan is ready, or the loop is named. The names hold the `n` ignored links.
 fn check_order(sheet: &[u8], contents: Contents, names: &mut [u32], work: &mut [i64], t: usize, n: usize) -> Checked
-    requires { ⌜ Lent (now sheet) contents (now work) × Stored (planOf (now sheet) contents) t (stateIn contents (now work)) × LinksFine (planOf (now sheet) contents) × (n ≡ length (ignoredLinks (planOf (now sheet) contents))) × (now names ≡ thenZeros (ignoredLinks (planOf (now sheet) contents)) (now names)) × (contents .activities < length (now names)) ⌝ }
+    requires { ⌜ Lent (now sheet) contents (now work) × StoredLinks (planOf (now sheet) contents) t (stateIn contents (now work)) × LinksFine (planOf (now sheet) contents) × (n ≡ length (ignoredLinks (planOf (now sheet) contents))) × (now names ≡ thenZeros (ignoredLinks (planOf (now sheet) contents)) (now names)) × (contents .activities < length (now names)) ⌝ }
     ensures { λ r. ⌜ Judged (planOf (now (sheet .entry)) contents) (judgeOrder (planOf (now (sheet .entry)) contents)) (length (now (names .entry))) (length (now (work .entry))) (now (names .exit)) (now (work .exit)) r ⌝ }
 {
     let a = contents.activities;
@@ -130,4 +134,86 @@ fn check_order(sheet: &[u8], contents: Contents, names: &mut [u32], work: &mut [
     let m = topology::name_loop(work, a, l, t);
     name_links(sheet, contents, names, work, m);
     refuse_loop(names, work, 15)
+}
+
+// Refuses without names: names and memory are cleared.
+fn refuse(names: &mut [u32], work: &mut [i64], number: u64, id: u64) -> Checked
+    ensures { λ r. ⌜ (r ≡ Checked.Refused number id) × (now (names .exit) ≡ replicate (length (now (names .entry))) 0) × (now (work .exit) ≡ replicate (length (now (work .entry))) (pos 0)) ⌝ }
+{
+    cells::clear_u32(names);
+    cells::clear(work);
+    Checked::Refused(number, id)
+}
+
+// Rows 5 to 10: calendars, ids and parents.
+fn check_ids(sheet: &[u8], contents: Contents, places: &[u64], work: &mut [i64]) -> Check
+    requires { ⌜ Lent (now sheet) contents (now work) × Places (now sheet) contents (now places) ⌝ }
+    ensures { λ r. ⌜ IdsChecked (planOf (now (sheet .entry)) contents) r (stateIn contents (now (work .exit))) × (length (now (work .exit)) ≡ length (now (work .entry))) ⌝ }
+{
+    if calendars::have_hours(sheet, contents, places) {
+        let check = ids::index_all(sheet, contents, work);
+        match check {
+            Check::Refused(number, id) => {
+                return Check::Refused(number, id);
+            }
+            Check::Fine => {
+                return ids::parents(sheet, contents, work);
+            }
+        }
+    }
+    Check::Refused(5, 0)
+}
+
+// Rows 13, 14 and 8 of the links, then 15.
+fn check_links(sheet: &[u8], contents: Contents, lengths: &[u64], names: &mut [u32], work: &mut [i64]) -> Checked
+    requires { ⌜ Lent (now sheet) contents (now work) × Prepared (planOf (now sheet) contents) (stateIn contents (now work)) × Lengths (planOf (now sheet) contents) (now lengths) × (contents .activities < length (now names)) × (contents .links ≤ length (now names)) ⌝ }
+    ensures { λ r. ⌜ Judged (planOf (now (sheet .entry)) contents) (linksVerdict (planOf (now (sheet .entry)) contents)) (length (now (names .entry))) (length (now (work .entry))) (now (names .exit)) (now (work .exit)) r ⌝ }
+{
+    cells::clear_u32(names);
+    let linked = links::link_all(sheet, contents, lengths, names, work);
+    match linked {
+        Linked::Refused(number, id) => {
+            return refuse(names, work, number, id);
+        }
+        Linked::Linked(t, n) => {
+            return check_order(sheet, contents, names, work, t, n);
+        }
+    }
+}
+
+// Rows 11 and 12, then those of the links.
+fn check_summaries(sheet: &[u8], contents: Contents, lengths: &[u64], names: &mut [u32], work: &mut [i64]) -> Checked
+    requires { ⌜ Lent (now sheet) contents (now work) × Prepared (planOf (now sheet) contents) (stateIn contents (now work)) × Lengths (planOf (now sheet) contents) (now lengths) × (contents .activities < length (now names)) × (contents .links ≤ length (now names)) ⌝ }
+    ensures { λ r. ⌜ Judged (planOf (now (sheet .entry)) contents) (summariesVerdict (planOf (now (sheet .entry)) contents)) (length (now (names .entry))) (length (now (work .entry))) (now (names .exit)) (now (work .exit)) r ⌝ }
+{
+    let check = ids::summaries(sheet, contents, work);
+    match check {
+        SummaryCheck::Milestone(id) => {
+            return refuse(names, work, 11, id);
+        }
+        SummaryCheck::Loop(first, steps) => {
+            name_parents(sheet, contents, names, work, first, steps);
+            return refuse_loop(names, work, 12);
+        }
+        SummaryCheck::Fine => {
+            return check_links(sheet, contents, lengths, names, work);
+        }
+    }
+}
+
+// Rows 5 to 15: where none refuses, the memory is ready for the passes and the names hold the ignored links' positions; else the names hold
+// the loop's ids, if there is one, and the memory is cleared.
+pub fn check_plan(sheet: &[u8], contents: Contents, places: &[u64], lengths: &[u64], names: &mut [u32], work: &mut [i64]) -> Checked
+    requires { ⌜ SheetRead (now sheet) contents × Room (contents .activities) (contents .links) (now work) × Places (now sheet) contents (now places) × Lengths (planOf (now sheet) contents) (now lengths) × (max (contents .activities + 1) (contents .links) ≤ length (now names)) ⌝ }
+    ensures { λ r. ⌜ PlanChecked (now (sheet .entry)) contents (now (places .entry)) (now (names .entry)) (now (work .entry)) (now (names .exit)) (now (work .exit)) r ⌝ }
+{
+    let check = check_ids(sheet, contents, places, work);
+    match check {
+        Check::Refused(number, id) => {
+            return refuse(names, work, number, id);
+        }
+        Check::Fine => {
+            return check_summaries(sheet, contents, lengths, names, work);
+        }
+    }
 }

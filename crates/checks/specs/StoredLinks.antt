@@ -11,7 +11,7 @@ use Rattle.order.specs.Ties.{keptBelow}
 use Rattle.passes.specs.Plan.{tie}
 use Rattle.dates.specs.Standing.{tieIn}
 
-pub record Stored (p : Plan) (t : ℕ) (S : State) : Type 0 where
+pub record StoredLinks (p : Plan) (t : ℕ) (S : State) : Type 0 where
   -- t links are kept
   pub count : t ≡ length (keptBelow p (p .links))
   pub within : t ≤ p .links
