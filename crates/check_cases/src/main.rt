@@ -15,12 +15,11 @@ fn print(n: u64) {
     io::print_decimal(STDOUT_FILENO, n);
 }
 
-// Where the first 0 stands from `from` on, or the end.
-fn zero_from(names: &[u32], from: usize) -> usize
-    requires { ⌜ from ≤ length (now names) ⌝ }
+// Where the first 0 stands, or the end.
+fn first_zero(names: &[u32]) -> usize
     ensures { λ r. ⌜ r ≤ length (now (names .entry)) ⌝ }
 {
-    let mut i = from;
+    let mut i: usize = 0;
     while i < names.len() {
         if names[i] == 0 {
             return i;
@@ -56,18 +55,30 @@ fn is_work_zero(work: &[i64]) -> bool {
     true
 }
 
-// The first `n` names, and a complaint where one after them is not 0.
-fn print_names(names: &[u32], n: usize)
+fn wide(x: u32) -> u64 {
+    x as u64
+}
+
+// The first `n` names.
+fn print_first(names: &[u32], n: usize)
     requires { ⌜ n ≤ length (now names) ⌝ }
 {
     let mut i: usize = 0;
     while i < n {
-        print(names[i] as u64);
+        print(wide(names[i]));
         i += 1;
     }
-    if !are_names_zero(names, n) {
-        io::write_all(STDOUT_FILENO, b" names not zero");
+}
+
+// The first `n` names, and whether those after them are zeros.
+fn print_names(names: &[u32], n: usize)
+    requires { ⌜ n ≤ length (now names) ⌝ }
+{
+    print_first(names, n);
+    if are_names_zero(names, n) {
+        return;
     }
+    io::write_all(STDOUT_FILENO, b" names not zero");
 }
 
 // A plan that is fine: its kept and ignored links and its open ends, and where the ignored ones stand.
@@ -86,14 +97,15 @@ fn print_refused(names: &[u32], work: &[i64], number: u64, id: u64) {
     io::write_all(STDOUT_FILENO, b" refused");
     print(number);
     print(id);
-    print_names(names, zero_from(names, 0));
-    if !is_work_zero(work) {
-        io::write_all(STDOUT_FILENO, b" work not zero");
+    print_names(names, first_zero(names));
+    if is_work_zero(work) {
+        return;
     }
+    io::write_all(STDOUT_FILENO, b" work not zero");
 }
 
 // Checks a plan with lent names and memory, whatever they hold.
-fn check(
+fn check_lent(
     sheet: &[u8],
     contents: Contents,
     places: &[u64],
@@ -114,7 +126,7 @@ fn check(
     }
 }
 
-// Lends what `check` needs: names and memory that are not zeros, for 64 activities and 128 links.
+// Lends what `check_lent` needs: names and memory that are not zeros, for 64 activities and 128 links.
 fn check_read(sheet: &[u8], contents: Contents)
     requires { ⌜ SheetRead (now sheet) contents ⌝ }
 {
@@ -131,7 +143,7 @@ fn check_read(sheet: &[u8], contents: Contents)
     calendars::locate(sheet, contents, &mut places, &mut lengths);
     let mut names = [7u32; 128];
     let mut work = [7i64; 6144];
-    check(sheet, contents, &places, &lengths, &mut names, &mut work);
+    check_lent(sheet, contents, &places, &lengths, &mut names, &mut work);
 }
 
 // The line of a sheet.
