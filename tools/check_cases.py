@@ -25,7 +25,6 @@ MINUTES = 1  # the unit of a lag
 LAST_ID = 2**32 - 1
 
 CLOCK = [P(), C(1440), *[W(day, 0, 1440) for day in range(7)]]
-PAIR = [*CALENDAR, A(1), A(2)]
 cases = []
 
 
@@ -54,39 +53,35 @@ def milestone(id, kind=START, **fields):
     return A(id, kind=kind, minutes=0, **fields)
 
 
+PAIR = [*CALENDAR, task(1), task(2)]
+THREE = [*PAIR, task(3)]
+LOOP = [L(1, 2), L(2, 3), L(3, 1)]
+
+
 # ---- plans that are fine
 case("01's worked sheet", fine(1, [], 2), WORKED)
 case("no activity", fine(0, [], 0), CALENDAR)
-case("one activity", fine(0, [], 1), CALENDAR, task(1))
 case("the rows before 5 are the reading's", refused(2, 0), P())
 
 # ---- 5: calendar with no weekly hours
 case("row 5: P, C alone", refused(5, 0), P(), C())
 case("hours on an E day only are no weekly hours", refused(5, 0), P(), C(), E(19723, 480, 960), task(1))
-case("a day without work and no weekly hours", refused(5, 0), P(), C(), E(19723, 0, 0))
-case("one minute a week", fine(0, [], 0), P(), C(), W(6, 0, 1))
 case("one minute a week, and its day of this week without work", fine(0, [], 1), P(), C(), W(6, 0, 1), E(19729, 0, 0), task(1, minutes=1))
 case("weekly hours and a day length of 0", fine(0, [], 1), P(), C(0), WEEK, task(1))
 case("a second calendar without hours, which no activity names", refused(5, 0), CALENDAR, C(), task(1))
-case("a first calendar without hours", refused(5, 0), P(), C(), C(), WEEK, task(1, calendar=1))
 case("15 calendars, the last without hours", refused(5, 0), P(), *[[C(), W(0, 480, 960)] for _ in range(14)], C())
 case("15 calendars", fine(0, [], 1), P(), *[[C(), W(0, 480, 960)] for _ in range(15)], task(1, calendar=14))
 case("5 of a later calendar before 6", refused(5, 0), CALENDAR, C(), task(4), task(4))
-case("5 before 7, 8 and 9", refused(5, 0), P(), C(), task(1, minutes=-1), task(2, minutes=48000001), task(3, calendar=3))
 
 # ---- 6: id met before
 case("row 6: ids 4, 4", refused(6, 4), CALENDAR, task(4), task(4))
-case("ids 4, 5, 4", refused(6, 4), CALENDAR, task(4), task(5), task(4))
 case("ids 4, 5, 5, 4: the first that was met before", refused(6, 5), CALENDAR, task(4), task(5), task(5), task(4))
 case("the greatest id twice", refused(6, LAST_ID), CALENDAR, task(LAST_ID), task(LAST_ID))
-case("ids that differ in one byte", fine(0, [], 5), CALENDAR, [task(id) for id in (1, 257, 65537, 16777217, LAST_ID)])
-case("ids that leave the same rest by any number of activities up to 5", fine(0, [], 5), CALENDAR, [task(id) for id in (7, 67, 127, 187, 247)])
+case("ids that leave the same rest by the number of activities", fine(0, [], 5), CALENDAR, [task(id) for id in (7, 67, 127, 187, 247)])
 case("those and the second again", refused(6, 67), CALENDAR, [task(id) for id in (7, 67, 127, 187, 67)])
 case("6 before 7, 8 and 9 of the same activity", refused(6, 4), CALENDAR, task(4), task(4, minutes=-1, calendar=9))
 case("7 of an earlier activity before 6", refused(7, 1), CALENDAR, task(1, minutes=-1), task(2), task(2))
-case("8 of an earlier activity before 6", refused(8, 0), CALENDAR, task(1, minutes=48000001), task(1))
 case("9 of an earlier activity before 6", refused(9, 1), CALENDAR, task(1, calendar=1), task(1))
-case("6 of an earlier activity before 7", refused(6, 2), CALENDAR, task(2), task(2), task(1, minutes=-1))
 case("6 before 10", refused(6, 2), CALENDAR, task(1, parent=9), task(2), task(2))
 
 # ---- 7: negative minutes
@@ -95,58 +90,39 @@ case("a task of 0", fine(0, [], 1), CALENDAR, task(1, minutes=0))
 case("the absent mark as minutes is a number", refused(7, 11), CALENDAR, task(12), task(11, minutes=ABSENT))
 case("a summary's minutes are judged", refused(7, 1), CALENDAR, task(1, minutes=-1), task(2, parent=1))
 case("7 before 9 of the same activity", refused(7, 1), CALENDAR, task(1, minutes=-1, calendar=3))
-case("9 of an earlier activity before 7", refused(9, 1), CALENDAR, task(1, calendar=3), task(2, minutes=-1))
-case("7 of the first of two", refused(7, 2), CALENDAR, task(1), task(2, minutes=-2), task(3, minutes=-3))
 
 # ---- 8: too long, a task
 case("row 8: a task of 144,000,001", refused(8, 0), CALENDAR, task(1, minutes=144000001))
-case("a task of 144,000,000", refused(8, 0), CALENDAR, task(1, minutes=144000000))
 case("a task of 48,000,001", refused(8, 0), CALENDAR, task(1, minutes=48000001))
 case("a task of 48,000,000", fine(0, [], 1), CALENDAR, task(1, minutes=48000000))
-case("the longest number of minutes", refused(8, 0), CALENDAR, task(1, minutes=2**31 - 1))
 case("48,000,001 minutes of a day length of 1,440", refused(8, 0), CLOCK, task(1, minutes=48000001))
 case("48,000,000 minutes of a day length of 1,440", fine(0, [], 1), CLOCK, task(1, minutes=48000000))
-case("48,000,000 minutes of a day length of 0", fine(0, [], 1), P(), C(0), WEEK, task(1, minutes=48000000))
 case("a summary's minutes are judged too", refused(8, 0), CALENDAR, task(1, minutes=48000001), task(2, parent=1))
 case("8 before 9 of the same activity", refused(8, 0), CALENDAR, task(1, minutes=48000001, calendar=3))
-case("9 of an earlier activity before 8", refused(9, 1), CALENDAR, task(1, calendar=3), task(2, minutes=48000001))
-case("7 of an earlier activity before 8", refused(7, 1), CALENDAR, task(1, minutes=-1), task(2, minutes=48000001))
 case("a remaining beyond the limit is no refusal", fine(0, [], 1), CLOCK, task(1, actual_start=19723, remaining=144000001))
 
 # ---- 9: no such calendar
 case("row 9: calendar 3 of 1", refused(9, 1), CALENDAR, task(1, calendar=3))
 case("the number at the count: the round-the-clock calendar can't be named", refused(9, 7), CALENDAR, task(7, calendar=1))
-case("calendar 255 of 1", refused(9, 7), CALENDAR, task(7, calendar=255))
 case("calendar 1 of 2", fine(0, [], 1), CALENDAR, C(), WEEK, task(7, calendar=1))
 case("calendar 2 of 2", refused(9, 7), CALENDAR, C(), WEEK, task(7, calendar=2))
-case("calendar 15 of 15", refused(9, 7), P(), *[[C(), W(0, 480, 960)] for _ in range(15)], task(7, calendar=15))
-case("a milestone's calendar", refused(9, 7), CALENDAR, milestone(7, calendar=1))
-case("a summary's calendar", refused(9, 1), CALENDAR, task(1, calendar=1), task(2, parent=1))
-case("9 of the first of two", refused(9, 2), CALENDAR, task(1), task(2, calendar=1), task(3, calendar=1))
 
 # ---- 10: no such parent
 case("row 10: parent 9 alone", refused(10, 1), CALENDAR, task(1, parent=9))
 case("parent 0 is none", fine(0, [], 1), CALENDAR, task(1, parent=0))
 case("a parent that stands later", fine(0, [], 1), CALENDAR, task(1, parent=2), task(2))
-case("10 of the first of two", refused(10, 2), CALENDAR, task(1), task(2, parent=9), task(3, parent=8))
-case("the greatest id as a parent", refused(10, 1), CALENDAR, task(1, parent=LAST_ID))
 case("10 after all 9", refused(9, 2), CALENDAR, task(1, parent=9), task(2, calendar=1))
-case("10 after all 7", refused(7, 2), CALENDAR, task(1, parent=9), task(2, minutes=-1))
 case("10 for all before 11", refused(10, 3), CALENDAR, milestone(1), task(2, parent=1), task(3, parent=9))
-case("10 for all before 12", refused(10, 2), CALENDAR, task(1, parent=1), task(2, parent=9))
 
 # ---- 11: a milestone is a parent
 case("row 11: 2 under milestone 1", refused(11, 1), CALENDAR, milestone(1), task(2, parent=1))
 case("2 under finish milestone 1", refused(11, 1), CALENDAR, milestone(1, FINISH), task(2, parent=1))
 case("milestones under a task", fine(0, [], 2), CALENDAR, task(1), milestone(2, START, parent=1), milestone(3, FINISH, parent=1))
-case("a milestone parent that stands later", refused(11, 1), CALENDAR, task(2, parent=1), milestone(1))
 case("two milestone parents: the first in sheet order, not the first that is named", refused(11, 3), CALENDAR, milestone(3), milestone(4), task(1, parent=4), task(2, parent=3))
 case("a milestone under itself: 11 before 12 of the same activity", refused(11, 1), CALENDAR, milestone(1, parent=1))
 case("11 of an earlier activity before 12", refused(11, 2), CALENDAR, milestone(2), task(3, parent=2), task(1, parent=1))
 case("12 of an earlier activity before 11", refused(12, 1, 1, 1), CALENDAR, task(1, parent=1), milestone(2), task(3, parent=2))
 case("a task and a milestone that are each other's parents: the task comes first", refused(12, 1, 1, 2, 1), CALENDAR, task(1, parent=2), milestone(2, parent=1))
-case("the same, and the milestone comes first", refused(11, 2), CALENDAR, milestone(2, parent=1), task(1, parent=2))
-case("11 before 13", refused(11, 1), CALENDAR, milestone(1), task(2, parent=1), L(1, 9))
 
 # ---- 12: parents close a loop
 case("row 12: 1 under 1", refused(12, 1, 1, 1), CALENDAR, task(1, parent=1))
@@ -155,32 +131,22 @@ case("a loop of 3 parents", refused(12, 1, 1, 2, 3, 1), CALENDAR, task(1, parent
 case("a loop of 3 parents from the first in sheet order, upward", refused(12, 7, 7, 3, 5, 7), CALENDAR, task(7, parent=3), task(5, parent=7), task(3, parent=5))
 case("one that hangs below a loop of 2 is passed over", refused(12, 2, 2, 3, 2), CALENDAR, task(1, parent=2), task(2, parent=3), task(3, parent=2))
 case("one that hangs below a loop of 1", refused(12, 2, 2, 2), CALENDAR, task(1, parent=2), task(2, parent=2))
-case("one that hangs below a loop of 3", refused(12, 3, 3, 4, 2, 3), CALENDAR, task(1, parent=2), task(3, parent=4), task(2, parent=3), task(4, parent=2))
 case("two that hang below a loop", refused(12, 3, 3, 3), CALENDAR, task(1, parent=2), task(2, parent=3), task(3, parent=3))
 case("two loops: the first in sheet order", refused(12, 4, 4, 1, 4), CALENDAR, task(4, parent=1), task(2, parent=3), task(3, parent=2), task(1, parent=4))
-case("a loop after activities without parents", refused(12, 9, 9, 8, 9), CALENDAR, task(1), task(2, parent=1), task(9, parent=8), task(8, parent=9))
 case("the greatest ids in a loop", refused(12, LAST_ID, LAST_ID, LAST_ID - 1, LAST_ID), CALENDAR, task(LAST_ID, parent=LAST_ID - 1), task(LAST_ID - 1, parent=LAST_ID))
 case("parents four deep close none", fine(0, [], 1), CALENDAR, task(1, parent=2), task(2, parent=3), task(3, parent=4), task(4))
 case("64 parents in a loop", refused(12, 1, *range(1, 65), 1), CALENDAR, [task(id, parent=id % 64 + 1) for id in range(1, 65)])
-case("64 parents in a row", fine(0, [], 1), CALENDAR, [task(id, parent=id + 1 if id < 64 else 0) for id in range(1, 65)])
 case("12 before 13", refused(12, 1, 1, 1), CALENDAR, task(1, parent=1), L(9, 1))
-case("12 before 15", refused(12, 3, 3, 3), PAIR, task(3, parent=3), L(1, 2), L(2, 1))
 
 # ---- 13: link to an unknown id
 case("row 13: link 1 to 9", refused(13, 9), CALENDAR, task(1), L(1, 9))
-case("link 9 to 1", refused(13, 9), CALENDAR, task(1), L(9, 1))
 case("both unknown: the predecessor first", refused(13, 8), CALENDAR, task(1), L(8, 7))
 case("9 to 9 with 9 unknown is no link to itself", refused(13, 9), CALENDAR, task(1), L(9, 9))
 case("a predecessor of 0", refused(13, 0), CALENDAR, task(1), L(0, 1))
 case("a successor of 0", refused(13, 0), CALENDAR, task(1), L(1, 0))
-case("0 to 0", refused(13, 0), CALENDAR, task(1), L(0, 0))
-case("the greatest id, unknown", refused(13, LAST_ID), CALENDAR, task(1), L(1, LAST_ID))
 case("a link without any activity", refused(13, 1), CALENDAR, L(1, 2))
 case("from a summary to an unknown id", refused(13, 9), CALENDAR, task(1), task(2, parent=1), L(1, 9))
-case("from an unknown id with a lag too long", refused(13, 9), CALENDAR, task(1), L(9, 1, lag=100001))
-case("13 of the second link", refused(13, 9), PAIR, L(1, 2), L(2, 9))
 case("13 on the first link before 8 on the second", refused(13, 9), PAIR, L(1, 9), L(1, 2, lag=100001))
-case("13 on the first link before 14 on the second", refused(13, 9), PAIR, L(1, 9), L(1, 1))
 case("13 before 15", refused(13, 9), PAIR, L(1, 2), L(2, 1), L(1, 9))
 case("13 after an ignored link: no position is left in names", refused(13, 9), PAIR, task(3, parent=2), L(2, 1), L(1, 2), L(1, 9))
 
@@ -188,79 +154,58 @@ case("13 after an ignored link: no position is left in names", refused(13, 9), P
 case("row 14: link 1 to 1", refused(14, 1), CALENDAR, task(1), L(1, 1))
 case("a link to itself on a summary is never ignored", refused(14, 1), CALENDAR, task(1), task(2, parent=1), L(1, 1))
 case("a link to itself with a lag too long", refused(14, 1), CALENDAR, task(1), L(1, 1, lag=100001))
-case("a link to itself on a summary with a lag too long", refused(14, 1), CALENDAR, task(1), task(2, parent=1), L(1, 1, lag=100001))
-for type in (SS, FF, SF):
-    case(f"a link to itself of type {type}", refused(14, 2), PAIR, L(1, 2), L(2, 2, type=type))
+case("a link to itself of type SF, after a kept one", refused(14, 2), PAIR, L(1, 2), L(2, 2, type=SF))
 case("14 on the first link before 13 on the second", refused(14, 2), PAIR, L(2, 2), L(1, 9))
-case("14 on the first link before 8 on the second", refused(14, 2), PAIR, L(2, 2), L(1, 2, lag=100001))
-case("14 before 15", refused(14, 2), PAIR, L(1, 2), L(2, 1), L(2, 2))
 
 # ---- 8: too long, a kept link's lag; before conversion
-PAIR_CLOCK = [*CLOCK, A(1), A(2)]
+PAIR_CLOCK = [*CLOCK, task(1), task(2)]
 for sign in (1, -1):
-    for name, basis in (("working", 0), ("elapsed", ELAPSED)):
-        case(f"a {name} lag of {sign * 100000} days", fine(1, [], 2), PAIR, L(basis=basis, lag=sign * 100000))
-        case(f"a {name} lag of {sign * 100001} days", refused(8, 0), PAIR, L(basis=basis, lag=sign * 100001))
-        case(f"a {name} lag of {sign * 144000000} minutes", fine(1, [], 2), PAIR_CLOCK, L(basis=basis, unit=MINUTES, lag=sign * 144000000))
-        case(f"a {name} lag of {sign * 144000001} minutes", refused(8, 0), PAIR_CLOCK, L(basis=basis, unit=MINUTES, lag=sign * 144000001))
-    case(f"a lag of {sign * 100000} days of 1,440 minutes", fine(1, [], 2), PAIR_CLOCK, L(lag=sign * 100000))
-    case(f"a lag of {sign * 100001} minutes", fine(1, [], 2), PAIR, L(unit=MINUTES, lag=sign * 100001))
-case("100,001 days of no minute", refused(8, 0), P(), C(0), WEEK, A(1), A(2), L(lag=100001))
-case("100,000 days of no minute", fine(1, [], 2), P(), C(0), WEEK, A(1), A(2), L(lag=100000))
+    for name, basis in (("a working", 0), ("an elapsed", ELAPSED)):
+        case(f"{name} lag of {sign * 100000} days", fine(1, [], 2), PAIR, L(basis=basis, lag=sign * 100000))
+        case(f"{name} lag of {sign * 100001} days", refused(8, 0), PAIR, L(basis=basis, lag=sign * 100001))
+        case(f"{name} lag of {sign * 144000000} minutes", fine(1, [], 2), PAIR_CLOCK, L(basis=basis, unit=MINUTES, lag=sign * 144000000))
+        case(f"{name} lag of {sign * 144000001} minutes", refused(8, 0), PAIR_CLOCK, L(basis=basis, unit=MINUTES, lag=sign * 144000001))
+    case(f"a working lag of {sign * 100000} days of 1,440 minutes", fine(1, [], 2), PAIR_CLOCK, L(lag=sign * 100000))
 case("the absent mark as a lag in days is a number", refused(8, 0), PAIR, L(lag=ABSENT))
 case("the absent mark as a lag in minutes is a number", refused(8, 0), PAIR, L(unit=MINUTES, lag=ABSENT))
-case("8 on the second link", refused(8, 0), PAIR, L(), L(lag=100001))
 
 # ---- 8: after conversion. A percent is clamped to 1,000,000, a hundred times the predecessor's minutes, and divided toward zero
 for sign in (1, -1):
-    long = [*CLOCK, A(1, minutes=1440000), A(2)]
-    longer = [*CLOCK, A(1, minutes=1440001), A(2)]
+    long = [*CLOCK, task(1, minutes=1440000), task(2)]
+    longer = [*CLOCK, task(1, minutes=1440001), task(2)]
     case(f"a percent of {sign * 1000000} of 1,440,000 minutes", fine(1, [], 2), long, L(basis=PERCENT, lag=sign * 1000000))
     case(f"a percent of {sign * 1000001} of 1,440,000 minutes is clamped", fine(1, [], 2), long, L(basis=PERCENT, lag=sign * 1000001))
     case(f"a percent of {sign * 1000000} of 1,440,001 minutes", refused(8, 0), longer, L(basis=PERCENT, lag=sign * 1000000))
     # 144,000,000.9696 and 144,000,001.5603 minutes
-    case(f"a percent of {sign * 30012} of 47,980,808 minutes", fine(1, [], 2), CLOCK, A(1, minutes=47980808), A(2), L(basis=PERCENT, lag=sign * 30012))
-    case(f"a percent of {sign * 30003} of 47,995,201 minutes", refused(8, 0), CLOCK, A(1, minutes=47995201), A(2), L(basis=PERCENT, lag=sign * 30003))
+    case(f"a percent of {sign * 30012} of 47,980,808 minutes", fine(1, [], 2), CLOCK, task(1, minutes=47980808), task(2), L(basis=PERCENT, lag=sign * 30012))
+    case(f"a percent of {sign * 30003} of 47,995,201 minutes", refused(8, 0), CLOCK, task(1, minutes=47995201), task(2), L(basis=PERCENT, lag=sign * 30003))
     case(f"a percent of {sign * 144000001} is checked only after", fine(1, [], 2), PAIR, L(basis=PERCENT, lag=sign * 144000001))
-case("the absent mark as a percent is a number, clamped", fine(1, [], 2), CLOCK, A(1, minutes=1440000), A(2), L(basis=PERCENT, lag=ABSENT))
-case("the greatest percent of a milestone", fine(1, [], 2), CALENDAR, milestone(1), A(2), L(basis=PERCENT, lag=2**31 - 1))
-case("a percent is of the predecessor's minutes", fine(1, [], 2), CLOCK, A(1), A(2, minutes=48000000), L(basis=PERCENT, lag=1000000))
+case("the absent mark as a percent is a number, clamped", fine(1, [], 2), CLOCK, task(1, minutes=1440000), task(2), L(basis=PERCENT, lag=ABSENT))
+case("a percent is of the predecessor's minutes", fine(1, [], 2), CLOCK, task(1), task(2, minutes=48000000), L(basis=PERCENT, lag=1000000))
 case("a percent's unit is unread", fine(1, [], 2), PAIR, L(basis=PERCENT, unit=255, lag=100001))
 
 # ---- 8 and the order of links; ignored links
 case("8 on the first link before 13 on the second", refused(8, 0), PAIR, L(lag=100001), L(1, 9))
-case("8 on the first link before 14 on the second", refused(8, 0), PAIR, L(lag=100001), L(1, 1))
 case("8 before 15", refused(8, 0), PAIR, L(1, 2), L(2, 1, lag=100001))
 case("a lag too long from a summary: ignored", fine(0, [0], 2), CALENDAR, task(1), task(2), task(3, parent=1), L(1, 2, lag=100001))
 case("a lag too long to a summary: ignored", fine(0, [0], 2), CALENDAR, task(1), task(2), task(3, parent=1), L(2, 1, unit=MINUTES, lag=-144000001))
-case("a percent too long after conversion, from a summary: ignored", fine(0, [0], 2), CALENDAR, task(1, minutes=48000000), task(2), task(3, parent=1), L(1, 2, basis=PERCENT, lag=1000000))
 case("a lag too long on a link that is ignored, then on one that is kept", refused(8, 0), CALENDAR, task(1), task(2), task(3, parent=1), L(1, 2, lag=100001), L(2, 3, lag=100001))
 case("an activity is a summary by a child that stands later", fine(1, [0, 2], 2), CALENDAR, task(1), task(2), task(3, parent=1), L(1, 2), L(2, 3), L(3, 1))
-case("from a summary to its own child", fine(0, [0], 1), CALENDAR, task(1), task(2, parent=1), L(1, 2))
-case("between two summaries", fine(0, [0], 2), CALENDAR, task(1), task(2), task(3, parent=1), task(4, parent=2), L(1, 2))
 case("ignored at the positions 1, 3 and 4", fine(3, [1, 3, 4], 2), CALENDAR, task(1), task(2), task(3), task(4), task(5, parent=4),
      L(1, 2), L(4, 1), L(2, 5), L(3, 4), L(4, 3), L(5, 3))
 
 # ---- 15: kept links close a loop
 case("row 15: 1 to 2, 2 to 1", refused(15, 2, 2, 1, 2), PAIR, L(1, 2), L(2, 1))
-case("the same in the other order of links", refused(15, 2, 2, 1, 2), PAIR, L(2, 1), L(1, 2))
 case("the same in the other order of activities", refused(15, 1, 1, 2, 1), CALENDAR, task(2), task(1), L(1, 2), L(2, 1))
-THREE = [*CALENDAR, task(1), task(2), task(3)]
-LOOP = [L(1, 2), L(2, 3), L(3, 1)]
 case("a loop of 3", refused(15, 2, 2, 3, 1, 2), THREE, LOOP)
-case("a loop of 3 the other way round", refused(15, 3, 3, 2, 1, 3), THREE, L(2, 1), L(3, 2), L(1, 3))
 case("one that leads into the loop", refused(15, 2, 2, 3, 1, 2), CALENDAR, task(4), task(1), task(2), task(3), L(4, 1), LOOP)
 case("one that leads out of the loop and stands first", refused(15, 3, 3, 1, 2, 3), CALENDAR, task(4), task(1), task(2), task(3), LOOP, L(2, 4))
-case("one that leads out of the loop and stands last", refused(15, 2, 2, 3, 1, 2), THREE, task(4), LOOP, L(2, 4))
 case("one that leads in and one that leads out of a loop of 2", refused(15, 2, 2, 3, 2), CALENDAR, task(1), task(4), task(2), task(3), L(1, 2), L(3, 4), L(2, 3), L(3, 2))
 case("the loop behind the first that waits", refused(15, 3, 3, 2, 3), THREE, L(3, 2), L(2, 3), L(2, 1))
 case("among waiting predecessors the first in link order", refused(15, 3, 3, 1, 3), THREE, L(3, 1), L(2, 1), L(1, 2), L(1, 3))
 case("two loops apart: that of the first that waits", refused(15, 4, 4, 1, 4), CALENDAR, task(1), task(2), task(3), task(4), L(2, 3), L(3, 2), L(1, 4), L(4, 1))
 case("a loop of all types", refused(15, 2, 2, 3, 4, 1, 2), THREE, task(4), L(1, 2, type=SS), L(2, 3, type=FF), L(3, 4, type=SF), L(4, 1))
-case("a loop of 2 with lags back", refused(15, 2, 2, 1, 2), PAIR, L(1, 2, lag=-5), L(2, 1, lag=-5))
-case("a loop with a link twice", refused(15, 2, 2, 1, 2), PAIR, L(1, 2), L(1, 2), L(2, 1))
 case("a loop beside ignored links: names holds the loop alone", refused(15, 2, 2, 1, 2), PAIR, task(3), task(4, parent=3), L(1, 3), L(1, 3), L(3, 1), L(3, 2), L(1, 2), L(2, 1))
-case("a loop of milestones", refused(15, 2, 2, 1, 2), CALENDAR, milestone(1), milestone(2, FINISH), L(1, 2), L(2, 1))
 case("the greatest ids in a loop of links", refused(15, LAST_ID - 1, LAST_ID - 1, LAST_ID, LAST_ID - 1), CALENDAR, task(LAST_ID), task(LAST_ID - 1), L(LAST_ID, LAST_ID - 1), L(LAST_ID - 1, LAST_ID))
 case("64 in a loop of links", refused(15, 2, *range(2, 65), 1, 2), CALENDAR, [task(id) for id in range(1, 65)], [L(id, id % 64 + 1) for id in range(1, 65)])
 case("1 to 2, 2 to 1, where 2 is a summary: both ignored", fine(0, [0, 1], 2), PAIR, task(3, parent=2), L(1, 2), L(2, 1))
@@ -269,14 +214,10 @@ case("a loop of 3 through a summary", fine(1, [1, 2], 3), THREE, task(4, parent=
 # ---- open ends: non-summaries with no kept incoming or no kept outgoing link
 case("three in a row", fine(2, [], 2), THREE, L(1, 2), L(2, 3))
 case("three without links", fine(0, [], 3), THREE)
-case("a link twice", fine(2, [], 2), PAIR, L(1, 2), L(1, 2, type=SS))
 case("1 to 2 and 3, both to 4", fine(4, [], 2), THREE, task(4), L(1, 2), L(1, 3), L(2, 4), L(3, 4))
-case("1 and 2 to 3, 3 to 4 and 5", fine(4, [], 4), THREE, task(4), task(5), L(1, 3), L(2, 3), L(3, 4), L(3, 5))
 case("an ignored link leaves an end open", fine(1, [1], 3), THREE, task(4, parent=3), L(1, 2), L(2, 3))
-case("ignored links on both sides leave both open", fine(0, [0, 1], 3), THREE, task(4, parent=1), task(5, parent=3), L(1, 2), L(2, 3))
 case("a summary is no open end, its child is", fine(1, [], 3), PAIR, task(3, parent=4), task(4), L(1, 2))
 case("a child with links on both sides is none", fine(2, [], 2), PAIR, task(3, parent=4), task(4), L(1, 3), L(3, 2))
-case("a milestone is one", fine(1, [], 2), CALENDAR, milestone(1), milestone(2, FINISH), L(1, 2))
 
 # ---- the room that is lent: 64 activities and 128 links
 FULL = [*CALENDAR, *[task(id) for id in range(1, 65)]]
