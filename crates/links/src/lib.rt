@@ -98,7 +98,17 @@ fn store_tie(
     let kind = kind_code(sheet, contents, k);
     let calendar = ties::tie_calendar(sheet, contents, k, from, to);
     let lag = tie_lag(sheet, contents, lengths, k, from, to, calendar);
-    put_tie(work, contents.activities, contents.links, t, from, to, kind, lag, calendar);
+    put_tie(
+        work,
+        contents.activities,
+        contents.links,
+        t,
+        from,
+        to,
+        kind,
+        lag,
+        calendar,
+    );
 }
 
 // Judges link `k`, after `kept` kept links and `ignored` ignored ones: a kept link is stored in its row, an ignored one is named.
