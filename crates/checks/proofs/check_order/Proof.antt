@@ -72,8 +72,7 @@ name-links-requires c κs =
     let s = c .before .before .before .before .before .before .before .before .before .before .before in
     let p = planOf (s .args .sheet .now) (s .args .contents) in
     let o = c .before .before .before .before .before .before .before .order-activities .ensures in
-    let n = c .before .before .before .name-loop .ensures in
-    (
+    let n = c .before .before .before .name-loop .ensures in (
       record { read = s .pre .0 .read; room = omega (arith, n .1, o .1, s .pre .0 .room) },
       short-loop p (s .pre .1) (o .0) (waits (c .before .before .before .before .before)) (n .0),
       n .0 .within,
