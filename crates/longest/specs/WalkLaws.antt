@@ -80,17 +80,17 @@ module _ (p : Plan) (S : State) (i : ℕ) (l : i < p .activities) (other : ℕ �
 -- ---- the pass from the memory S₀ on
 module _ (p : Plan) (S₀ : State) where
   -- q activities are done, and the marks stand in S
-  abbrev pub Backward : State → (ℕ → Bool) → ℕ → Type 0
-  Backward S other q = Through (onPath p (earlyIn p S₀)) (reverse (order p)) (pathIn p S₀ other) (pathIn p S other) q
+  abbrev pub PathDone : State → (ℕ → Bool) → ℕ → Type 0
+  PathDone S other q = Through (onPath p (earlyIn p S₀)) (reverse (order p)) (pathIn p S₀ other) (pathIn p S other) q
 
-  abbrev pub backward : (ℕ → Bool) → Pass (ℕ → Bool)
-  backward other = through (onPath p (earlyIn p S₀)) (reverse (order p)) (pathIn p S₀ other)
+  abbrev pub wholePath : (ℕ → Bool) → Pass (ℕ → Bool)
+  wholePath other = through (onPath p (earlyIn p S₀)) (reverse (order p)) (pathIn p S₀ other)
 
-  pub backward-start : (other : ℕ → Bool) → Backward S₀ other 0
-  backward-start other = through-start (onPath p (earlyIn p S₀)) (reverse (order p)) (pathIn p S₀ other)
+  pub path-start : (other : ℕ → Bool) → PathDone S₀ other 0
+  path-start other = through-start (onPath p (earlyIn p S₀)) (reverse (order p)) (pathIn p S₀ other)
 
 module _ (p : Plan) (fine : checked p .number ≡ 0) (S₀ : State) where
-  module _ {t : ℕ} {S : State} (W : Standing p t S) (F : Frame 16 17 0 0 S₀ S) {q : ℕ} (l : q < p .activities) (other : ℕ → Bool) (B : Backward p S₀ S other q)
+  module _ {t : ℕ} {S : State} (W : Standing p t S) (F : Frame 16 17 0 0 S₀ S) {q : ℕ} (l : q < p .activities) (other : ℕ → Bool) (B : PathDone p S₀ S other q)
       (i : ℕ) (at : i ≡ S .act orderAt (p .activities - (q + 1))) (T : State) (r : Step)
       (e : ended (pathIn p T other) r ≡ onPath p (earlyIn p S) (pathIn p S other) i) where
     here : i ≡ getD (reverse (order p)) q 0
@@ -102,16 +102,16 @@ module _ (p : Plan) (fine : checked p .number ≡ 0) (S₀ : State) where
     placed : ended (pathIn p T other) r ≡ onPath p (earlyIn p S₀) (pathIn p S other) i
     placed = e ∙ ap (λ (d : Early). onPath p d (pathIn p S other) i) (early-kept p F)
 
-    pub backward-turn : r ≡ Done → Backward p S₀ T other (q + 1)
-    backward-turn d =
+    pub path-turn : r ≡ Done → PathDone p S₀ T other (q + 1)
+    path-turn d =
         through-turn (onPath p (earlyIn p S₀)) (reverse (order p)) (pathIn p S₀ other) B i here inside (pathIn p T other) r placed d
 
-    pub backward-stop : (m : ℕ) → r ≡ Step.Refused m → refused m ≡ backward p S₀ other
-    backward-stop m d =
+    pub path-stop : (m : ℕ) → r ≡ Step.Refused m → refused m ≡ wholePath p S₀ other
+    path-stop m d =
         through-stop (onPath p (earlyIn p S₀)) (reverse (order p)) (pathIn p S₀ other) B i here inside (pathIn p T other) r placed (pathIn p T other) m d
 
-  pub backward-end : (S : State) (other : ℕ → Bool) {q : ℕ} → Backward p S₀ S other q → p .activities ≤ q → leaves (pathIn p S other) ≡ backward p S₀ other
-  backward-end S other B l =
+  pub path-end : (S : State) (other : ℕ → Bool) {q : ℕ} → PathDone p S₀ S other q → p .activities ≤ q → leaves (pathIn p S other) ≡ wholePath p S₀ other
+  path-end S other B l =
       through-end (onPath p (earlyIn p S₀)) (reverse (order p)) (pathIn p S₀ other) B (omega (arith, reverse-length p fine))
 
 -- ---- the marks of what finishes the project first, and then the pass

@@ -13,7 +13,7 @@ use Rattle.order.specs.Plan.{planOf}
 use Rattle.bounds.specs.ReadyLaws.{activities-are}
 use Rattle.longest.specs.KeptLaws.{lent-kept, stays}
 use Rattle.longest.specs.OrderLaws.{back-below}
-use Rattle.longest.specs.WalkLaws.{Backward, backward-start, backward-turn, backward-stop, backward-end}
+use Rattle.longest.specs.WalkLaws.{PathDone, path-start, path-turn, path-stop, path-end}
 use Rattle.longest.proofs.path_back.Statement.{statement}
 use Rattle.longest.proofs.path_back.Tie as tie
 
@@ -21,7 +21,7 @@ abbrev Inv-loop : tie.InvT-loop
 Inv-loop sheet contents places t work₀ a l q₀ work q =
     (q ≤ contents .activities) × (length work ≡ length work₀)
     × Frame 16 17 0 0 (stateOf (contents .activities) (contents .links) work₀) (stateOf (contents .activities) (contents .links) work)
-    × ((other : ℕ → Bool) → Backward (planOf sheet contents) (stateOf (contents .activities) (contents .links) work₀) (stateOf (contents .activities) (contents .links) work) other q)
+    × ((other : ℕ → Bool) → PathDone (planOf sheet contents) (stateOf (contents .activities) (contents .links) work₀) (stateOf (contents .activities) (contents .links) work) other q)
 
 abbrev μ-loop : tie.MeasureT-loop
 μ-loop sheet contents places t work₀ a l q₀ work q = contents .activities - q
@@ -31,7 +31,7 @@ loop-holds c =
     let x = c .before .before .args in
     let p = planOf (x .sheet .now) (x .contents) in
     let S = stateOf (x .contents .activities) (x .contents .links) (x .work .now) in
-    (omega arith, refl, frame-refl 16 17 0 0 S, backward-start p S)
+    (omega arith, refl, frame-refl 16 17 0 0 S, path-start p S)
 
 add-get-act : tie.Need-add-get-act Inv-loop μ-loop
 add-get-act c = omega (arith, c .before .loop-test .taken)
@@ -102,7 +102,7 @@ returns c =
     let g : c .before .before .before .before .before .before .get-act .result ≡ S .act orderAt (p .activities - (q + 1)) = rw e (c .before .before .before .before .before .before .get-act .ensures .0) in
     let w = stays p (v .2) (z .pre .ready .standing) in (
       λ other.
-          backward-stop p (z .pre .ready .fine) S₀ w (v .2) (omega (arith, e, c .before .before .before .before .before .before .before .before .loop-test .taken)) other (v .3 other) (c .before .before .before .before .before .before .get-act .result) g T (m .result) (m .ensures .0 other) (c .before .r .given .0 .0) (c .before .r .given .1),
+          path-stop p (z .pre .ready .fine) S₀ w (v .2) (omega (arith, e, c .before .before .before .before .before .before .before .before .loop-test .taken)) other (v .3 other) (c .before .before .before .before .before .before .get-act .result) g T (m .result) (m .ensures .0 other) (c .before .r .given .0 .0) (c .before .r .given .1),
       frame-then 16 17 0 0 (v .2) (m .ensures .1),
       m .ensures .2 ∙ v .1,
     )
@@ -137,7 +137,7 @@ loop-again c =
       m .ensures .2 ∙ v .1,
       frame-then 16 17 0 0 (v .2) (m .ensures .1),
       λ other.
-          backward-turn p (z .pre .ready .fine) S₀ w (v .2) (omega (arith, e, c .before .before .before .before .before .before .before .loop-test .taken)) other (v .3 other) (c .before .before .before .before .before .get-act .result) g T (m .result) (m .ensures .0 other) (c .enum-told .given .1),
+          path-turn p (z .pre .ready .fine) S₀ w (v .2) (omega (arith, e, c .before .before .before .before .before .before .before .loop-test .taken)) other (v .3 other) (c .before .before .before .before .before .get-act .result) g T (m .result) (m .ensures .0 other) (c .enum-told .given .1),
     )
 
 same-length-2 : tie.Need-same-length-2 Inv-loop μ-loop
@@ -154,7 +154,7 @@ returns-2 c =
     let S₀ = stateOf a l (x .work .now) in
     let v = b .loop .inv in
     let e = activities-are (x .sheet .now) (x .contents) in
-    (λ other. backward-end p (z .pre .ready .fine) S₀ (stateOf a l (b .loop .work)) other (v .3 other) (omega (arith, e, c .loop-test .left)), v .2, v .1)
+    (λ other. path-end p (z .pre .ready .fine) S₀ (stateOf a l (b .loop .work)) other (v .3 other) (omega (arith, e, c .loop-test .left)), v .2, v .1)
 
 pub path-back-spec : {M : Type 1} → statement M
 path-back-spec =
