@@ -23,11 +23,12 @@ use Rattle.order.specs.Plan.{Plan, planOf}
 use Rattle.passes.specs.Plan.{recorded}
 use Rattle.passes.specs.Dates.{Pass, leaves, refused, put}
 use Rattle.passes.specs.Forward.{leftOf, leftBelow}
+use Rattle.passes.specs.Run.{remaining}
 use Rattle.dates.specs.declared.Step.{Step}
 use Rattle.dates.specs.declared.Step.the-variants.{Done}
-use Rattle.dates.specs.Columns.{column, ended}
+use Rattle.dates.specs.Columns.{column, leftIn, ended}
 use Rattle.dates.specs.ColumnLaws.{column-none, column-same, column-more}
-use Rattle.dates.specs.Standing.{actualOf, actualIn, Ready}
+use Rattle.dates.specs.Standing.{actualOf, actualIn, Ready, Recorded}
 use Rattle.dates.specs.StandingLaws.{standing-kept}
 use Rattle.remaining.specs.Rows.{howOf, startOf, finishOf, kept, leftTo, Row, Passed}
 
@@ -81,14 +82,14 @@ module _ (S : State) (i : ℕ) (x : Actual) (m : ℕ) where
       (frame-put 14 20 0 0 workLeft (omega arith) (omega arith) ended′ i (pos m))))
 
 -- one put after another
-pub kept-steps : (S T U V W : State) (i : ℕ) (x : Actual) (h s f m : ℕ) → T ≡ putAct S recordedAs i h → U ≡ putAct T recordedStart i s
-    → V ≡ putAct U recordedFinish i f → W ≡ putAct V workLeft i m → h ≡ howOf x → s ≡ startOf x → f ≡ finishOf x → W ≡ kept S i x m
+pub kept-steps : (S T U X Y : State) (i : ℕ) (x : Actual) (h s f m : ℕ) → T ≡ putAct S recordedAs i h → U ≡ putAct T recordedStart i s
+    → X ≡ putAct U recordedFinish i f → Y ≡ putAct X workLeft i m → h ≡ howOf x → s ≡ startOf x → f ≡ finishOf x → Y ≡ kept S i x m
 unfolding kept
-kept-steps S T U V W i x h s f m t u v w eh es ef =
+kept-steps S T U X Y i x h s f m t u v w eh es ef =
     let t′ : T ≡ putAct S recordedAs i (howOf x) = t ∙ ap (putAct S recordedAs i) eh in
     let u′ = u ∙ (λ z. putAct (t′ z) recordedStart i (es z)) in
     let v′ = v ∙ (λ z. putAct (u′ z) recordedFinish i (ef z)) in
-    w ∙ ap (λ (X : State). putAct X workLeft i m) v′
+    w ∙ ap (λ (Z : State). putAct Z workLeft i m) v′
 
 -- ---- the two ways of a row
 module _ (p : Plan) (i : ℕ) (S : State) where
@@ -161,3 +162,6 @@ module _ (p : Plan) where
     -- whatever stands in the memory then
     pub passed-stop : (k : ℕ) → r ≡ Step.Refused k → i < p .activities → refused k ≡ leftBelow p (p .activities)
     passed-stop k d l = sym (stays k d (p .activities) (omega arith))
+
+  pub passed-end : (i : ℕ) (S : State) → i ≡ p .activities → Passed p i S → (leaves (leftIn p S) ≡ remaining p) × Recorded p S
+  passed-end i S e P = let Q : Passed p (p .activities) S = rw e at P in (sym (Q .left), Q .recorded)

@@ -89,7 +89,14 @@ fn since_start(
         OptionalDate::Absent => {
             return Walk::At(whole);
         }
-        OptionalDate::On(day) => match clock::between(week, sheet, at, n, start, later(day.midnight(), start)) {
+        OptionalDate::On(day) => match clock::between(
+            week,
+            sheet,
+            at,
+            n,
+            start,
+            later(day.midnight(), start),
+        ) {
             Work::Minutes(done) => {
                 return Walk::At(less(whole, number::sign::upward(done)));
             }
@@ -199,8 +206,22 @@ fn keep(work: &mut [i64], a: usize, l: usize, i: usize, actual: Actual, left: u6
     ensures { λ _. ⌜ (stateOf a l (now (work .exit)) ≡ kept (stateOf a l (now (work .entry))) i actual left) × (length (now (work .exit)) ≡ length (now (work .entry))) ⌝ }
 {
     memory::put_act(work, a, l, i, memory::fields::RECORDED_AS, how_of(actual));
-    memory::put_act(work, a, l, i, memory::fields::RECORDED_START, start_of(actual));
-    memory::put_act(work, a, l, i, memory::fields::RECORDED_FINISH, finish_of(actual));
+    memory::put_act(
+        work,
+        a,
+        l,
+        i,
+        memory::fields::RECORDED_START,
+        start_of(actual),
+    );
+    memory::put_act(
+        work,
+        a,
+        l,
+        i,
+        memory::fields::RECORDED_FINISH,
+        finish_of(actual),
+    );
     memory::put_act(work, a, l, i, memory::fields::WORK_LEFT, left);
 }
 

@@ -43,10 +43,9 @@ returns c =
     let p2 = c2 .put-act2 .ensures in
     let c1 = c2 .before .before .before .before in
     let p1 = c1 .put-act .ensures in
-    let x = c1 .before .before .before .args in
-    (
+    let x = c1 .before .before .before .args in (
       kept-steps _ _ _ _ _ (x .i) (x .actual) _ _ _ (x .left) (p1 .0) (p2 .0) (p3 .0) (p4 .0) (c1 .before .how-of .ensures .0) (c2 .before .start-of .ensures)
-      (c3 .before .finish-of .ensures),
+          (c3 .before .finish-of .ensures),
       p4 .1 ∙ p3 .1 ∙ p2 .1 ∙ p1 .1,
     )
 

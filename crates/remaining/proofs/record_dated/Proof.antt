@@ -62,8 +62,7 @@ keep-requires c κs =
     let S = c .before .before .before .before .before .before .before .before .before .before .before in
     let p = plan S in
     let i = S .args .i in
-    let x = l .before .actual .result in
-    (
+    let x = l .before .actual .result in (
       S .pre .2,
       S .pre .3,
       is-below p i x (recorded-is (l .before)),

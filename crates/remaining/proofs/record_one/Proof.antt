@@ -42,7 +42,7 @@ no-summary : (c : tie.Else1) → summary (plan (c .before .before .before .befor
 no-summary c = mark-unset _ _ (marked (c .before)) (c .if1 .left)
 
 get-act-requires : tie.Need-get-act-requires
-get-act-requires c κs = ?
+get-act-requires c κs = let S = c .before .before .before in (S .pre .0 .room, S .pre .1, omega arith)
 
 keep-requires : tie.Need-keep-requires
 keep-requires c κs =
@@ -57,14 +57,13 @@ returns c =
     let S = c .before .before .before .before .before .before .before .before in
     let p = plan S in
     let i = S .args .i in
-    let e = recorded-summary p i (is-summary (c .before .before .before)) in
-    (
+    let e = recorded-summary p i (is-summary (c .before .before .before)) in (
       row-kept p i _ _ Unstarted 0 (c .before .keep .ensures .0) (sym e) unstarted (left-unstarted p i e ∙ ap At (full-summary p i (is-summary (c .before .before .before)))),
       c .before .keep .ensures .1,
     )
 
 activity-of-requires : tie.Need-activity-of-requires
-activity-of-requires c κs = ?
+activity-of-requires c κs = let S = c .before .before .before .before .before in (S .pre .0 .read, S .pre .1)
 
 minutes-of-requires : tie.Need-minutes-of-requires
 minutes-of-requires c κs = search needs
@@ -73,7 +72,7 @@ status-of-requires : tie.Need-status-of-requires
 status-of-requires c κs = search needs
 
 fits : (c : tie.After-struct-told) → SFits w32 (c .before .activity-of .result .minutes)
-fits c = ?
+fits c = record { sfits = c .struct-told .given .1 .1 .1 .1 .0 .1 }
 
 -- the minutes are the activity's
 whole-is : (c : tie.After-minutes-of) → c .minutes-of .result ≡ full (plan (c .before .before .before .before .before .before .before .before)) (c .before .before .before .before .before .before .before .before .args .i)
@@ -89,8 +88,7 @@ enum-told c = search needs
 record-dated-requires : tie.Need-record-dated-requires
 record-dated-requires c κs =
     let S = c .before .before .before .before .before .before .before .before .before .before .before in
-    let m = c .before .before .before in
-    (
+    let m = c .before .before .before in (
       S .pre .0 .read,
       S .pre .0 .located,
       S .pre .0 .room,
@@ -127,8 +125,7 @@ returns-3 c =
     let S = c .before .before .before .before .before .before .before .before .before .before .before .before .before .before in
     let p = plan S in
     let i = S .args .i in
-    let e = none-recorded (c .before .before .before) in
-    (
+    let e = none-recorded (c .before .before .before) in (
       row-kept p i _ _ Unstarted _ (c .before .keep2 .ensures .0) (sym e) unstarted (left-unstarted p i e ∙ ap At (sym (whole-is (c .before .before .before .before .before .before)))),
       c .before .keep2 .ensures .1,
     )
