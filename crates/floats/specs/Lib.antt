@@ -1,0 +1,3 @@
+-- Free float and held late moves over the lent memory.
+pub mod Slack
+pub mod SlackLaws
