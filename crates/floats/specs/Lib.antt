@@ -1,3 +1,6 @@
 -- Free float and held late moves over the lent memory.
 pub mod Slack
 pub mod SlackLaws
+pub mod FitLaws
+pub mod StoreLaws
+pub mod PassLaws

@@ -1,6 +1,6 @@
 -- Free float and the held late move in plain form: what each stage finds, before anything is stored.
 use mathlib.Core.Path.{_≡_}
-use mathlib.Core.Bool.{Bool, true, false, not, _&&_, _||_}
+use mathlib.Core.Bool.{Bool, true, false, _&&_, _||_}
 use mathlib.Core.List.{List}
 use Prim.Native.Nat.{ℕ}
 use lib.Dec.{eqb}
@@ -25,7 +25,8 @@ use Rattle.passes.specs.Plan.{own, tie, tiesOut, recorded, begun}
 use Rattle.passes.specs.Dates.{Early, Freed}
 use Rattle.passes.specs.Forward.{forwardBound}
 use Rattle.passes.specs.Floats.{measured, isLate, targetOf, notBegun, freeBy}
-use Rattle.memory.specs.State.{State}
+use Rattle.memory.specs.State.{State, putAct}
+use Rattle.memory.specs.Fields.{earlyStart, earlyFinish, freeFloat}
 use Rattle.calendars.specs.Calendars.{IsCalendar}
 use Rattle.dates.specs.Columns.{earlyIn, freeIn}
 use Rattle.floats.specs.declared.Moved.{Moved}
@@ -40,11 +41,12 @@ pub record Own (s : List ℕ) (c : Contents) (i : ℕ) (activity : Activity) (we
   pub is : activity ≡ planOf s c .activity i
   pub calendar : IsCalendar s c (calendarOf (planOf s c) i) week at n
 
--- ---- the held late move, by values: w the activity's own worked minutes, `left` its work left, n the minutes of the move
+-- as late as possible in either constraint, and not begun
 module _ (p : Plan) (d : Early) where
-  unfoldable pub heldBy : Bool → Actual → Constraint → Constraint → Bool
-  heldBy summary actual first second = not summary && notBegun p d actual && (isLate first || isLate second)
+  unfoldable pub markedLate : Actual → Constraint → Constraint → Bool
+  markedLate actual first second = notBegun p d actual && (isLate first || isLate second)
 
+-- ---- the held late move, by values: w the activity's own worked minutes, `left` its work left, n the minutes of the move
 unfoldable pub startMoved : (ℕ → Bool) → ActivityKind → ℕ → ℕ → ℕ → ℕ → Walk
 startMoved w kind es ef left n =
     via Refused (advance w es n)
@@ -57,6 +59,15 @@ startMoved w kind es ef left n =
 unfoldable pub datesMoved : (ℕ → Bool) → ActivityKind → ℕ → ℕ → ℕ → ℕ → Moved
 datesMoved w kind es ef left n =
     via Moved.Refused (startMoved w kind es ef left n) (λ s. via Moved.Refused (finishOf w left s) (λ f. To s f))
+
+-- what follows a held late move
+abbrev pub onMoved : {A : Type 0} → (ℕ → A) → Moved → (ℕ → ℕ → A) → A
+onMoved refusal (To s f) go = go s f
+onMoved refusal (Moved.Refused k) go = refusal k
+
+-- the state with the move of activity i to s and f
+abbrev pub stored : State → ℕ → ℕ → ℕ → State
+stored S i s f = putAct (putAct (putAct S earlyStart i s) earlyFinish i f) freeFloat i 0
 
 -- ---- free float
 module _ (p : Plan) where
@@ -78,6 +89,11 @@ module _ (p : Plan) where
 
     unfoldable pub slackOf : ℕ → ℕ → Work
     slackOf finish i = measured Work.Refused (between (own p i) (d .ef i) finish) (leastSlack i (tiesOut p i))
+
+    -- where the links out of activity i count from
+    pub record From (i start finish : ℕ) : Type 0 where
+      pub start-is : start ≡ begun p (recorded p i) (d .es i)
+      pub finish-is : finish ≡ d .ef i
 
     -- the free float in minutes; lf is the late finish
     unfoldable pub freeOf : ℕ → ℕ → ℕ → Walk

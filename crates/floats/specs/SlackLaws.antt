@@ -30,7 +30,7 @@ use Rattle.passes.specs.Forward.{forwardBound, early}
 use Rattle.passes.specs.Floats.{measured, isLate, targetOf, gap, slackBy, notBegun, holdsLate, heldStart, heldMove, freeBy, freed, freeFloat}
 use Rattle.floats.specs.declared.Moved.{Moved}
 use Rattle.floats.specs.declared.Moved.the-variants.{To}
-use Rattle.floats.specs.Slack.{heldBy, startMoved, datesMoved, gapBy, gapOf, slackStep, leastSlack, slackOf, freeOf}
+use Rattle.floats.specs.Slack.{markedLate, startMoved, datesMoved, onMoved, gapBy, gapOf, slackStep, leastSlack, slackOf, freeOf}
 
 -- ---- what follows a count
 module _ {A : Type 0} (refusal : ℕ → A) (x : Work) (go : ℤ → A) where
@@ -79,15 +79,14 @@ module _ (p : Plan) (d : Early) where
   unfolding heldStart startMoved
   held-start-is i n = refl
 
-  pub holds-late-is : (i : ℕ)
-      → holdsLate p d i ≡ heldBy p d (summary p i) (recorded p i) (p .activity i .constraint) (p .activity i .«secondary_constraint»)
-  unfolding holdsLate heldBy
-  holds-late-is i = refl
+  pub holds-late-summary : (i : ℕ) → summary p i ≡ true → holdsLate p d i ≡ false
+  unfolding holdsLate
+  holds-late-summary i e = rw e
 
--- what follows a held late move
-abbrev pub onMoved : {A : Type 0} → (ℕ → A) → Moved → (ℕ → ℕ → A) → A
-onMoved refusal (To s f) go = go s f
-onMoved refusal (Moved.Refused k) go = refusal k
+  pub holds-late-else : (i : ℕ) → summary p i ≡ false
+      → holdsLate p d i ≡ markedLate p d (recorded p i) (p .activity i .constraint) (p .activity i .«secondary_constraint»)
+  unfolding holdsLate markedLate
+  holds-late-else i e = rw e
 
 moved-via : {A : Type 0} (refusal : ℕ → A) (x : Walk) (f : ℕ → Walk) (go : ℕ → ℕ → A)
     → onMoved refusal (via Moved.Refused x (λ s. via Moved.Refused (f s) (λ u. To s u))) go ≡ via refusal x (λ s. via refusal (f s) (λ u. go s u))
@@ -123,23 +122,19 @@ free-is p finish l x i =
     ∙ measured-same refused (slackOf p d finish i) _ _ (λ least. sym (via-measured refused total (λ z. At (freeBy p d (recorded p i) least z)) last))
     ∙ sym (via-measured refused (slackOf p d finish i) (λ least. measured Refused total (λ z. At (freeBy p d (recorded p i) least z))) last)
 
--- ---- held late, by its ways
-module _ (p : Plan) (d : Early) (sum : Bool) (actual : Actual) (first second : Constraint) where
-  pub held-summary : sum ≡ true → heldBy p d sum actual first second ≡ false
-  unfolding heldBy
-  held-summary e = rw e
+-- ---- the mark, by its ways
+module _ (p : Plan) (d : Early) (actual : Actual) (first second : Constraint) where
+  pub marked-first : actual ≡ Unstarted → isLate first ≡ true → markedLate p d actual first second ≡ true
+  unfolding markedLate
+  marked-first e f = rw (e, f)
 
-  pub held-first : sum ≡ false → actual ≡ Unstarted → isLate first ≡ true → heldBy p d sum actual first second ≡ true
-  unfolding heldBy
-  held-first e f g = rw (e, f, g)
+  pub marked-second : actual ≡ Unstarted → isLate first ≡ false → markedLate p d actual first second ≡ isLate second
+  unfolding markedLate
+  marked-second e f = rw (e, f)
 
-  pub held-second : sum ≡ false → actual ≡ Unstarted → isLate first ≡ false → heldBy p d sum actual first second ≡ isLate second
-  unfolding heldBy
-  held-second e f g = rw (e, f, g)
-
-  pub held-begun : sum ≡ false → notBegun p d actual ≡ false → heldBy p d sum actual first second ≡ false
-  unfolding heldBy
-  held-begun e f = rw (e, f)
+  pub marked-begun : notBegun p d actual ≡ false → markedLate p d actual first second ≡ false
+  unfolding markedLate
+  marked-begun e = rw e
 
 -- ---- the moved start and dates, by their ways
 module _ (w : ℕ → Bool) (kind : ActivityKind) (es ef left n : ℕ) where

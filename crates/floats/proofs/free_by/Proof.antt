@@ -3,6 +3,7 @@ use borrow.Author.Needs.{needs}
 use mathlib.Core.Path.{_≡_, sym, ap, _∙_}
 use native.Mathlib.Omega.{arith}
 use lib.IntN.{ℤ}
+use mir.Facts.{toZ-ofZ}
 use Rattle.number.specs.Zed.{up}
 use Rattle.placing.specs.declared.Actual.{Actual}
 use Rattle.passes.specs.Floats.{freeBy}
@@ -48,18 +49,22 @@ enum-told-4 c = search needs
 -- src/lib.rt:51:1
 returns : tie.Need-returns
 returns c =
-    let x = c .before .before .before .before .args in
+    let s = c .before .before .before .before in
+    let x = s .args in
+    let e = rw (toZ-ofZ (s .fits .slack), toZ-ofZ (s .fits .total)) at (c .before .min .ensures) in
+    let g = rw (toZ-ofZ (record { sfits = c .before .min .ok })) at (c .upward .ensures .0) in
     (λ p d.
-    c .upward .ensures .0 ∙ ap (λ (z : ℤ). up z) (c .before .min .ensures)
-    ∙ sym (ap (λ (a : Actual). freeBy p d a (x .slack) (x .total)) (c .before .before .enum-told .given .1)), c .upward .ensures .1)
+    g ∙ ap (λ (z : ℤ). up z) e ∙ sym (ap (λ (a : Actual). freeBy p d a (x .slack) (x .total)) (c .before .before .enum-told .given .1)), c .upward .ensures .1)
 
 -- src/lib.rt:51:1
 returns-2 : tie.Need-returns-2
 returns-2 c =
-    let x = c .before .before .before .before .args in
+    let s = c .before .before .before .before in
+    let x = s .args in
+    let e = rw (toZ-ofZ (s .fits .slack), toZ-ofZ (s .fits .total)) at (c .before .min2 .ensures) in
+    let g = rw (toZ-ofZ (record { sfits = c .before .min2 .ok })) at (c .upward2 .ensures .0) in
     (λ p d.
-    c .upward2 .ensures .0 ∙ ap (λ (z : ℤ). up z) (c .before .min2 .ensures)
-    ∙ sym (ap (λ (a : Actual). freeBy p d a (x .slack) (x .total)) (c .before .before .enum-told2 .given .1)), c .upward2 .ensures .1)
+    g ∙ ap (λ (z : ℤ). up z) e ∙ sym (ap (λ (a : Actual). freeBy p d a (x .slack) (x .total)) (c .before .before .enum-told2 .given .1)), c .upward2 .ensures .1)
 
 -- src/lib.rt:51:1
 returns-3 : tie.Need-returns-3
