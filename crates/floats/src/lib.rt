@@ -34,8 +34,6 @@ ghost use Rattle.dates.specs.Columns.{earlyIn, lateIn, freeIn, ended};
 ghost use Rattle.dates.specs.Standing.{actualIn, Ready, Recorded};
 ghost use Rattle.floats.specs.Slack.{freedIn, Own, markedLate, startMoved, datesMoved, stored, gapBy, leastSlack, slackOf, From, freeOf};
 
-pub mod stub;
-
 // Where a held late move puts an activity: its new start and finish.
 pub enum Moved {
     To(u64, u64),
@@ -194,7 +192,7 @@ fn gap_at(
     let a = contents.activities;
     let l = contents.links;
     let tie = dates::tie_at(work, a, l, k);
-    match stub::forward_bound(sheet, contents, places, tie, start, finish) {
+    match bounds::forward_bound(sheet, contents, places, tie, start, finish) {
         Walk::At(b) => {
             let kind = tie.kind;
             let target = target_at(work, a, l, kind, tie.to);
