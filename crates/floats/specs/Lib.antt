@@ -3,4 +3,5 @@ pub mod Slack
 pub mod SlackLaws
 pub mod FitLaws
 pub mod StoreLaws
+pub mod GapLaws
 pub mod PassLaws

@@ -7,7 +7,8 @@ use native.Mathlib.Omega.{arith}
 use lib.IntN.{ℤ}
 use lib.ListN.{length, getD, length-reverse}
 use Rattle.number.specs.Order.{eq-or-ne, lt-or-le}
-use Rattle.memory.specs.State.{State, stateOf}
+use Rattle.memory.specs.State.{State, stateOf, fillAct}
+use Rattle.memory.specs.Fields as fields
 use Rattle.memory.specs.Fields.{lateStart, lateFinish, orderAt, recordedAs, recordedStart, recordedFinish}
 use Rattle.topology.specs.Frame.{Frame}
 use Rattle.network.specs.KahnLaws.{kahn-below}
@@ -17,12 +18,16 @@ use Rattle.order.specs.Checks.{Verdict, order, checked, beforeOrdering, judgeOr
 use Rattle.order.specs.VerdictLaws.{or-fine}
 use Rattle.order.specs.CheckLaws.{order-loop}
 use Rattle.order.specs.TieLaws.{kept-ranged}
-use Rattle.passes.specs.Dates.{Late}
-use Rattle.dates.specs.Columns.{lateIn}
+use Rattle.passes.specs.Dates.{Late, Freed, through}
+use Rattle.passes.specs.Floats.{freeFloat}
+use Rattle.dates.specs.declared.Step.{Step}
+use Rattle.dates.specs.Columns.{earlyIn, lateIn, ended}
 use Rattle.dates.specs.ColumnLaws.{column-same}
 use Rattle.dates.specs.Standing.{Standing, Ready, Recorded}
 use Rattle.dates.specs.StandingLaws.{standing-kept, recorded-kept}
 use Rattle.bounds.specs.ReadyLaws.{activities-are, ready-fine}
+use Rattle.floats.specs.Slack.{freedIn}
+use Rattle.floats.specs.StoreLaws.{free-cleared}
 
 -- ---- a row backward
 module _ (q : ℕ) where
@@ -79,6 +84,11 @@ backward-at {s} {c} R q l =
     ∙ ap (λ (n : ℕ). getD (order (planOf s c)) (n - (q + 1)) 0) (sym (order-length R))
     ∙ sym (reverse-at (order (planOf s c)) q (omega (arith, order-length R)))
 
+pub backward-below : {s : List ℕ} {c : Contents} {places : List ℕ} {t : ℕ} {xs : List ℤ} (R : Ready s c places t xs) (q : ℕ) → q < c .activities
+    → stateOf (c .activities) (c .links) xs .act orderAt (c .activities - (q + 1)) < c .activities
+backward-below {s} {c} R q l =
+    omega (arith, order-at R (c .activities - (q + 1)) (omega arith), order-below R (c .activities - (q + 1)) (omega arith))
+
 pub backward-length : {s : List ℕ} {c : Contents} {places : List ℕ} {t : ℕ} {xs : List ℤ} → Ready s c places t xs
     → length (reverse (order (planOf s c))) ≡ c .activities
 backward-length {s} {c} R = length-reverse (order (planOf s c)) ∙ order-length R
@@ -104,3 +114,22 @@ ready-after {s} {c} R F e = record {
   fine = R .fine;
   standing = standing-kept F (planOf s c) (omega arith) (R .standing);
 }
+
+-- one step, with the late dates as they were before the pass
+pub step-kept : {S T : State} → Frame 12 16 0 0 S T → (p : Plan) (finish i : ℕ) (y : Freed) (r : Step)
+    → ((e : ℕ) → ended y r ≡ freeFloat p finish (lateIn p T e) (freedIn p T) i)
+    → (e : ℕ) → ended y r ≡ freeFloat p finish (lateIn p S e) (freedIn p T) i
+step-kept {S} {T} F p finish i y r h e = h e ∙ ap (λ (l : Late). freeFloat p finish l (freedIn p T) i) (late-kept F p e)
+
+-- the pass from no free float on
+pub pass-cleared : (s : List ℕ) (c : Contents) {S T : State} → Frame 12 16 0 0 S T → T ≡ fillAct S fields.freeFloat (c .activities) 0
+    → (finish : ℕ) (rows : List ℕ) (e : ℕ)
+    → through (freeFloat (planOf s c) finish (lateIn (planOf s c) T e)) rows (freedIn (planOf s c) T)
+      ≡ through (freeFloat (planOf s c) finish (lateIn (planOf s c) S e)) rows (record { early = earlyIn (planOf s c) S; free = λ i. 0 })
+pass-cleared s c {S} {T} F h finish rows e =
+    let p = planOf s c in
+    let x : freedIn p T ≡ record { early = earlyIn p S; free = λ i. 0 } =
+        ap (freedIn p) (h ∙ ap (λ (n : ℕ). fillAct S fields.freeFloat n 0) (sym (activities-are s c))) ∙ free-cleared p S
+    in
+    let y = late-kept F p e in
+    λ z. through (freeFloat p finish (y z)) rows (x z)

@@ -1,20 +1,28 @@
+-- `floats::gap_at` meets its contract. Each way out has its law.
 use borrow.Author.Needs.{needs}
+use mathlib.Core.Path.{_≡_, refl, sym, ap, _∙_}
+use native.Mathlib.Omega.{arith}
+use Rattle.clock.specs.On.{workedOn}
+use Rattle.order.specs.Plan.{planOf}
+use Rattle.bounds.specs.ReadyLaws.{kept-within}
+use Rattle.bounds.specs.LinkLaws.{to-in, lead-fits}
+use Rattle.floats.specs.GapLaws.{gap-refused, gap-between}
 use Rattle.floats.proofs.gap_at.Statement.{statement}
 use Rattle.floats.proofs.gap_at.Tie as tie
 use Rattle.floats.proofs.gap_at.Reads as reads
 use Rattle.floats.proofs.gap_at.Lts as lts
 use Rattle.clock.proofs.between.Reads as between-reads
 use Rattle.dates.proofs.tie_at.Reads as tie-at-reads
-use Rattle.floats.proofs.stub.forward_bound.Reads as forward-bound-reads
+use Rattle.bounds.proofs.forward_bound.Reads as forward-bound-reads
 use Rattle.floats.proofs.target_at.Reads as target-at-reads
 
 -- src/lib.rt:196:9
 tie-at-requires : tie.Need-tie-at-requires
-tie-at-requires c κs = ?
+tie-at-requires c κs = let q = c .before .before .pre in (q .0 .room, omega (arith, kept-within (q .0), q .1))
 
 -- src/lib.rt:197:11
 forward-bound-requires : tie.Need-forward-bound-requires
-forward-bound-requires c κs = ?
+forward-bound-requires c κs = let q = c .before .before .before .pre in (q .0 .read, q .0 .located, lead-fits (q .0) _ (q .1) _ (c .tie-at .ensures))
 
 -- src/lib.rt:198:18
 enum-known-b : tie.Need-enum-known-b
@@ -22,15 +30,21 @@ enum-known-b c = search needs
 
 -- src/lib.rt:200:17
 target-at-requires : tie.Need-target-at-requires
-target-at-requires c κs = ?
+target-at-requires c κs = let q = c .before .before .before .before .before .before .before .pre in (q .0 .room, to-in (q .0) _ (q .1) _ (c .before .before .before .before .tie-at .ensures))
 
 -- src/lib.rt:201:13
 between-requires : tie.Need-between-requires
-between-requires c κs = search needs
+between-requires c κs = c .before .before .before .before .before .before .before .before .pre .2
 
 -- src/lib.rt:201:13
 returns : tie.Need-returns
-returns c = ?
+returns c = 
+    let s = c .before .before .before .before .before .before .before .before .before in
+    let x = s .args in
+    let w = workedOn (x .week) (x .sheet .now) (x .at) (x .n) in
+    c .between .ensures
+    ∙ gap-between (s .pre .0) (x .k) (s .pre .1) _ (c .before .before .before .before .before .before .tie-at .ensures) w (x .start) (x .finish) _ (c .before .before .before .before .before .forward-bound .ensures) _ _ (c .before .before .before .b .given .1)
+    (c .before .target-at .ensures (planOf (x .sheet .now) (x .contents)))
 
 -- src/lib.rt:203:23
 enum-known-number : tie.Need-enum-known-number
@@ -38,7 +52,11 @@ enum-known-number c = search needs
 
 -- src/lib.rt:204:13
 returns-2 : tie.Need-returns-2
-returns-2 c = ?
+returns-2 c = 
+    let s = c .before .before .before .before .before .before .before in
+    let x = s .args in
+    let w = workedOn (x .week) (x .sheet .now) (x .at) (x .n) in
+    gap-refused (s .pre .0) (x .k) (s .pre .1) _ (c .before .before .before .before .tie-at .ensures) w (x .start) (x .finish) _ (c .before .before .before .forward-bound .ensures) _ (c .before .number .given .1)
 
 pub gap-at-spec : {M : Type 1} → statement M
 gap-at-spec =
