@@ -2,12 +2,10 @@
 use mathlib.Core.Path.{_≡_, sym, _∙_}
 use mathlib.Core.Bool.{Bool}
 use mathlib.Core.Logic.{⊎-elim}
-use Prim.Native.Nat.{ℕ, _+_, _≤_, _<_}
+use Prim.Native.Nat.{ℕ, _≤_, _<_}
 use native.Mathlib.Omega.{arith}
 use Rattle.number.specs.Order.{eq-or-ne, lt-or-le}
-use Rattle.worktime.specs.declared.Walk.{Walk}
-use Rattle.worktime.specs.declared.Walk.the-variants.{At, Refused}
-use Rattle.worktime.specs.Worked.{count}
+use Rattle.worktime.specs.declared.Walk.the-variants.{At}
 use Rattle.worktime.specs.Count.{count-mono}
 use Rattle.worktime.specs.Reads.{at-or-refused}
 use Rattle.worktime.specs.Walks.{endMinute, advance, retreat}

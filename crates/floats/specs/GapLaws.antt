@@ -1,8 +1,8 @@
 -- The slack before the successors of an activity, from what stands in the memory: one link's part, and the walk along the links out of it.
-use mathlib.Core.Path.{_≡_, refl, sym, ap, _∙_}
+use mathlib.Core.Path.{_≡_, sym, ap, _∙_}
 use mathlib.Core.Bool.{Bool}
 use mathlib.Core.List.{List}
-use Prim.Native.Nat.{ℕ, _+_, _≤_, _<_}
+use Prim.Native.Nat.{ℕ, _≤_, _<_}
 use native.Mathlib.Omega.{arith}
 use lib.IntN.{ℤ}
 use Rattle.number.specs.Sign.{minZ}
@@ -13,7 +13,7 @@ use Rattle.worktime.specs.declared.Work.the-variants.{Minutes}
 use Rattle.worktime.specs.Walks.{between}
 use Rattle.placing.specs.declared.Actual.{Actual}
 use Rattle.placing.specs.PlacingLaws.{via-at, via-refused}
-use Rattle.cells.specs.Chain.{after, Stands, gather}
+use Rattle.cells.specs.Chain.{after, gather}
 use Rattle.cells.specs.ChainLaws.{Cursor, cursor-start, cursor-turn, cursor-stop, cursor-end}
 use Rattle.memory.specs.State.{State, stateOf}
 use Rattle.memory.specs.Fields.{firstOut, earlyStart, earlyFinish, fromField, nextOut}

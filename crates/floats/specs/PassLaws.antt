@@ -13,7 +13,10 @@ use Rattle.memory.specs.Fields.{lateStart, lateFinish, orderAt, recordedAs, rec
 use Rattle.topology.specs.Frame.{Frame}
 use Rattle.network.specs.KahnLaws.{kahn-below}
 use Rattle.sheet.specs.declared.Contents.{Contents}
-use Rattle.order.specs.Plan.{Plan, planOf}
+use Rattle.calendar.specs.declared.Period.{Period}
+use Rattle.project.specs.declared.Activity.{Activity}
+use Rattle.order.specs.Plan.{Plan, planOf, weekOfCalendar, exceptionPlace, exceptionNumber}
+use Rattle.order.specs.Ties.{calendarOf}
 use Rattle.order.specs.Checks.{Verdict, order, checked, beforeOrdering, judgeOrder}
 use Rattle.order.specs.VerdictLaws.{or-fine}
 use Rattle.order.specs.CheckLaws.{order-loop}
@@ -23,11 +26,22 @@ use Rattle.passes.specs.Floats.{freeFloat}
 use Rattle.dates.specs.declared.Step.{Step}
 use Rattle.dates.specs.Columns.{earlyIn, lateIn, ended}
 use Rattle.dates.specs.ColumnLaws.{column-same}
-use Rattle.dates.specs.Standing.{Standing, Ready, Recorded}
+use Rattle.dates.specs.Standing.{Ready, Recorded}
 use Rattle.dates.specs.StandingLaws.{standing-kept, recorded-kept}
 use Rattle.bounds.specs.ReadyLaws.{activities-are, ready-fine}
-use Rattle.floats.specs.Slack.{freedIn}
+use Rattle.floats.specs.Slack.{freedIn, Own}
 use Rattle.floats.specs.StoreLaws.{free-cleared}
+
+-- an activity that was read, and the calendar of the number that it gives
+pub own-is : (s : List ℕ) (c : Contents) (i : ℕ) (activity : Activity) (week : List (List Period)) (at n : ℕ) → activity ≡ planOf s c .activity i
+    → week ≡ weekOfCalendar s c (activity .calendar) → at ≡ exceptionPlace s c (activity .calendar) → n ≡ exceptionNumber s c (activity .calendar)
+    → Own s c i activity week at n
+own-is s c i activity week at n e w x y =
+    let k : activity .calendar ≡ calendarOf (planOf s c) i = ap (λ (a : Activity). a .calendar) e in
+    record {
+      is = e;
+      calendar = record { week-is = w ∙ ap (weekOfCalendar s c) k; at-is = x ∙ ap (exceptionPlace s c) k; n-is = y ∙ ap (exceptionNumber s c) k };
+    }
 
 -- ---- a row backward
 module _ (q : ℕ) where

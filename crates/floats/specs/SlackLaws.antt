@@ -1,11 +1,10 @@
 -- The plain forms are the definition's: free float in two stages, and the way laws of each.
 use mathlib.Core.Path.{_≡_, refl, sym, ap, _∙_}
-use mathlib.Core.Bool.{Bool, true, false, not, _&&_, _||_}
+use mathlib.Core.Bool.{Bool, true, false}
 use mathlib.Core.List.{List, [], _∷_}
-use Prim.Native.Nat.{ℕ, _<_}
-use native.Mathlib.Omega.{arith}
+use Prim.Native.Nat.{ℕ}
 use borrow.Author.Tests.{eq-eqb, ne-eqb}
-use lib.Dec.{eqb, ltb}
+use lib.Dec.{eqb}
 use lib.IntN.{ℤ}
 use Rattle.number.specs.Sign.{minZ}
 use Rattle.worktime.specs.declared.Walk.{Walk}
@@ -17,20 +16,19 @@ use Rattle.worktime.specs.Reads.{on-true, on-false}
 use Rattle.project.specs.declared.ActivityKind.{ActivityKind}
 use Rattle.project.specs.declared.Constraint.{Constraint}
 use Rattle.placing.specs.declared.Actual.{Actual}
-use Rattle.placing.specs.declared.Actual.the-variants.{Unstarted, Begun, Completed}
+use Rattle.placing.specs.declared.Actual.the-variants.{Unstarted}
 use Rattle.placing.specs.Placing.{via, placeStart, finishOf}
 use Rattle.placing.specs.PlacingLaws.{via-at, via-refused}
 use Rattle.cells.specs.Chain.{gather}
 use Rattle.order.specs.Plan.{Plan}
 use Rattle.order.specs.Ids.{summary}
-use Rattle.order.specs.Ties.{Tie}
 use Rattle.passes.specs.Plan.{own, tie, tiesOut, kindOf, recorded, begun}
 use Rattle.passes.specs.Dates.{Early, Late, Freed, Pass, leaves, refused, put}
 use Rattle.passes.specs.Forward.{forwardBound, early}
-use Rattle.passes.specs.Floats.{measured, isLate, targetOf, gap, slackBy, notBegun, holdsLate, heldStart, heldMove, freeBy, freed, freeFloat}
+use Rattle.passes.specs.Floats.{measured, isLate, gap, slackBy, notBegun, holdsLate, heldStart, heldMove, freeBy, freed, freeFloat}
 use Rattle.floats.specs.declared.Moved.{Moved}
 use Rattle.floats.specs.declared.Moved.the-variants.{To}
-use Rattle.floats.specs.Slack.{markedLate, startMoved, datesMoved, onMoved, gapBy, gapOf, slackStep, leastSlack, slackOf, freeOf}
+use Rattle.floats.specs.Slack.{markedLate, startMoved, datesMoved, onMoved, gapBy, gapOf, leastSlack, slackOf, freeOf}
 
 -- ---- what follows a count
 module _ {A : Type 0} (refusal : ℕ → A) (x : Work) (go : ℤ → A) where

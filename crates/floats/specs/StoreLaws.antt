@@ -1,5 +1,5 @@
 -- What is stored of an activity's free float and held late move, as the definition has it.
-use mathlib.Core.Path.{_≡_, refl, sym, ap, ap₂, _∙_}
+use mathlib.Core.Path.{_≡_, refl, sym, ap, _∙_}
 use mathlib.Core.Bool.{Bool, true, false, _&&_}
 use Prim.Native.Nat.{ℕ, _≤_, _<_}
 use native.Mathlib.Omega.{arith}
@@ -13,7 +13,6 @@ use Rattle.project.specs.declared.Activity.{Activity}
 use Rattle.placing.specs.declared.Actual.{Actual}
 use Rattle.worktime.specs.declared.Walk.the-variants.{At, Refused}
 use Rattle.memory.specs.State.{State, putAct, fillAct}
-use Rattle.memory.specs.StateLaws.{fill-act-field}
 use Rattle.memory.specs.Fields.{lateFinish, earlyStart, earlyFinish, workLeft, freeFloat}
 use Rattle.placing.specs.PlacingLaws.{via-at, via-refused}
 use Rattle.topology.specs.Frame.{Frame}
@@ -22,11 +21,11 @@ use Rattle.order.specs.Plan.{Plan}
 use Rattle.order.specs.Ids.{summary}
 use Rattle.number.specs.Bit.{bit}
 use Rattle.passes.specs.Plan.{own, kindOf, origin, recorded}
-use Rattle.passes.specs.Dates.{Early, Freed, Pass, leaves, refused, put}
+use Rattle.passes.specs.Dates.{Early, leaves, refused, put}
 use Rattle.passes.specs.Forward.{early}
 use Rattle.passes.specs.Floats as floats
 use Rattle.passes.specs.Floats.{holdsLate, heldMove, freed}
-use Rattle.dates.specs.Columns.{column, leftIn, earlyIn, lateIn, freeIn}
+use Rattle.dates.specs.Columns.{leftIn, earlyIn, lateIn, freeIn}
 use Rattle.dates.specs.ColumnLaws.{put-is, column-at, column-put, column-fill}
 use Rattle.floats.specs.declared.Moved.{Moved}
 use Rattle.floats.specs.declared.Moved.the-variants.{To}

@@ -18,7 +18,7 @@ ghost use Rattle.number.specs.Bit.{bit};
 ghost use Rattle.calendar.specs.Records.{Valid};
 ghost use Rattle.clock.specs.On.{workedOn};
 ghost use Rattle.worktime.specs.declared.Walk.the-variants.{At};
-ghost use Rattle.memory.specs.State.{Room, stateOf, putAct};
+ghost use Rattle.memory.specs.State.{Room, stateOf};
 ghost use Rattle.memory.specs.Fields.{isSummary, lateFinish, earlyStart, earlyFinish};
 ghost use Rattle.topology.specs.Frame.{Frame};
 ghost use Rattle.sheet.specs.Known.{SheetRead};

@@ -1,6 +1,6 @@
 -- `floats::free_by` meets its contract.
 use borrow.Author.Needs.{needs}
-use mathlib.Core.Path.{_≡_, sym, ap, _∙_}
+use mathlib.Core.Path.{sym, ap, _∙_}
 use native.Mathlib.Omega.{arith}
 use lib.IntN.{ℤ}
 use mir.Facts.{toZ-ofZ}
@@ -9,44 +9,31 @@ use Rattle.placing.specs.declared.Actual.{Actual}
 use Rattle.passes.specs.Floats.{freeBy}
 use Rattle.floats.proofs.free_by.Statement.{statement}
 use Rattle.floats.proofs.free_by.Tie as tie
-use Rattle.floats.proofs.free_by.Reads as reads
-use Rattle.floats.proofs.free_by.Lts as lts
-use Rattle.number.proofs.sign.min.Reads as min-reads
-use Rattle.number.proofs.sign.upward.Reads as upward-reads
 
--- src/lib.rt:55:51
 enum-told : tie.Need-enum-told
 enum-told c = search needs
 
--- src/lib.rt:55:51
 min-requires : tie.Need-min-requires
 min-requires c κs = search needs
 
--- src/lib.rt:55:30
 upward-requires : tie.Need-upward-requires
 upward-requires c κs = search needs
 
--- src/lib.rt:56:50
 enum-told-2 : tie.Need-enum-told-2
 enum-told-2 c = search needs
 
--- src/lib.rt:56:50
 min-requires-2 : tie.Need-min-requires-2
 min-requires-2 c κs = search needs
 
--- src/lib.rt:56:29
 upward-requires-2 : tie.Need-upward-requires-2
 upward-requires-2 c κs = search needs
 
--- src/lib.rt:57:36
 enum-told-3 : tie.Need-enum-told-3
 enum-told-3 c = search needs
 
--- src/lib.rt:58:31
 enum-told-4 : tie.Need-enum-told-4
 enum-told-4 c = search needs
 
--- src/lib.rt:51:1
 returns : tie.Need-returns
 returns c =
     let s = c .before .before .before .before in
@@ -56,7 +43,6 @@ returns c =
     (λ p d.
     g ∙ ap (λ (z : ℤ). up z) e ∙ sym (ap (λ (a : Actual). freeBy p d a (x .slack) (x .total)) (c .before .before .enum-told .given .1)), c .upward .ensures .1)
 
--- src/lib.rt:51:1
 returns-2 : tie.Need-returns-2
 returns-2 c =
     let s = c .before .before .before .before in
@@ -66,12 +52,10 @@ returns-2 c =
     (λ p d.
     g ∙ ap (λ (z : ℤ). up z) e ∙ sym (ap (λ (a : Actual). freeBy p d a (x .slack) (x .total)) (c .before .before .enum-told2 .given .1)), c .upward2 .ensures .1)
 
--- src/lib.rt:51:1
 returns-3 : tie.Need-returns-3
 returns-3 c =
     let x = c .before .before .args in (λ p d. sym (ap (λ (a : Actual). freeBy p d a (x .slack) (x .total)) (c .enum-told3 .given .1)), omega arith)
 
--- src/lib.rt:51:1
 returns-4 : tie.Need-returns-4
 returns-4 c =
     let x = c .before .before .args in (λ p d. sym (ap (λ (a : Actual). freeBy p d a (x .slack) (x .total)) (c .enum-told4 .given .1)), omega arith)

@@ -1,6 +1,6 @@
 -- `floats::gap_at` meets its contract. Each way out has its law.
 use borrow.Author.Needs.{needs}
-use mathlib.Core.Path.{_≡_, refl, sym, ap, _∙_}
+use mathlib.Core.Path.{_∙_}
 use native.Mathlib.Omega.{arith}
 use Rattle.clock.specs.On.{workedOn}
 use Rattle.order.specs.Plan.{planOf}
@@ -9,34 +9,22 @@ use Rattle.bounds.specs.LinkLaws.{to-in, lead-fits}
 use Rattle.floats.specs.GapLaws.{gap-refused, gap-between}
 use Rattle.floats.proofs.gap_at.Statement.{statement}
 use Rattle.floats.proofs.gap_at.Tie as tie
-use Rattle.floats.proofs.gap_at.Reads as reads
-use Rattle.floats.proofs.gap_at.Lts as lts
-use Rattle.clock.proofs.between.Reads as between-reads
-use Rattle.dates.proofs.tie_at.Reads as tie-at-reads
-use Rattle.bounds.proofs.forward_bound.Reads as forward-bound-reads
-use Rattle.floats.proofs.target_at.Reads as target-at-reads
 
--- src/lib.rt:196:9
 tie-at-requires : tie.Need-tie-at-requires
 tie-at-requires c κs = let q = c .before .before .pre in (q .0 .room, omega (arith, kept-within (q .0), q .1))
 
--- src/lib.rt:197:11
 forward-bound-requires : tie.Need-forward-bound-requires
 forward-bound-requires c κs = let q = c .before .before .before .pre in (q .0 .read, q .0 .located, lead-fits (q .0) _ (q .1) _ (c .tie-at .ensures))
 
--- src/lib.rt:198:18
 enum-known-b : tie.Need-enum-known-b
 enum-known-b c = search needs
 
--- src/lib.rt:200:17
 target-at-requires : tie.Need-target-at-requires
 target-at-requires c κs = let q = c .before .before .before .before .before .before .before .pre in (q .0 .room, to-in (q .0) _ (q .1) _ (c .before .before .before .before .tie-at .ensures))
 
--- src/lib.rt:201:13
 between-requires : tie.Need-between-requires
 between-requires c κs = c .before .before .before .before .before .before .before .before .pre .2
 
--- src/lib.rt:201:13
 returns : tie.Need-returns
 returns c = 
     let s = c .before .before .before .before .before .before .before .before .before in
@@ -46,11 +34,9 @@ returns c =
     ∙ gap-between (s .pre .0) (x .k) (s .pre .1) _ (c .before .before .before .before .before .before .tie-at .ensures) w (x .start) (x .finish) _ (c .before .before .before .before .before .forward-bound .ensures) _ _ (c .before .before .before .b .given .1)
     (c .before .target-at .ensures (planOf (x .sheet .now) (x .contents)))
 
--- src/lib.rt:203:23
 enum-known-number : tie.Need-enum-known-number
 enum-known-number c = search needs
 
--- src/lib.rt:204:13
 returns-2 : tie.Need-returns-2
 returns-2 c = 
     let s = c .before .before .before .before .before .before .before in

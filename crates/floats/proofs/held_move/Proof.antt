@@ -1,47 +1,34 @@
 -- `floats::held_move` meets its contract. Each way out has its law.
 use borrow.Author.Needs.{needs}
-use mathlib.Core.Path.{_≡_, sym, ap, _∙_}
+use mathlib.Core.Path.{sym, _∙_}
 use Rattle.floats.specs.SlackLaws.{dates-moved-refuses, dates-moved-far, dates-moved-to}
 use Rattle.floats.proofs.held_move.Statement.{statement}
 use Rattle.floats.proofs.held_move.Tie as tie
-use Rattle.floats.proofs.held_move.Reads as reads
-use Rattle.floats.proofs.held_move.Lts as lts
-use Rattle.floats.proofs.held_start.Reads as held-start-reads
-use Rattle.placing.proofs.finish_of.Reads as finish-of-reads
 
--- src/lib.rt:117:11
 held-start-requires : tie.Need-held-start-requires
 held-start-requires c κs = search needs
 
--- src/lib.rt:118:18
 enum-known-s : tie.Need-enum-known-s
 enum-known-s c = search needs
 
--- src/lib.rt:118:30
 finish-of-requires : tie.Need-finish-of-requires
 finish-of-requires c κs = search needs
 
--- src/lib.rt:119:22
 enum-known-f : tie.Need-enum-known-f
 enum-known-f c = search needs
 
--- src/lib.rt:120:27
 enum-known-k : tie.Need-enum-known-k
 enum-known-k c = search needs
 
--- src/lib.rt:122:23
 enum-known-k-2 : tie.Need-enum-known-k-2
 enum-known-k-2 c = search needs
 
--- src/lib.rt:103:1
 returns : tie.Need-returns
 returns c = sym (dates-moved-to _ _ _ _ _ _ _ (sym (c .before .before .before .before .before .before .before .held-start .ensures) ∙ c .before .before .before .before .before .s .given .1) _ (sym (c .before .before .before .finish-of .ensures) ∙ c .before .f .given .1))
 
--- src/lib.rt:103:1
 returns-2 : tie.Need-returns-2
 returns-2 c = sym (dates-moved-far _ _ _ _ _ _ _ (sym (c .before .before .before .before .before .before .before .held-start .ensures) ∙ c .before .before .before .before .before .s .given .1) _ (sym (c .before .before .before .finish-of .ensures) ∙ c .before .k .given .1))
 
--- src/lib.rt:103:1
 returns-3 : tie.Need-returns-3
 returns-3 c = sym (dates-moved-refuses _ _ _ _ _ _ _ (sym (c .before .before .before .held-start .ensures) ∙ c .before .k2 .given .1))
 

@@ -1,8 +1,7 @@
 -- `floats::hold_late` meets its contract. Each way out has its law.
 use borrow.Author.Needs.{needs}
-use mathlib.Core.Path.{_≡_, refl, sym, ap, _∙_}
+use mathlib.Core.Path.{refl, sym, ap, _∙_}
 use native.Mathlib.Omega.{arith}
-use mathlib.Core.Path.{subst}
 use Rattle.project.specs.declared.Activity.{Activity}
 use Rattle.calendars.specs.CalendarLaws.{calendar-valid, calendar-worked}
 use Rattle.order.specs.Plan.{planOf}
@@ -11,49 +10,36 @@ use Rattle.memory.specs.State.{State, stateOf}
 use Rattle.topology.specs.Frame.{Frame}
 use Rattle.topology.specs.FrameLaws.{frame-refl}
 use Rattle.bounds.specs.ReadyLaws.{activities-are}
-use Rattle.floats.specs.Slack.{freedIn, stored}
+use Rattle.floats.specs.Slack.{freedIn}
 use Rattle.floats.specs.FitLaws.{moved-bound}
 use Rattle.floats.specs.StoreLaws.{stored-frame, held-to, held-refused}
 use Rattle.floats.proofs.hold_late.Statement.{statement}
 use Rattle.floats.proofs.hold_late.Tie as tie
-use Rattle.floats.proofs.hold_late.Reads as reads
-use Rattle.floats.proofs.hold_late.Lts as lts
-use Rattle.floats.proofs.held_move.Reads as held-move-reads
-use Rattle.floats.proofs.store_move.Reads as store-move-reads
-use Rattle.memory.proofs.get_act.Reads as get-act-reads
 
--- src/lib.rt:367:9
 get-act-requires : tie.Need-get-act-requires
 get-act-requires c κs = let q = c .before .before .pre in (q .1, q .2, omega arith)
 
--- src/lib.rt:368:9
 get-act-requires-2 : tie.Need-get-act-requires-2
 get-act-requires-2 c κs = let q = c .before .before .before .before .pre in (q .1, q .2, omega arith)
 
--- src/lib.rt:369:9
 get-act-requires-3 : tie.Need-get-act-requires-3
 get-act-requires-3 c κs = let q = c .before .before .before .before .before .before .pre in (q .1, q .2, omega arith)
 
--- src/lib.rt:370:11
 held-move-requires : tie.Need-held-move-requires
 held-move-requires c κs = let q = c .before .before .before .before .before .before .before .pre in calendar-valid (q .3 .calendar) (q .0)
 
--- src/lib.rt:371:19
 enum-known-start : tie.Need-enum-known-start
 enum-known-start c = search needs
 
--- src/lib.rt:372:13
 store-move-requires : tie.Need-store-move-requires
 store-move-requires c κs =
     let q = c .before .before .before .before .before .before .before .before .before .before .before .before .pre in
     let m = moved-bound _ _ _ _ _ _ _ _ (sym (c .before .before .before .before .held-move .ensures) ∙ c .before .before .start .given .1) in
     (q .1, q .2, omega arith, omega arith)
 
--- src/lib.rt:373:13
 same-length : tie.Need-same-length
 same-length c = search needs
 
--- src/lib.rt:373:13
 returns : tie.Need-returns
 returns c =
     let s = c .before .before .before .before .before .before .before .before .before .before .before .before .before .before in
@@ -69,15 +55,12 @@ returns c =
     let F : Frame 12 16 0 0 S (stateOf (x .contents .activities) (x .contents .links) (c .before .store-move .last .0)) = rw e (stored-frame S (x .i) _ _) in
     (ap (λ (T : State). leaves (freedIn p T)) e ∙ h, F, c .before .store-move .ensures .1)
 
--- src/lib.rt:375:24
 enum-known-k : tie.Need-enum-known-k
 enum-known-k c = search needs
 
--- src/lib.rt:376:13
 same-length-2 : tie.Need-same-length-2
 same-length-2 c = search needs
 
--- src/lib.rt:376:13
 returns-2 : tie.Need-returns-2
 returns-2 c =
     let s = c .before .before .before .before .before .before .before .before .before .before .before in

@@ -1,56 +1,42 @@
 -- `floats::is_marked_late` meets its contract. Each way out has its law.
 use borrow.Author.Needs.{needs}
-use mathlib.Core.Path.{_≡_, sym, ap, _∙_}
+use mathlib.Core.Path.{sym, ap, _∙_}
 use Rattle.passes.specs.Floats.{notBegun}
 use Rattle.floats.specs.SlackLaws.{marked-first, marked-second, marked-begun}
 use Rattle.floats.proofs.is_marked_late.Statement.{statement}
 use Rattle.floats.proofs.is_marked_late.Tie as tie
-use Rattle.floats.proofs.is_marked_late.Reads as reads
-use Rattle.floats.proofs.is_marked_late.Lts as lts
-use Rattle.floats.proofs.is_late.Reads as is-late-reads
 
--- src/lib.rt:46:16
 enum-told : tie.Need-enum-told
 enum-told c = search needs
 
--- src/lib.rt:46:16
 is-late-requires : tie.Need-is-late-requires
 is-late-requires c κs = search needs
 
--- src/lib.rt:47:17
 returns : tie.Need-returns
 returns c = λ p d. sym (marked-first p d _ _ _ (c .before .before .enum-told .given .1) (sym (c .before .is-late .ensures) ∙ c .if1 .taken))
 
--- src/lib.rt:49:13
 is-late-requires-2 : tie.Need-is-late-requires-2
 is-late-requires-2 c κs = search needs
 
--- src/lib.rt:51:29
 enum-told-2 : tie.Need-enum-told-2
 enum-told-2 c = search needs
 
--- src/lib.rt:52:36
 enum-told-3 : tie.Need-enum-told-3
 enum-told-3 c = search needs
 
--- src/lib.rt:53:31
 enum-told-4 : tie.Need-enum-told-4
 enum-told-4 c = search needs
 
--- src/lib.rt:41:1
 returns-2 : tie.Need-returns-2
 returns-2 c = λ p d.
     c .is-late2 .ensures ∙ sym (marked-second p d _ _ _ (c .before .before .before .enum-told .given .1) (sym (c .before .before .is-late .ensures) ∙ c .before .if1 .left))
 
--- src/lib.rt:41:1
 returns-3 : tie.Need-returns-3
 returns-3 c = λ p d. sym (marked-begun p d _ _ _ (ap (notBegun p d) (c .enum-told2 .given .1)))
 
--- src/lib.rt:41:1
 returns-4 : tie.Need-returns-4
 returns-4 c = λ p d. sym (marked-begun p d _ _ _ (ap (notBegun p d) (c .enum-told3 .given .1)))
 
--- src/lib.rt:41:1
 returns-5 : tie.Need-returns-5
 returns-5 c = λ p d. sym (marked-begun p d _ _ _ (ap (notBegun p d) (c .enum-told4 .given .1)))
 

@@ -1,6 +1,6 @@
 -- `floats::is_moved` meets its contract. Each way out has its law.
 use borrow.Author.Needs.{needs}
-use mathlib.Core.Path.{_≡_, refl, sym, ap, _∙_}
+use mathlib.Core.Path.{_∙_}
 use native.Mathlib.Omega.{arith}
 use Rattle.order.specs.Plan.{planOf}
 use Rattle.memory.specs.State.{stateOf}
@@ -8,13 +8,7 @@ use Rattle.dates.specs.Columns.{earlyIn}
 use Rattle.floats.specs.StoreLaws.{unmoved-none, unmoved-summary, moved-by-mark}
 use Rattle.floats.proofs.is_moved.Statement.{statement}
 use Rattle.floats.proofs.is_moved.Tie as tie
-use Rattle.floats.proofs.is_moved.Reads as reads
-use Rattle.floats.proofs.is_moved.Lts as lts
-use Rattle.dates.proofs.recorded_at.Reads as recorded-at-reads
-use Rattle.floats.proofs.is_marked_late.Reads as is-marked-late-reads
-use Rattle.memory.proofs.get_act.Reads as get-act-reads
 
--- src/lib.rt:329:9
 returns : tie.Need-returns
 returns c =
     let s = c .before .before in
@@ -23,11 +17,9 @@ returns c =
     let d = earlyIn p (stateOf (x .contents .activities) (x .contents .links) (x .work .now)) in
     unmoved-none p d (x .i) (x .free) (c .if1 .taken)
 
--- src/lib.rt:331:8
 get-act-requires : tie.Need-get-act-requires
 get-act-requires c κs = let q = c .before .before .pre in (q .0, q .1, omega arith)
 
--- src/lib.rt:332:9
 returns-2 : tie.Need-returns-2
 returns-2 c =
     let s = c .before .before .before .before in
@@ -36,15 +28,12 @@ returns-2 c =
     let d = earlyIn p (stateOf (x .contents .activities) (x .contents .links) (x .work .now)) in
     unmoved-summary p d (x .i) (x .free) _ (c .before .get-act .ensures .0 ∙ s .pre .3) (c .if2 .taken)
 
--- src/lib.rt:334:9
 recorded-at-requires : tie.Need-recorded-at-requires
 recorded-at-requires c κs = let q = c .before .before .before .before .pre in (q .0, q .1)
 
--- src/lib.rt:337:5
 is-marked-late-requires : tie.Need-is-marked-late-requires
 is-marked-late-requires c κs = search needs
 
--- src/lib.rt:315:1
 returns-3 : tie.Need-returns-3
 returns-3 c =
     let s = c .before .before .before .before .before .before in

@@ -1,6 +1,6 @@
 -- `floats::least_slack` meets its contract: `least` is the least of the links before k.
 use borrow.Author.Needs.{needs}
-use mathlib.Core.Path.{_≡_, refl, sym, ap, _∙_}
+use mathlib.Core.Path.{sym, _∙_}
 use native.Mathlib.Omega.{arith}
 use Prim.Native.Nat.{_-_}
 use mir.Val.{toZ}
@@ -9,7 +9,6 @@ use mir.Syntax.{w64}
 
 use Rattle.worktime.specs.declared.Work.the-variants.{Minutes}
 use Rattle.clock.specs.On.{workedOn}
-use Rattle.number.specs.Sign.{minZ}
 use Rattle.cells.specs.ChainLaws.{Cursor}
 use Rattle.memory.specs.State.{stateOf}
 use Rattle.memory.specs.Fields.{fromField}
@@ -21,12 +20,6 @@ use Rattle.floats.specs.Slack.{slackStep}
 use Rattle.floats.specs.GapLaws.{gap-own, slack-start, slack-later, slack-turn, slack-stop, slack-end}
 use Rattle.floats.proofs.least_slack.Statement.{statement}
 use Rattle.floats.proofs.least_slack.Tie as tie
-use Rattle.floats.proofs.least_slack.Reads as reads
-use Rattle.floats.proofs.least_slack.Lts as lts
-use Rattle.floats.proofs.gap_at.Reads as gap-at-reads
-use Rattle.memory.proofs.get_act.Reads as get-act-reads
-use Rattle.memory.proofs.get_link.Reads as get-link-reads
-use Rattle.number.proofs.sign.min.Reads as min-reads
 
 abbrev Inv-loop : tie.InvT-loop
 Inv-loop sheet contents places t work i start finish week at n slack a l least₀ k₀ least k =
@@ -35,34 +28,27 @@ Inv-loop sheet contents places t work i start finish week at n slack a l least�
 abbrev μ-loop : tie.MeasureT-loop
 μ-loop sheet contents places t work i start finish week at n slack a l least₀ k₀ least k = t - k
 
--- src/lib.rt:230:17
 get-act-requires : tie.Need-get-act-requires Inv-loop μ-loop
 get-act-requires c κs = let q = c .before .before .pre in (q .0 .room, q .1, omega arith)
 
--- src/lib.rt:231:5
 loop-holds : tie.Need-loop-holds Inv-loop μ-loop
 loop-holds c = 
     let s = c .before .before .before in
     let x = s .args in
     rw (toZ-ofZ (s .fits .slack)) (slack-start (s .pre .0) (x .i) (x .slack) _ (s .pre .1) (c .get-act .ensures .0))
 
--- src/lib.rt:232:15
 gap-at-requires : tie.Need-gap-at-requires Inv-loop μ-loop
 gap-at-requires c κs = let q = c .before .before .before .before .before .pre in (q .0, c .loop-test .taken, calendar-valid (q .2) (q .0 .read))
 
--- src/lib.rt:233:27
 enum-known-gap : tie.Need-enum-known-gap Inv-loop μ-loop
 enum-known-gap c = search needs
 
--- src/lib.rt:234:17
 min-requires : tie.Need-min-requires Inv-loop μ-loop
 min-requires c κs = search needs
 
--- src/lib.rt:236:27
 enum-known-number : tie.Need-enum-known-number Inv-loop μ-loop
 enum-known-number c = search needs
 
--- src/lib.rt:237:17
 returns : tie.Need-returns Inv-loop μ-loop
 returns c = 
     let s = c .before .before .before .before .before .before .before .before .before in
@@ -73,18 +59,15 @@ returns c =
     let C = rw (toZ-ofZ (s .fits .slack)) at (L .inv) in
     slack-stop (q .0) (x .i) (x .slack) C (c .before .before .before .before .loop-test .taken) _ (sym (c .before .before .before .gap-at .ensures ∙ gap-own (q .0) (x .i) (L .k) (x .start) (x .finish) w (calendar-worked (q .2)) (q .3)) ∙ c .before .number .given .1)
 
--- src/lib.rt:240:13
 get-link-requires : tie.Need-get-link-requires Inv-loop μ-loop
 get-link-requires c κs = let q = c .before .before .before .before .before .before .before .before .before .before .pre in (q .0 .room, omega (arith, kept-within (q .0), c .before .before .before .before .before .loop-test .taken), omega arith)
 
--- src/lib.rt:231:5
 loop-less : tie.Need-loop-less Inv-loop μ-loop
 loop-less c = 
     let L = c .before .before .before .before .before .before .before .loop in
     let t = c .before .before .before .before .before .before .loop-test .taken in
     omega (arith, t, slack-later (c .before .before .before .before .before .before .before .before .before .before .before .pre .0) (c .before .before .before .before .before .before .before .before .before .before .before .args .i) (c .before .before .before .before .before .before .before .before .before .before .before .args .slack) (L .k) _ t (c .get-link .ensures .0))
 
--- src/lib.rt:231:5
 loop-again : tie.Need-loop-again Inv-loop μ-loop
 loop-again c = 
     let s = c .before .before .before .before .before .before .before .before .before .before .before in
@@ -97,7 +80,6 @@ loop-again c =
     rw (toZ-ofZ (s .fits .slack), toZ-ofZ (record { sfits = c .before .min .ok }), g)
     (slack-turn (q .0) (x .i) (x .slack) C (c .before .before .before .before .before .before .loop-test .taken) _ (sym (c .before .before .before .before .before .gap-at .ensures ∙ gap-own (q .0) (x .i) (L .k) (x .start) (x .finish) w (calendar-worked (q .2)) (q .3)) ∙ c .before .before .before .gap .given .1) _ (c .get-link .ensures .0))
 
--- src/lib.rt:210:1
 returns-2 : tie.Need-returns-2 Inv-loop μ-loop
 returns-2 c = 
     let s = c .before .before .before .before .before in

@@ -1,6 +1,6 @@
 -- `floats::slack_of` meets its contract. Each way out has its law.
 use borrow.Author.Needs.{needs}
-use mathlib.Core.Path.{_≡_, refl, sym, ap, _∙_}
+use mathlib.Core.Path.{sym, _∙_}
 use native.Mathlib.Omega.{arith}
 use mir.Facts.{toZ-ofZ}
 use Rattle.clock.specs.On.{workedOn}
@@ -12,46 +12,31 @@ use Rattle.floats.specs.StoreLaws.{ef-at}
 use Rattle.floats.specs.GapLaws.{from-is, slack-found, slack-refused}
 use Rattle.floats.proofs.slack_of.Statement.{statement}
 use Rattle.floats.proofs.slack_of.Tie as tie
-use Rattle.floats.proofs.slack_of.Reads as reads
-use Rattle.floats.proofs.slack_of.Lts as lts
-use Rattle.clock.proofs.between.Reads as between-reads
-use Rattle.dates.proofs.begun_at.Reads as begun-at-reads
-use Rattle.dates.proofs.recorded_at.Reads as recorded-at-reads
-use Rattle.floats.proofs.least_slack.Reads as least-slack-reads
-use Rattle.memory.proofs.get_act.Reads as get-act-reads
 
--- src/lib.rt:261:9
 recorded-at-requires : tie.Need-recorded-at-requires
 recorded-at-requires c κs = let q = c .before .before .pre in (q .0 .room, q .2)
 
--- src/lib.rt:262:9
 get-act-requires : tie.Need-get-act-requires
 get-act-requires c κs = let q = c .before .before .before .pre in (q .0 .room, q .2, omega arith)
 
--- src/lib.rt:263:9
 begun-at-requires : tie.Need-begun-at-requires
 begun-at-requires c κs = search needs
 
--- src/lib.rt:264:9
 get-act-requires-2 : tie.Need-get-act-requires-2
 get-act-requires-2 c κs = let q = c .before .before .before .before .before .pre in (q .0 .room, q .2, omega arith)
 
--- src/lib.rt:265:11
 between-requires : tie.Need-between-requires
 between-requires c κs = let q = c .before .before .before .before .before .before .pre in calendar-valid (q .3) (q .0 .read)
 
--- src/lib.rt:266:23
 enum-known-slack : tie.Need-enum-known-slack
 enum-known-slack c = search needs
 
--- src/lib.rt:267:13
 least-slack-requires : tie.Need-least-slack-requires
 least-slack-requires c κs = 
     let x = c .before .before .before .before .before .before .before .before .before .before .args in
     let q = c .before .before .before .before .before .before .before .before .before .before .pre in
     (q .0, q .2, q .3, from-is (q .0) (q .1) (x .i) (q .2) _ _ _ _ (c .before .before .before .before .before .before .before .recorded-at .ensures) (c .before .before .before .before .before .before .get-act .ensures .0) (c .before .before .before .before .before .begun-at .ensures) (c .before .before .before .before .get-act2 .ensures .0))
 
--- src/lib.rt:267:13
 returns : tie.Need-returns
 returns c = 
     let s = c .before .before .before .before .before .before .before .before .before .before .before in
@@ -64,11 +49,9 @@ returns c =
     let e = rw (toZ-ofZ (record { sfits = c .before .known-told .given .0 .1 })) at (c .least-slack .ensures) in
     e ∙ slack-found (q .0) (x .i) (x .finish) _ w (calendar-worked (q .3)) (c .before .before .before .before .before .get-act2 .ensures .0 ∙ sym l) _ (sym (c .before .before .before .before .between .ensures) ∙ c .before .before .slack .given .1)
 
--- src/lib.rt:269:23
 enum-known-k : tie.Need-enum-known-k
 enum-known-k c = search needs
 
--- src/lib.rt:270:13
 returns-2 : tie.Need-returns-2
 returns-2 c = 
     let s = c .before .before .before .before .before .before .before .before .before .before in

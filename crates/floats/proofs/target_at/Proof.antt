@@ -1,71 +1,55 @@
 -- `floats::target_at` meets its contract.
 use borrow.Author.Needs.{needs}
-use mathlib.Core.Path.{_≡_, refl, sym, ap, _∙_}
-use native.Mathlib.Omega.{arith}
+use mathlib.Core.Path.{sym, ap, _∙_}
 use Rattle.project.specs.declared.RelationshipType.{RelationshipType}
 use Rattle.memory.specs.State.{stateOf}
 use Rattle.memory.specs.Fields.{earlyStart, earlyFinish}
 use Rattle.passes.specs.Floats.{targetOf}
 use Rattle.floats.proofs.target_at.Statement.{statement}
 use Rattle.floats.proofs.target_at.Tie as tie
-use Rattle.floats.proofs.target_at.Reads as reads
-use Rattle.floats.proofs.target_at.Lts as lts
-use Rattle.memory.proofs.get_act.Reads as get-act-reads
 
--- src/lib.rt:163:13
 enum-told : tie.Need-enum-told
 enum-told c = search needs
 
--- src/lib.rt:163:13
 get-act-requires : tie.Need-get-act-requires
 get-act-requires c κs = search needs
 
--- src/lib.rt:163:13
 returns : tie.Need-returns
 returns c =
     let x = c .before .before .before .args in
     let S = stateOf (x .a) (x .l) (x .work .now) in
     λ p. c .get-act .ensures .0 ∙ sym (ap (λ (k : RelationshipType). targetOf p k (S .act earlyStart (x .to)) (S .act earlyFinish (x .to))) (c .before .enum-told .given .1))
 
--- src/lib.rt:166:13
 enum-told-2 : tie.Need-enum-told-2
 enum-told-2 c = search needs
 
--- src/lib.rt:166:13
 get-act-requires-2 : tie.Need-get-act-requires-2
 get-act-requires-2 c κs = search needs
 
--- src/lib.rt:166:13
 returns-2 : tie.Need-returns-2
 returns-2 c =
     let x = c .before .before .before .args in
     let S = stateOf (x .a) (x .l) (x .work .now) in
     λ p. c .get-act2 .ensures .0 ∙ sym (ap (λ (k : RelationshipType). targetOf p k (S .act earlyStart (x .to)) (S .act earlyFinish (x .to))) (c .before .enum-told2 .given .1))
 
--- src/lib.rt:169:13
 enum-told-3 : tie.Need-enum-told-3
 enum-told-3 c = search needs
 
--- src/lib.rt:169:13
 get-act-requires-3 : tie.Need-get-act-requires-3
 get-act-requires-3 c κs = search needs
 
--- src/lib.rt:169:13
 returns-3 : tie.Need-returns-3
 returns-3 c =
     let x = c .before .before .before .args in
     let S = stateOf (x .a) (x .l) (x .work .now) in
     λ p. c .get-act3 .ensures .0 ∙ sym (ap (λ (k : RelationshipType). targetOf p k (S .act earlyStart (x .to)) (S .act earlyFinish (x .to))) (c .before .enum-told3 .given .1))
 
--- src/lib.rt:172:13
 enum-told-4 : tie.Need-enum-told-4
 enum-told-4 c = search needs
 
--- src/lib.rt:172:13
 get-act-requires-4 : tie.Need-get-act-requires-4
 get-act-requires-4 c κs = search needs
 
--- src/lib.rt:172:13
 returns-4 : tie.Need-returns-4
 returns-4 c =
     let x = c .before .before .before .args in

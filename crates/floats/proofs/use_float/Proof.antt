@@ -1,6 +1,6 @@
 -- `floats::use_float` meets its contract.
 use borrow.Author.Needs.{needs}
-use mathlib.Core.Path.{_≡_, refl, sym, ap, _∙_}
+use mathlib.Core.Path.{sym, ap, _∙_}
 use native.Mathlib.Omega.{arith}
 use Rattle.order.specs.Plan.{planOf}
 use Rattle.passes.specs.Dates.{leaves}
@@ -14,25 +14,16 @@ use Rattle.floats.specs.Slack.{freedIn}
 use Rattle.floats.specs.StoreLaws.{free-stored, freed-held, freed-stays}
 use Rattle.floats.proofs.use_float.Statement.{statement}
 use Rattle.floats.proofs.use_float.Tie as tie
-use Rattle.floats.proofs.use_float.Reads as reads
-use Rattle.floats.proofs.use_float.Lts as lts
-use Rattle.floats.proofs.hold_late.Reads as hold-late-reads
-use Rattle.floats.proofs.is_moved.Reads as is-moved-reads
-use Rattle.memory.proofs.put_act.Reads as put-act-reads
 
--- src/lib.rt:396:8
 is-moved-requires : tie.Need-is-moved-requires
 is-moved-requires c κs = let q = c .before .before .pre in (q .1, q .2, q .3 .is, q .4, q .5)
 
--- src/lib.rt:397:9
 hold-late-requires : tie.Need-hold-late-requires
 hold-late-requires c κs = let q = c .before .before .before .before .before .pre in (q .0, q .1, q .2, q .3)
 
--- src/lib.rt:397:9
 same-length : tie.Need-same-length
 same-length c = search needs
 
--- src/lib.rt:397:9
 returns : tie.Need-returns
 returns c =
     let s = c .before .before .before .before .before .before .before in
@@ -43,15 +34,12 @@ returns c =
     let r = c .before .hold-late .ensures in
     (r .0 ∙ sym (freed-held p S (x .i) (x .free) (sym (c .before .before .before .before .is-moved .ensures) ∙ c .before .before .before .if1 .taken)), r .1, r .2)
 
--- src/lib.rt:399:5
 put-act-requires : tie.Need-put-act-requires
 put-act-requires c κs = let q = c .before .before .before .before .before .pre in (q .1, q .2, omega arith, q .6)
 
--- src/lib.rt:382:1
 same-length-2 : tie.Need-same-length-2
 same-length-2 c = search needs
 
--- src/lib.rt:382:1
 returns-2 : tie.Need-returns-2
 returns-2 c =
     let s = c .before .before .before .before .before .before .before in
