@@ -1,5 +1,5 @@
 -- The slack before the successors of an activity, from what stands in the memory: one link's part, and the walk along the links out of it.
-use mathlib.Core.Path.{_≡_, sym, ap, _∙_}
+use mathlib.Core.Path.{_≡_, refl, sym, ap, _∙_}
 use mathlib.Core.Bool.{Bool}
 use mathlib.Core.List.{List}
 use Prim.Native.Nat.{ℕ, _≤_, _<_}
@@ -11,6 +11,8 @@ use Rattle.worktime.specs.declared.Walk.the-variants.{At, Refused}
 use Rattle.worktime.specs.declared.Work.{Work}
 use Rattle.worktime.specs.declared.Work.the-variants.{Minutes}
 use Rattle.worktime.specs.Walks.{between}
+use Rattle.project.specs.declared.RelationshipType.{RelationshipType}
+use Rattle.project.specs.declared.RelationshipType.the-variants.{FinishToStart, StartToStart, FinishToFinish, StartToFinish}
 use Rattle.placing.specs.declared.Actual.{Actual}
 use Rattle.placing.specs.PlacingLaws.{via-at, via-refused}
 use Rattle.cells.specs.Chain.{after, gather}
@@ -33,6 +35,14 @@ use Rattle.bounds.specs.LinkLaws.{tie-is, to-in}
 use Rattle.floats.specs.Slack.{gapBy, gapOf, slackStep, leastSlack, slackOf, From, freeOf}
 use Rattle.floats.specs.SlackLaws.{measured-at, measured-refused}
 use Rattle.floats.specs.StoreLaws.{es-at, ef-at}
+
+-- the end that a link leads to, read by its field
+target-read : (p : Plan) (S : State) (kind : RelationshipType) (j : ℕ)
+    → S .act (targetOf p kind earlyStart earlyFinish) j ≡ targetOf p kind (S .act earlyStart j) (S .act earlyFinish j)
+target-read p S FinishToStart j = refl
+target-read p S StartToStart j = refl
+target-read p S FinishToFinish j = refl
+target-read p S StartToFinish j = refl
 
 module _ {s : List ℕ} {c : Contents} {places : List ℕ} {t : ℕ} {xs : List ℤ} (R : Ready s c places t xs) where
   abbrev p : Plan
@@ -60,10 +70,10 @@ module _ {s : List ℕ} {c : Contents} {places : List ℕ} {t : ℕ} {xs : List 
       unfolding gapBy
       gap-refused j a = sym (via-refused Work.Refused (forwardBound p (asTie τ) start finish) _ j (sym f ∙ a)) ∙ by-tie
 
-      pub gap-between : (b u : ℕ) → x ≡ At b → u ≡ targetOf p (τ .kind) (S .act earlyStart (τ .to)) (S .act earlyFinish (τ .to)) → between w b u ≡ gapTo
+      pub gap-between : (b r u : ℕ) → x ≡ At b → r ≡ targetOf p (τ .kind) earlyStart earlyFinish → u ≡ S .act r (τ .to) → between w b u ≡ gapTo
       unfolding gapBy
-      gap-between b u a g =
-          ap (between w b) g
+      gap-between b r u a h g =
+          ap (between w b) (g ∙ ap (λ (y : ℕ). S .act y (τ .to)) h ∙ target-read p S (τ .kind) (τ .to))
           ∙ sym
           (via-at Work.Refused (forwardBound p (asTie τ) start finish)
           (λ b. between w b (targetOf p (τ .kind) (S .act earlyStart (τ .to)) (S .act earlyFinish (τ .to)))) b (sym f ∙ a))

@@ -139,11 +139,11 @@ step-kept {S} {T} F p finish i y r h e = h e ∙ ap (λ (l : Late). freeFloat p 
 pub pass-cleared : (s : List ℕ) (c : Contents) {S T : State} → Frame 12 16 0 0 S T → T ≡ fillAct S fields.freeFloat (c .activities) 0
     → (finish : ℕ) (rows : List ℕ) (e : ℕ)
     → through (freeFloat (planOf s c) finish (lateIn (planOf s c) T e)) rows (freedIn (planOf s c) T)
-      ≡ through (freeFloat (planOf s c) finish (lateIn (planOf s c) S e)) rows (record { early = earlyIn (planOf s c) S; free = λ i. 0 })
+    ≡ through (freeFloat (planOf s c) finish (lateIn (planOf s c) S e)) rows (record { early = earlyIn (planOf s c) S; free = λ i. 0 })
 pass-cleared s c {S} {T} F h finish rows e =
     let p = planOf s c in
     let x : freedIn p T ≡ record { early = earlyIn p S; free = λ i. 0 } =
-        ap (freedIn p) (h ∙ ap (λ (n : ℕ). fillAct S fields.freeFloat n 0) (sym (activities-are s c))) ∙ free-cleared p S
+    ap (freedIn p) (h ∙ ap (λ (n : ℕ). fillAct S fields.freeFloat n 0) (sym (activities-are s c))) ∙ free-cleared p S
     in
     let y = late-kept F p e in
     λ z. through (freeFloat p finish (y z)) rows (x z)

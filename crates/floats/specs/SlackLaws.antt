@@ -97,8 +97,8 @@ moved-via refusal (Refused k) f go = refl
 
 pub held-move-is : (p : Plan) (d : Early) (i n : ℕ) (free : ℕ → ℕ)
     → heldMove p d i n free
-      ≡ onMoved refused (datesMoved (own p i) (kindOf p i) (d .es i) (d .ef i) (d .left i) n)
-          (λ s f. leaves (record { early = early p d i s f (d .left i); free = put free i 0 }))
+    ≡ onMoved refused (datesMoved (own p i) (kindOf p i) (d .es i) (d .ef i) (d .left i) n)
+    (λ s f. leaves (record { early = early p d i s f (d .left i); free = put free i 0 }))
 unfolding heldMove datesMoved
 held-move-is p d i n free =
     let go : ℕ → ℕ → Pass Freed = λ s f. leaves (record { early = early p d i s f (d .left i); free = put free i 0 }) in

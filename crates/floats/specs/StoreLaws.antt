@@ -134,14 +134,14 @@ module _ (p : Plan) (S : State) (i n : ℕ) where
         ∙ sym
         (held-move-is p (earlyIn p S) i n (freeIn p S)
         ∙ ap (λ (m : Moved). onMoved refused m (λ s f. leaves (record { early = early p (earlyIn p S) i s f (earlyIn p S .left i); free = put (freeIn p S) i 0 })))
-          (sym by-dates ∙ e))
+        (sym by-dates ∙ e))
 
     pub held-refused : (j : ℕ) → datesMoved w kind es ef left n ≡ Moved.Refused j → refused j ≡ heldMove p (earlyIn p S) i n (freeIn p S)
     held-refused j e =
         sym
         (held-move-is p (earlyIn p S) i n (freeIn p S)
         ∙ ap (λ (m : Moved). onMoved refused m (λ s f. leaves (record { early = early p (earlyIn p S) i s f (earlyIn p S .left i); free = put (freeIn p S) i 0 })))
-          (sym by-dates ∙ e))
+        (sym by-dates ∙ e))
 
 -- ---- the ways of an activity's free float
 module _ (p : Plan) (S : State) (i : ℕ) (l : i < p .activities) (finish e : ℕ) (x : Walk) (h : x ≡ freeOf p (earlyIn p S) finish (S .act lateFinish i) i) where

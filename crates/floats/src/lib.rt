@@ -151,24 +151,15 @@ fn held_move(
     }
 }
 
-// The end of a link's successor that the link leads to, as it is now.
-fn target_at(work: &[i64], a: usize, l: usize, kind: RelationshipType, to: usize) -> u64
-    requires { ⌜ Room a l (now work) × (to < a) ⌝ }
-    ensures { λ r. ⌜ ((p : Plan) → r ≡ targetOf p kind (stateOf a l (now (work .entry)) .act earlyStart to) (stateOf a l (now (work .entry)) .act earlyFinish to)) ⌝ }
+// The field with the end of a link's successor that the link leads to.
+fn target_field(kind: RelationshipType) -> usize
+    ensures { λ r. ⌜ ((p : Plan) → r ≡ targetOf p kind earlyStart earlyFinish) × (r < 64) ⌝ }
 {
     match kind {
-        RelationshipType::FinishToStart => {
-            return memory::get_act(work, a, l, to, memory::fields::EARLY_START);
-        }
-        RelationshipType::StartToStart => {
-            return memory::get_act(work, a, l, to, memory::fields::EARLY_START);
-        }
-        RelationshipType::FinishToFinish => {
-            return memory::get_act(work, a, l, to, memory::fields::EARLY_FINISH);
-        }
-        RelationshipType::StartToFinish => {
-            return memory::get_act(work, a, l, to, memory::fields::EARLY_FINISH);
-        }
+        RelationshipType::FinishToStart => memory::fields::EARLY_START,
+        RelationshipType::StartToStart => memory::fields::EARLY_START,
+        RelationshipType::FinishToFinish => memory::fields::EARLY_FINISH,
+        RelationshipType::StartToFinish => memory::fields::EARLY_FINISH,
     }
 }
 
@@ -195,7 +186,8 @@ fn gap_at(
     match bounds::forward_bound(sheet, contents, places, tie, start, finish) {
         Walk::At(b) => {
             let kind = tie.kind;
-            let target = target_at(work, a, l, kind, tie.to);
+            let field = target_field(kind);
+            let target = memory::get_act(work, a, l, tie.to, field);
             return clock::between(week, sheet, at, n, b, target);
         }
         Walk::Refused(number) => {
@@ -227,7 +219,19 @@ fn least_slack(
     let mut least = slack;
     let mut k = memory::get_act(work, a, l, i, memory::fields::FIRST_OUT) as usize;
     while k < t {
-        match gap_at(sheet, contents, places, t, work, k, start, finish, week, at, n) {
+        match gap_at(
+            sheet,
+            contents,
+            places,
+            t,
+            work,
+            k,
+            start,
+            finish,
+            week,
+            at,
+            n,
+        ) {
             Work::Minutes(gap) => {
                 least = number::sign::min(least, gap);
             }
@@ -264,7 +268,20 @@ fn slack_of(
     let ef = memory::get_act(work, a, l, i, memory::fields::EARLY_FINISH);
     match clock::between(week, sheet, at, n, ef, finish) {
         Work::Minutes(slack) => {
-            return least_slack(sheet, contents, places, t, work, i, start, ef, week, at, n, slack);
+            return least_slack(
+                sheet,
+                contents,
+                places,
+                t,
+                work,
+                i,
+                start,
+                ef,
+                week,
+                at,
+                n,
+                slack,
+            );
         }
         Work::Refused(k) => {
             return Work::Refused(k);
@@ -395,7 +412,14 @@ fn use_float(
     if is_moved(sheet, contents, work, i, activity, free) {
         return hold_late(sheet, contents, work, i, activity, week, at, n, free);
     }
-    memory::put_act(work, contents.activities, contents.links, i, memory::fields::FREE_FLOAT, free);
+    memory::put_act(
+        work,
+        contents.activities,
+        contents.links,
+        i,
+        memory::fields::FREE_FLOAT,
+        free,
+    );
     Step::Done
 }
 
@@ -441,7 +465,13 @@ fn free_each(
     let a = contents.activities;
     let mut q: usize = 0;
     while q < a {
-        let i = memory::get_act(work, a, contents.links, a - (q + 1), memory::fields::ORDER_AT) as usize;
+        let i = memory::get_act(
+            work,
+            a,
+            contents.links,
+            a - (q + 1),
+            memory::fields::ORDER_AT,
+        ) as usize;
         match free_at(sheet, contents, places, t, work, finish, i) {
             Step::Done => {}
             Step::Refused(k) => {
@@ -465,6 +495,12 @@ pub fn free_pass(
     requires { ⌜ Ready (now sheet) contents (now places) t (now work) × Recorded (planOf (now sheet) contents) (stateOf (contents .activities) (contents .links) (now work)) ⌝ }
     ensures { λ r. ⌜ ((e : ℕ) → ended (freedIn (planOf (now (sheet .entry)) contents) (stateOf (contents .activities) (contents .links) (now (work .exit)))) r ≡ through (freeFloat (planOf (now (sheet .entry)) contents) finish (lateIn (planOf (now (sheet .entry)) contents) (stateOf (contents .activities) (contents .links) (now (work .entry))) e)) (reverse (order (planOf (now (sheet .entry)) contents))) (record { early = earlyIn (planOf (now (sheet .entry)) contents) (stateOf (contents .activities) (contents .links) (now (work .entry))); free = λ i. 0 })) × Frame 12 16 0 0 (stateOf (contents .activities) (contents .links) (now (work .entry))) (stateOf (contents .activities) (contents .links) (now (work .exit))) × (length (now (work .exit)) ≡ length (now (work .entry))) ⌝ }
 {
-    memory::fill_act(work, contents.activities, contents.links, memory::fields::FREE_FLOAT, 0);
+    memory::fill_act(
+        work,
+        contents.activities,
+        contents.links,
+        memory::fields::FREE_FLOAT,
+        0,
+    );
     free_each(sheet, contents, places, t, work, finish)
 }

@@ -25,7 +25,7 @@ exceptions-of-requires : tie.Need-exceptions-of-requires
 exceptions-of-requires c κs = let q = c .before .before .before .before .before .pre in (q .0 .read, q .0 .located)
 
 free-of-requires : tie.Need-free-of-requires
-free-of-requires c κs = 
+free-of-requires c κs =
     let x = c .before .before .before .before .before .before .before .args in
     let q = c .before .before .before .before .before .before .before .pre in
     let o = own-is (x .sheet .now) (x .contents) (x .i) _ _ _ _ (c .before .before .before .before .activity-of .ensures) (c .before .before .week-of .ensures) (c .before .exceptions-of .ensures .0) (c .before .exceptions-of .ensures .1) in (q .0, q .1, q .2, o .calendar)
@@ -34,7 +34,7 @@ enum-known-free : tie.Need-enum-known-free
 enum-known-free c = search needs
 
 use-float-requires : tie.Need-use-float-requires
-use-float-requires c κs = 
+use-float-requires c κs =
     let x = c .before .before .before .before .before .before .before .before .before .before .before .before .args in
     let q = c .before .before .before .before .before .before .before .before .before .before .before .before .pre in
     let i : x .i < planOf (x .sheet .now) (x .contents) .activities = omega (arith, activities-are (x .sheet .now) (x .contents), q .2) in
@@ -45,7 +45,7 @@ same-length : tie.Need-same-length
 same-length c = search needs
 
 returns : tie.Need-returns
-returns c = 
+returns c =
     let s = c .before .before .before .before .before .before .before .before .before .before .before .before .before .before in
     let x = s .args in
     let q = s .pre in
@@ -62,7 +62,7 @@ same-length-2 : tie.Need-same-length-2
 same-length-2 c = search needs
 
 returns-2 : tie.Need-returns-2
-returns-2 c = 
+returns-2 c =
     let s = c .before .before .before .before .before .before .before .before .before .before .before in
     let x = s .args in
     let q = s .pre in

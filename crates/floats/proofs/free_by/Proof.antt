@@ -39,18 +39,22 @@ returns c =
     let s = c .before .before .before .before in
     let x = s .args in
     let e = rw (toZ-ofZ (s .fits .slack), toZ-ofZ (s .fits .total)) at (c .before .min .ensures) in
-    let g = rw (toZ-ofZ (record { sfits = c .before .min .ok })) at (c .upward .ensures .0) in
-    (λ p d.
-    g ∙ ap (λ (z : ℤ). up z) e ∙ sym (ap (λ (a : Actual). freeBy p d a (x .slack) (x .total)) (c .before .before .enum-told .given .1)), c .upward .ensures .1)
+    let g = rw (toZ-ofZ (record { sfits = c .before .min .ok })) at (c .upward .ensures .0) in (
+      λ p d.
+          g ∙ ap (λ (z : ℤ). up z) e ∙ sym (ap (λ (a : Actual). freeBy p d a (x .slack) (x .total)) (c .before .before .enum-told .given .1)),
+      c .upward .ensures .1,
+    )
 
 returns-2 : tie.Need-returns-2
 returns-2 c =
     let s = c .before .before .before .before in
     let x = s .args in
     let e = rw (toZ-ofZ (s .fits .slack), toZ-ofZ (s .fits .total)) at (c .before .min2 .ensures) in
-    let g = rw (toZ-ofZ (record { sfits = c .before .min2 .ok })) at (c .upward2 .ensures .0) in
-    (λ p d.
-    g ∙ ap (λ (z : ℤ). up z) e ∙ sym (ap (λ (a : Actual). freeBy p d a (x .slack) (x .total)) (c .before .before .enum-told2 .given .1)), c .upward2 .ensures .1)
+    let g = rw (toZ-ofZ (record { sfits = c .before .min2 .ok })) at (c .upward2 .ensures .0) in (
+      λ p d.
+          g ∙ ap (λ (z : ℤ). up z) e ∙ sym (ap (λ (a : Actual). freeBy p d a (x .slack) (x .total)) (c .before .before .enum-told2 .given .1)),
+      c .upward2 .ensures .1,
+    )
 
 returns-3 : tie.Need-returns-3
 returns-3 c =

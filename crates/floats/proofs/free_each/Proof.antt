@@ -23,18 +23,18 @@ Inv-loop sheet contents places t work₀ finish a q₀ work q =
     (length work ≡ length work₀)
     × Frame 12 16 0 0 (stateOf (contents .activities) (contents .links) work₀) (stateOf (contents .activities) (contents .links) work)
     × ((e : ℕ)
-      → Through
-        (freeFloat (planOf sheet contents) finish (lateIn (planOf sheet contents) (stateOf (contents .activities) (contents .links) work₀) e))
-        (reverse (order (planOf sheet contents)))
-        (freedIn (planOf sheet contents) (stateOf (contents .activities) (contents .links) work₀))
-        (freedIn (planOf sheet contents) (stateOf (contents .activities) (contents .links) work))
-        q)
+    → Through
+    (freeFloat (planOf sheet contents) finish (lateIn (planOf sheet contents) (stateOf (contents .activities) (contents .links) work₀) e))
+    (reverse (order (planOf sheet contents)))
+    (freedIn (planOf sheet contents) (stateOf (contents .activities) (contents .links) work₀))
+    (freedIn (planOf sheet contents) (stateOf (contents .activities) (contents .links) work))
+    q)
 
 abbrev μ-loop : tie.MeasureT-loop
 μ-loop sheet contents places t work₀ finish a q₀ work q = a - q
 
 loop-holds : tie.Need-loop-holds Inv-loop μ-loop
-loop-holds c = 
+loop-holds c =
     let s = c .before .before in
     let x = s .args in
     (refl, frame-refl 12 16 0 0 (stateOf (x .contents .activities) (x .contents .links) (x .work .now)), λ e. through-start _ _ _)
@@ -46,7 +46,7 @@ sub-get-act : tie.Need-sub-get-act Inv-loop μ-loop
 sub-get-act c = omega arith
 
 get-act-requires : tie.Need-get-act-requires Inv-loop μ-loop
-get-act-requires c κs = 
+get-act-requires c κs =
     let s = c .before .before .before .before .before in
     let x = s .args in
     let p = planOf (x .sheet .now) (x .contents) in
@@ -56,7 +56,7 @@ get-act-requires c κs =
     (R .room, omega arith, omega arith)
 
 free-at-requires : tie.Need-free-at-requires Inv-loop μ-loop
-free-at-requires c κs = 
+free-at-requires c κs =
     let s = c .before .before .before .before .before .before .before in
     let x = s .args in
     let p = planOf (x .sheet .now) (x .contents) in
@@ -75,7 +75,7 @@ same-length : tie.Need-same-length Inv-loop μ-loop
 same-length c = c .before .before .before .before .free-at .ensures .2 ∙ c .before .before .before .before .before .before .before .before .before .loop .inv .0
 
 returns : tie.Need-returns Inv-loop μ-loop
-returns c = 
+returns c =
     let s = c .before .before .before .before .before .before .before .before .before .before .before .before in
     let x = s .args in
     let p = planOf (x .sheet .now) (x .contents) in
@@ -83,9 +83,12 @@ returns c =
     let L = c .before .before .before .before .before .before .before .before .before .loop in
     let R = ready-after (s .pre .0) (L .inv .1) (L .inv .0) in
     let y = freedIn p (stateOf (x .contents .activities) (x .contents .links) (c .before .before .before .before .free-at .last .1 .1 .1 .1 .0)) in
-    let r = c .before .before .before .before .free-at .result in
-    (λ e. through-stop (freeFloat p (x .finish) (lateIn p S e)) (reverse (order p)) (freedIn p S) (L .inv .2 e) _ (c .before .before .before .before .before .before .get-act .ensures .0 ∙ backward-at R (L .q) (c .before .before .before .before .before .before .before .before .loop-test .taken)) (omega (arith, backward-length R, c .before .before .before .before .before .before .before .before .loop-test .taken)) y r
-    (step-kept (L .inv .1) p (x .finish) _ y r (c .before .before .before .before .free-at .ensures .0) e) y _ (c .before .k .given .1), frame-then 12 16 0 0 (L .inv .1) (c .before .before .before .before .free-at .ensures .1), c .before .before .before .before .free-at .ensures .2 ∙ L .inv .0)
+    let r = c .before .before .before .before .free-at .result in (
+      λ e. through-stop (freeFloat p (x .finish) (lateIn p S e)) (reverse (order p)) (freedIn p S) (L .inv .2 e) _ (c .before .before .before .before .before .before .get-act .ensures .0 ∙ backward-at R (L .q) (c .before .before .before .before .before .before .before .before .loop-test .taken)) (omega (arith, backward-length R, c .before .before .before .before .before .before .before .before .loop-test .taken)) y r
+          (step-kept (L .inv .1) p (x .finish) _ y r (c .before .before .before .before .free-at .ensures .0) e) y _ (c .before .k .given .1),
+      frame-then 12 16 0 0 (L .inv .1) (c .before .before .before .before .free-at .ensures .1),
+      c .before .before .before .before .free-at .ensures .2 ∙ L .inv .0,
+    )
 
 add-q : tie.Need-add-q Inv-loop μ-loop
 add-q c = omega arith
@@ -94,7 +97,7 @@ loop-less : tie.Need-loop-less Inv-loop μ-loop
 loop-less c = omega arith
 
 loop-again : tie.Need-loop-again Inv-loop μ-loop
-loop-again c = 
+loop-again c =
     let s = c .before .before .before .before .before .before .before .before .before .before .before in
     let x = s .args in
     let p = planOf (x .sheet .now) (x .contents) in
@@ -102,15 +105,18 @@ loop-again c =
     let L = c .before .before .before .before .before .before .before .before .loop in
     let R = ready-after (s .pre .0) (L .inv .1) (L .inv .0) in
     let y = freedIn p (stateOf (x .contents .activities) (x .contents .links) (c .before .before .before .free-at .last .1 .1 .1 .1 .0)) in
-    let r = c .before .before .before .free-at .result in
-    (c .before .before .before .free-at .ensures .2 ∙ L .inv .0, frame-then 12 16 0 0 (L .inv .1) (c .before .before .before .free-at .ensures .1), λ e. through-turn (freeFloat p (x .finish) (lateIn p S e)) (reverse (order p)) (freedIn p S) (L .inv .2 e) _ (c .before .before .before .before .before .get-act .ensures .0 ∙ backward-at R (L .q) (c .before .before .before .before .before .before .before .loop-test .taken)) (omega (arith, backward-length R, c .before .before .before .before .before .before .before .loop-test .taken)) y r
-    (step-kept (L .inv .1) p (x .finish) _ y r (c .before .before .before .free-at .ensures .0) e) (c .enum-told .given .1))
+    let r = c .before .before .before .free-at .result in (
+      c .before .before .before .free-at .ensures .2 ∙ L .inv .0,
+      frame-then 12 16 0 0 (L .inv .1) (c .before .before .before .free-at .ensures .1),
+      λ e. through-turn (freeFloat p (x .finish) (lateIn p S e)) (reverse (order p)) (freedIn p S) (L .inv .2 e) _ (c .before .before .before .before .before .get-act .ensures .0 ∙ backward-at R (L .q) (c .before .before .before .before .before .before .before .loop-test .taken)) (omega (arith, backward-length R, c .before .before .before .before .before .before .before .loop-test .taken)) y r
+          (step-kept (L .inv .1) p (x .finish) _ y r (c .before .before .before .free-at .ensures .0) e) (c .enum-told .given .1),
+    )
 
 same-length-2 : tie.Need-same-length-2 Inv-loop μ-loop
 same-length-2 c = c .before .loop .inv .0
 
 returns-2 : tie.Need-returns-2 Inv-loop μ-loop
-returns-2 c = 
+returns-2 c =
     let s = c .before .before .before .before in
     let x = s .args in
     let p = planOf (x .sheet .now) (x .contents) in

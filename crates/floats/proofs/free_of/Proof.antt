@@ -43,7 +43,7 @@ free-by-requires : tie.Need-free-by-requires
 free-by-requires c κs = search needs
 
 returns : tie.Need-returns
-returns c = 
+returns c =
     let s = c .before .before .before .before .before .before .before .before .before .before .before .before .before .before in
     let x = s .args in
     let q = s .pre in
@@ -53,18 +53,20 @@ returns c =
     let w = workedOn (x .week) (x .sheet .now) (x .at) (x .n) in
     let i : x .i < p .activities = omega (arith, activities-are (x .sheet .now) (x .contents), q .2) in
     let f =
-        rw (toZ-ofZ (record { sfits = c .before .before .before .before .before .before .before .before .known-told .given .0 .1 }), toZ-ofZ (record { sfits = c .before .before .known-told2 .given .0 .1 }))
-        at (c .free-by .ensures .0 p d)
-    in
-    (free-of-found (q .0) (x .i) (x .finish) _ (c .before .before .before .before .before .before .before .before .before .before .before .slack-of .ensures) _ _ (c .before .before .before .before .before .before .before .before .before .slack .given .1) _ w (calendar-worked (q .3)) (c .before .before .before .before .before .before .before .get-act .ensures .0 ∙ sym (ef-at p S (x .i) i)) _
-    (sym (c .before .before .before .before .before .between .ensures) ∙ c .before .before .before .total .given .1) _ (c .before .recorded-at .ensures ∙ q .1 (x .i) i) _ f
-    ∙ ap (λ (u : ℕ). freeOf p d (x .finish) u (x .i)) (c .before .before .before .before .before .before .get-act2 .ensures .0), λ m e. let k = same-time refl e in omega (arith, c .free-by .ensures .1))
+    rw (toZ-ofZ (record { sfits = c .before .before .before .before .before .before .before .before .known-told .given .0 .1 }), toZ-ofZ (record { sfits = c .before .before .known-told2 .given .0 .1 }))
+    at (c .free-by .ensures .0 p d)
+    in (
+      free-of-found (q .0) (x .i) (x .finish) _ (c .before .before .before .before .before .before .before .before .before .before .before .slack-of .ensures) _ _ (c .before .before .before .before .before .before .before .before .before .slack .given .1) _ w (calendar-worked (q .3)) (c .before .before .before .before .before .before .before .get-act .ensures .0 ∙ sym (ef-at p S (x .i) i)) _
+          (sym (c .before .before .before .before .before .between .ensures) ∙ c .before .before .before .total .given .1) _ (c .before .recorded-at .ensures ∙ q .1 (x .i) i) _ f
+          ∙ ap (λ (u : ℕ). freeOf p d (x .finish) u (x .i)) (c .before .before .before .before .before .before .get-act2 .ensures .0),
+      λ m e. let k = same-time refl e in omega (arith, c .free-by .ensures .1),
+    )
 
 enum-known-k : tie.Need-enum-known-k
 enum-known-k c = search needs
 
 returns-2 : tie.Need-returns-2
-returns-2 c = 
+returns-2 c =
     let s = c .before .before .before .before .before .before .before .before .before .before .before .before in
     let x = s .args in
     let q = s .pre in
@@ -72,16 +74,18 @@ returns-2 c =
     let S = stateOf (x .contents .activities) (x .contents .links) (x .work .now) in
     let d = earlyIn p S in
     let w = workedOn (x .week) (x .sheet .now) (x .at) (x .n) in
-    let i : x .i < p .activities = omega (arith, activities-are (x .sheet .now) (x .contents), q .2) in
-    (free-of-late (q .0) (x .i) (x .finish) _ (c .before .before .before .before .before .before .before .before .before .slack-of .ensures) _ _ (c .before .before .before .before .before .before .before .slack .given .1) _ w (calendar-worked (q .3)) (c .before .before .before .before .before .get-act .ensures .0 ∙ sym (ef-at p S (x .i) i)) _
-    (sym (c .before .before .before .between .ensures) ∙ c .before .k .given .1)
-    ∙ ap (λ (u : ℕ). freeOf p d (x .finish) u (x .i)) (c .before .before .before .before .get-act2 .ensures .0), λ m e. absurd (at-or-refused e refl))
+    let i : x .i < p .activities = omega (arith, activities-are (x .sheet .now) (x .contents), q .2) in (
+      free-of-late (q .0) (x .i) (x .finish) _ (c .before .before .before .before .before .before .before .before .before .slack-of .ensures) _ _ (c .before .before .before .before .before .before .before .slack .given .1) _ w (calendar-worked (q .3)) (c .before .before .before .before .before .get-act .ensures .0 ∙ sym (ef-at p S (x .i) i)) _
+          (sym (c .before .before .before .between .ensures) ∙ c .before .k .given .1)
+          ∙ ap (λ (u : ℕ). freeOf p d (x .finish) u (x .i)) (c .before .before .before .before .get-act2 .ensures .0),
+      λ m e. absurd (at-or-refused e refl),
+    )
 
 enum-known-k-2 : tie.Need-enum-known-k-2
 enum-known-k-2 c = search needs
 
 returns-3 : tie.Need-returns-3
-returns-3 c = 
+returns-3 c =
     let s = c .before .before .before .before .before .before in
     let x = s .args in
     let q = s .pre in

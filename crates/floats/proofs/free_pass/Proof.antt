@@ -16,7 +16,7 @@ fill-act-requires : tie.Need-fill-act-requires
 fill-act-requires c κs = let q = c .before .before .before .pre in (q .0 .room, omega arith, omega arith)
 
 free-each-requires : tie.Need-free-each-requires
-free-each-requires c κs = 
+free-each-requires c κs =
     let s = c .before .before .before .before .before .before in
     let x = s .args in
     let S = stateOf (x .contents .activities) (x .contents .links) (x .work .now) in
@@ -29,7 +29,7 @@ same-length : tie.Need-same-length
 same-length c = c .before .free-each .ensures .2 ∙ c .before .before .before .before .fill-act .ensures .1
 
 returns : tie.Need-returns
-returns c = 
+returns c =
     let s = c .before .before .before .before .before .before .before .before in
     let x = s .args in
     let S = stateOf (x .contents .activities) (x .contents .links) (x .work .now) in

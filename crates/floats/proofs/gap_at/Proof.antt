@@ -19,26 +19,30 @@ forward-bound-requires c κs = let q = c .before .before .before .pre in (q .0 .
 enum-known-b : tie.Need-enum-known-b
 enum-known-b c = search needs
 
-target-at-requires : tie.Need-target-at-requires
-target-at-requires c κs = let q = c .before .before .before .before .before .before .before .pre in (q .0 .room, to-in (q .0) _ (q .1) _ (c .before .before .before .before .tie-at .ensures))
+target-field-requires : tie.Need-target-field-requires
+target-field-requires c κs = search needs
+
+get-act-requires : tie.Need-get-act-requires
+get-act-requires c κs =
+    let q = c .before .before .before .before .before .before .before .before .pre in (q .0 .room, to-in (q .0) _ (q .1) _ (c .before .before .before .before .before .tie-at .ensures), c .target-field .ensures .1)
 
 between-requires : tie.Need-between-requires
-between-requires c κs = c .before .before .before .before .before .before .before .before .pre .2
+between-requires c κs = c .before .before .before .before .before .before .before .before .before .pre .2
 
 returns : tie.Need-returns
-returns c = 
-    let s = c .before .before .before .before .before .before .before .before .before in
+returns c =
+    let s = c .before .before .before .before .before .before .before .before .before .before in
     let x = s .args in
     let w = workedOn (x .week) (x .sheet .now) (x .at) (x .n) in
     c .between .ensures
-    ∙ gap-between (s .pre .0) (x .k) (s .pre .1) _ (c .before .before .before .before .before .before .tie-at .ensures) w (x .start) (x .finish) _ (c .before .before .before .before .before .forward-bound .ensures) _ _ (c .before .before .before .b .given .1)
-    (c .before .target-at .ensures (planOf (x .sheet .now) (x .contents)))
+    ∙ gap-between (s .pre .0) (x .k) (s .pre .1) _ (c .before .before .before .before .before .before .before .tie-at .ensures) w (x .start) (x .finish) _ (c .before .before .before .before .before .before .forward-bound .ensures) _ _ _ (c .before .before .before .before .b .given .1)
+    (c .before .before .target-field .ensures .0 (planOf (x .sheet .now) (x .contents))) (c .before .get-act .ensures .0)
 
 enum-known-number : tie.Need-enum-known-number
 enum-known-number c = search needs
 
 returns-2 : tie.Need-returns-2
-returns-2 c = 
+returns-2 c =
     let s = c .before .before .before .before .before .before .before in
     let x = s .args in
     let w = workedOn (x .week) (x .sheet .now) (x .at) (x .n) in
@@ -51,7 +55,8 @@ gap-at-spec =
     tie-at-requires
     forward-bound-requires
     enum-known-b
-    target-at-requires
+    target-field-requires
+    get-act-requires
     between-requires
     returns
     enum-known-number

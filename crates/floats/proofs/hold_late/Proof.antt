@@ -48,8 +48,8 @@ returns c =
     let p = planOf (x .sheet .now) (x .contents) in
     let S = stateOf (x .contents .activities) (x .contents .links) (x .work .now) in
     let h =
-        held-to p S (x .i) (x .free) (omega (arith, activities-are (x .sheet .now) (x .contents), q .2)) _ (calendar-worked (q .3 .calendar)) _ (ap (λ (a : Activity). a .kind) (q .3 .is)) _ _ _
-        (c .before .before .before .before .before .before .before .before .before .before .before .get-act .ensures .0) (c .before .before .before .before .before .before .before .before .before .get-act2 .ensures .0) (c .before .before .before .before .before .before .before .get-act3 .ensures .0) _ _ (sym (c .before .before .before .before .before .before .held-move .ensures) ∙ c .before .before .before .before .start .given .1)
+    held-to p S (x .i) (x .free) (omega (arith, activities-are (x .sheet .now) (x .contents), q .2)) _ (calendar-worked (q .3 .calendar)) _ (ap (λ (a : Activity). a .kind) (q .3 .is)) _ _ _
+    (c .before .before .before .before .before .before .before .before .before .before .before .get-act .ensures .0) (c .before .before .before .before .before .before .before .before .before .get-act2 .ensures .0) (c .before .before .before .before .before .before .before .get-act3 .ensures .0) _ _ (sym (c .before .before .before .before .before .before .held-move .ensures) ∙ c .before .before .before .before .start .given .1)
     in
     let e = c .before .store-move .ensures .0 in
     let F : Frame 12 16 0 0 S (stateOf (x .contents .activities) (x .contents .links) (c .before .store-move .last .0)) = rw e (stored-frame S (x .i) _ _) in
@@ -69,8 +69,8 @@ returns-2 c =
     let p = planOf (x .sheet .now) (x .contents) in
     let S = stateOf (x .contents .activities) (x .contents .links) (x .work .now) in
     let h =
-        held-refused p S (x .i) (x .free) (omega (arith, activities-are (x .sheet .now) (x .contents), q .2)) _ (calendar-worked (q .3 .calendar)) _ (ap (λ (a : Activity). a .kind) (q .3 .is)) _ _ _
-        (c .before .before .before .before .before .before .before .before .get-act .ensures .0) (c .before .before .before .before .before .before .get-act2 .ensures .0) (c .before .before .before .before .get-act3 .ensures .0) _ (sym (c .before .before .before .held-move .ensures) ∙ c .before .k .given .1)
+    held-refused p S (x .i) (x .free) (omega (arith, activities-are (x .sheet .now) (x .contents), q .2)) _ (calendar-worked (q .3 .calendar)) _ (ap (λ (a : Activity). a .kind) (q .3 .is)) _ _ _
+    (c .before .before .before .before .before .before .before .before .get-act .ensures .0) (c .before .before .before .before .before .before .get-act2 .ensures .0) (c .before .before .before .before .get-act3 .ensures .0) _ (sym (c .before .before .before .held-move .ensures) ∙ c .before .k .given .1)
     in
     (h, frame-refl 12 16 0 0 S, refl)
 

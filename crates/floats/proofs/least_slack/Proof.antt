@@ -6,7 +6,6 @@ use Prim.Native.Nat.{_-_}
 use mir.Val.{toZ}
 use mir.Facts.{toZ-ofZ}
 use mir.Syntax.{w64}
-
 use Rattle.worktime.specs.declared.Work.the-variants.{Minutes}
 use Rattle.clock.specs.On.{workedOn}
 use Rattle.cells.specs.ChainLaws.{Cursor}
@@ -32,7 +31,7 @@ get-act-requires : tie.Need-get-act-requires Inv-loop μ-loop
 get-act-requires c κs = let q = c .before .before .pre in (q .0 .room, q .1, omega arith)
 
 loop-holds : tie.Need-loop-holds Inv-loop μ-loop
-loop-holds c = 
+loop-holds c =
     let s = c .before .before .before in
     let x = s .args in
     rw (toZ-ofZ (s .fits .slack)) (slack-start (s .pre .0) (x .i) (x .slack) _ (s .pre .1) (c .get-act .ensures .0))
@@ -50,7 +49,7 @@ enum-known-number : tie.Need-enum-known-number Inv-loop μ-loop
 enum-known-number c = search needs
 
 returns : tie.Need-returns Inv-loop μ-loop
-returns c = 
+returns c =
     let s = c .before .before .before .before .before .before .before .before .before in
     let x = s .args in
     let q = s .pre in
@@ -63,13 +62,13 @@ get-link-requires : tie.Need-get-link-requires Inv-loop μ-loop
 get-link-requires c κs = let q = c .before .before .before .before .before .before .before .before .before .before .pre in (q .0 .room, omega (arith, kept-within (q .0), c .before .before .before .before .before .loop-test .taken), omega arith)
 
 loop-less : tie.Need-loop-less Inv-loop μ-loop
-loop-less c = 
+loop-less c =
     let L = c .before .before .before .before .before .before .before .loop in
     let t = c .before .before .before .before .before .before .loop-test .taken in
     omega (arith, t, slack-later (c .before .before .before .before .before .before .before .before .before .before .before .pre .0) (c .before .before .before .before .before .before .before .before .before .before .before .args .i) (c .before .before .before .before .before .before .before .before .before .before .before .args .slack) (L .k) _ t (c .get-link .ensures .0))
 
 loop-again : tie.Need-loop-again Inv-loop μ-loop
-loop-again c = 
+loop-again c =
     let s = c .before .before .before .before .before .before .before .before .before .before .before in
     let x = s .args in
     let q = s .pre in
@@ -81,7 +80,7 @@ loop-again c =
     (slack-turn (q .0) (x .i) (x .slack) C (c .before .before .before .before .before .before .loop-test .taken) _ (sym (c .before .before .before .before .before .gap-at .ensures ∙ gap-own (q .0) (x .i) (L .k) (x .start) (x .finish) w (calendar-worked (q .2)) (q .3)) ∙ c .before .before .before .gap .given .1) _ (c .get-link .ensures .0))
 
 returns-2 : tie.Need-returns-2 Inv-loop μ-loop
-returns-2 c = 
+returns-2 c =
     let s = c .before .before .before .before .before in
     let x = s .args in
     let C = rw (toZ-ofZ (s .fits .slack)) at (c .before .loop .inv) in

@@ -32,13 +32,13 @@ enum-known-slack : tie.Need-enum-known-slack
 enum-known-slack c = search needs
 
 least-slack-requires : tie.Need-least-slack-requires
-least-slack-requires c κs = 
+least-slack-requires c κs =
     let x = c .before .before .before .before .before .before .before .before .before .before .args in
     let q = c .before .before .before .before .before .before .before .before .before .before .pre in
     (q .0, q .2, q .3, from-is (q .0) (q .1) (x .i) (q .2) _ _ _ _ (c .before .before .before .before .before .before .before .recorded-at .ensures) (c .before .before .before .before .before .before .get-act .ensures .0) (c .before .before .before .before .before .begun-at .ensures) (c .before .before .before .before .get-act2 .ensures .0))
 
 returns : tie.Need-returns
-returns c = 
+returns c =
     let s = c .before .before .before .before .before .before .before .before .before .before .before in
     let x = s .args in
     let q = s .pre in
@@ -53,7 +53,7 @@ enum-known-k : tie.Need-enum-known-k
 enum-known-k c = search needs
 
 returns-2 : tie.Need-returns-2
-returns-2 c = 
+returns-2 c =
     let s = c .before .before .before .before .before .before .before .before .before .before in
     let x = s .args in
     let q = s .pre in

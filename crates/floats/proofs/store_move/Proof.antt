@@ -20,11 +20,12 @@ same-length c = search needs
 
 returns : tie.Need-returns
 returns c =
-    let x = c .before .before .before .before .before .before .before .before .before .args in
-    (c .before .put-act3 .ensures .0
-    ∙ ap (λ (T : State). putAct T freeFloat (x .i) 0)
-    (c .before .before .before .before .put-act2 .ensures .0 ∙ ap (λ (T : State). putAct T earlyFinish (x .i) (x .finish)) (c .before .before .before .before .before .before .before .put-act .ensures .0)),
-    c .before .put-act3 .ensures .1 ∙ c .before .before .before .before .put-act2 .ensures .1 ∙ c .before .before .before .before .before .before .before .put-act .ensures .1)
+    let x = c .before .before .before .before .before .before .before .before .before .args in (
+      c .before .put-act3 .ensures .0
+          ∙ ap (λ (T : State). putAct T freeFloat (x .i) 0)
+          (c .before .before .before .before .put-act2 .ensures .0 ∙ ap (λ (T : State). putAct T earlyFinish (x .i) (x .finish)) (c .before .before .before .before .before .before .before .put-act .ensures .0)),
+      c .before .put-act3 .ensures .1 ∙ c .before .before .before .before .put-act2 .ensures .1 ∙ c .before .before .before .before .before .before .before .put-act .ensures .1,
+    )
 
 pub store-move-spec : {M : Type 1} → statement M
 store-move-spec =

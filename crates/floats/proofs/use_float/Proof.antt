@@ -49,11 +49,14 @@ returns-2 c =
     let S = stateOf (x .contents .activities) (x .contents .links) (x .work .now) in
     let e = c .before .put-act .ensures .0 in
     let F : Frame 12 16 0 0 S (stateOf (x .contents .activities) (x .contents .links) (c .before .put-act .last .0)) =
-        rw e (frame-put 12 16 0 0 freeFloat (omega arith) (omega arith) S (x .i) (pos (x .free)))
-    in
-    (ap (λ (T : State). leaves (freedIn p T)) e
-    ∙ ap leaves (free-stored p S (x .i) (omega (arith, activities-are (x .sheet .now) (x .contents), q .2)) (x .free))
-    ∙ sym (freed-stays p S (x .i) (x .free) (sym (c .before .before .before .before .is-moved .ensures) ∙ c .before .before .before .if1 .left)), F, c .before .put-act .ensures .1)
+    rw e (frame-put 12 16 0 0 freeFloat (omega arith) (omega arith) S (x .i) (pos (x .free)))
+    in (
+      ap (λ (T : State). leaves (freedIn p T)) e
+          ∙ ap leaves (free-stored p S (x .i) (omega (arith, activities-are (x .sheet .now) (x .contents), q .2)) (x .free))
+          ∙ sym (freed-stays p S (x .i) (x .free) (sym (c .before .before .before .before .is-moved .ensures) ∙ c .before .before .before .if1 .left)),
+      F,
+      c .before .put-act .ensures .1,
+    )
 
 pub use-float-spec : {M : Type 1} → statement M
 use-float-spec =
