@@ -15,6 +15,7 @@ import os
 import struct
 import sys
 
+sys.dont_write_bytecode = True  # no folder of compiled files beside the tools
 from sheet_cases import ABSENT, A, C, CALENDAR, E, L, P, Record, W, WEEK, WORKED
 
 NO_ROOM = "no room"

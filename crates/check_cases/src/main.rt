@@ -4,7 +4,7 @@ use checks::Checked;
 use libc::STDOUT_FILENO;
 use sheet::Contents;
 use sheet::Sheet;
-ghost use Prim.Native.Nat.{_+_, _*_, _≤_, _<_, max};
+ghost use Prim.Native.Nat.{_+_, _*_, _≤_, max};
 ghost use lib.ListN.{length};
 ghost use Rattle.sheet.specs.Known.{SheetRead};
 ghost use Rattle.order.specs.Plan.{planOf};

@@ -2,7 +2,6 @@
 use native.Mathlib.Omega.{arith}
 use borrow.Author.Needs.{needs}
 use Prim.Native.Nat.{_≤_, _-_}
-use lib.ListN.{length}
 use Rattle.check_cases.proofs.print_first.Statement.{statement}
 use Rattle.check_cases.proofs.print_first.Tie as tie
 use Rattle.check_cases.proofs.print.Reads as print-reads
