@@ -1,0 +1,72 @@
+use borrow.Author.Needs.{needs}
+use Rattle.late.proofs.limits.limit_by.Statement.{statement}
+use Rattle.late.proofs.limits.limit_by.Tie as tie
+use Rattle.late.proofs.limits.limit_by.Reads as reads
+use Rattle.late.proofs.limits.limit_by.Lts as lts
+use Rattle.late.proofs.limits.limit.Reads as limit-reads
+use Rattle.project.proofs.bounds_start.Reads as bounds-start-reads
+
+-- src/limits.rt:122:30
+enum-told : tie.Need-enum-told
+enum-told c = search needs
+
+-- src/limits.rt:122:30
+limit-requires : tie.Need-limit-requires
+limit-requires c κs = search needs
+
+-- src/limits.rt:124:16
+enum-told-2 : tie.Need-enum-told-2
+enum-told-2 c = search needs
+
+-- src/limits.rt:124:16
+bounds-start-requires : tie.Need-bounds-start-requires
+bounds-start-requires c κs = search needs
+
+-- src/limits.rt:125:17
+returns : tie.Need-returns
+returns c = ?
+
+-- src/limits.rt:127:13
+limit-requires-2 : tie.Need-limit-requires-2
+limit-requires-2 c κs = search needs
+
+-- src/limits.rt:129:36
+enum-told-3 : tie.Need-enum-told-3
+enum-told-3 c = search needs
+
+-- src/limits.rt:130:25
+enum-known-actual : tie.Need-enum-known-actual
+enum-known-actual c = search needs
+
+-- src/limits.rt:110:1
+returns-2 : tie.Need-returns-2
+returns-2 c = ?
+
+-- src/limits.rt:110:1
+returns-3 : tie.Need-returns-3
+returns-3 c = ?
+
+-- src/limits.rt:110:1
+returns-4 : tie.Need-returns-4
+returns-4 c = ?
+
+-- src/limits.rt:110:1
+returns-5 : tie.Need-returns-5
+returns-5 c = ?
+
+pub limit-by-spec : {M : Type 1} → statement M
+limit-by-spec =
+    tie.close
+    (tie.spec
+    enum-told
+    limit-requires
+    enum-told-2
+    bounds-start-requires
+    returns
+    limit-requires-2
+    enum-told-3
+    enum-known-actual
+    returns-2
+    returns-3
+    returns-4
+    returns-5)

@@ -1,0 +1,3 @@
+-- The late dates of one activity.
+pub mod Unfinished
+pub mod LimitLaws
