@@ -1,3 +1,6 @@
 -- The late dates of one activity.
 pub mod Unfinished
+pub mod Times
 pub mod LimitLaws
+pub mod PlaceLaws
+pub mod LinkLaws

@@ -1,3 +1,9 @@
+-- `late::limits::limit` meets its contract. Each way out has its law.
+use Rattle.late.specs.LimitLaws.{limited-at, limited-beyond, limited-nowhere, limited-refused}
+use Rattle.placing.specs.Placing.{bounded, constraintTime}
+use Rattle.project.specs.Status.{onStart}
+use Prim.Native.Nat.{ℕ}
+use mathlib.Core.Path.{sym, ap, _∙_}
 use borrow.Author.Needs.{needs}
 use Rattle.late.proofs.limits.limit.Statement.{statement}
 use Rattle.late.proofs.limits.limit.Tie as tie
@@ -41,19 +47,35 @@ enum-known-k-2 c = search needs
 
 -- src/limits.rt:82:1
 returns : tie.Need-returns
-returns c = ?
+returns c =
+    λ p d l i O.
+    let x = c .before .before .before .before .before .before .before .before .before .before .args in
+    let e = (λ z. constraintTime (sym (O .works) z) (onStart (x .constraint))) ∙ sym (c .before .before .before .before .before .before .before .before .constraint-time .ensures) ∙ c .before .before .before .before .before .before .t .given .1 in
+    let f = ap (λ (o : ℕ). bounded o (c .before .before .before .before .before .before .t .given .0 .0)) (sym (O .origin-is)) ∙ sym (c .before .before .before .before .bounded .ensures) ∙ c .before .before .b .given .1 in
+    c .limit-at .ensures p d l i O ∙ sym (limited-at p d l i (x .constraint) (x .latest) _ _ e f)
 
 -- src/limits.rt:82:1
 returns-2 : tie.Need-returns-2
-returns-2 c = ?
+returns-2 c =
+    λ p d l i O.
+    let x = c .before .before .before .before .before .before .before .before .before .args in
+    let e = (λ z. constraintTime (sym (O .works) z) (onStart (x .constraint))) ∙ sym (c .before .before .before .before .before .before .before .constraint-time .ensures) ∙ c .before .before .before .before .before .t .given .1 in
+    let f = ap (λ (o : ℕ). bounded o (c .before .before .before .before .before .t .given .0 .0)) (sym (O .origin-is)) ∙ sym (c .before .before .before .bounded .ensures) ∙ c .before .k .given .1 in
+    sym (limited-beyond p d l i (x .constraint) (x .latest) _ _ e f)
 
 -- src/limits.rt:82:1
 returns-3 : tie.Need-returns-3
-returns-3 c = ?
+returns-3 c =
+    λ p d l i O.
+    let x = c .before .before .before .before .args in
+    sym (limited-nowhere p d l i (x .constraint) (x .latest) ((λ z. constraintTime (sym (O .works) z) (onStart (x .constraint))) ∙ sym (c .before .before .constraint-time .ensures) ∙ c .enum-told .given .1))
 
 -- src/limits.rt:82:1
 returns-4 : tie.Need-returns-4
-returns-4 c = ?
+returns-4 c =
+    λ p d l i O.
+    let x = c .before .before .before .before .before .args in
+    sym (limited-refused p d l i (x .constraint) (x .latest) _ ((λ z. constraintTime (sym (O .works) z) (onStart (x .constraint))) ∙ sym (c .before .before .before .constraint-time .ensures) ∙ c .before .k2 .given .1))
 
 pub limit-spec : {M : Type 1} → statement M
 limit-spec =

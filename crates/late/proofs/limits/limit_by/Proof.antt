@@ -1,3 +1,6 @@
+-- `late::limits::limit_by` meets its contract, by what is recorded.
+use Rattle.late.specs.LimitLaws.{by-unstarted, by-begun-start, by-begun, by-completed, by-refused}
+use mathlib.Core.Path.{sym, _∙_}
 use borrow.Author.Needs.{needs}
 use Rattle.late.proofs.limits.limit_by.Statement.{statement}
 use Rattle.late.proofs.limits.limit_by.Tie as tie
@@ -24,7 +27,7 @@ bounds-start-requires c κs = search needs
 
 -- src/limits.rt:125:17
 returns : tie.Need-returns
-returns c = ?
+returns c = λ p d l i O. sym (by-begun-start p d l i _ _ _ _ (c .before .before .enum-told2 .given .1) (sym (c .before .bounds-start .ensures) ∙ c .if1 .taken))
 
 -- src/limits.rt:127:13
 limit-requires-2 : tie.Need-limit-requires-2
@@ -40,19 +43,19 @@ enum-known-actual c = search needs
 
 -- src/limits.rt:110:1
 returns-2 : tie.Need-returns-2
-returns-2 c = ?
+returns-2 c = λ p d l i O. c .limit .ensures p d l i O ∙ sym (by-unstarted p d l i _ _ _ (c .before .enum-told .given .1))
 
 -- src/limits.rt:110:1
 returns-3 : tie.Need-returns-3
-returns-3 c = ?
+returns-3 c = λ p d l i O. c .limit2 .ensures p d l i O ∙ sym (by-begun p d l i _ _ _ _ (c .before .before .before .enum-told2 .given .1) (sym (c .before .before .bounds-start .ensures) ∙ c .before .if1 .left))
 
 -- src/limits.rt:110:1
 returns-4 : tie.Need-returns-4
-returns-4 c = ?
+returns-4 c = λ p d l i O. sym (by-completed p d l i _ _ _ _ _ (c .enum-told3 .given .1))
 
 -- src/limits.rt:110:1
 returns-5 : tie.Need-returns-5
-returns-5 c = ?
+returns-5 c = λ p d l i O. sym (by-refused p d l i _ _ _ _ (c .before .actual .given .1))
 
 pub limit-by-spec : {M : Type 1} → statement M
 limit-by-spec =

@@ -1,3 +1,7 @@
+-- `late::limits::start_limit` meets its contract.
+use Rattle.placing.specs.PlacingLaws.{via-at, via-refused}
+use Rattle.worktime.specs.declared.Walk.the-variants.{At, Refused}
+use mathlib.Core.Path.{sym, ap, _∙_}
 use borrow.Author.Needs.{needs}
 use Rattle.late.proofs.limits.start_limit.Statement.{statement}
 use Rattle.late.proofs.limits.start_limit.Tie as tie
@@ -24,11 +28,11 @@ enum-known-k c = search needs
 
 -- src/limits.rt:23:1
 returns : tie.Need-returns
-returns c = ?
+returns c = ap At (c .earlier .ensures) ∙ sym (via-at Refused _ _ _ (sym (c .before .before .before .before .finish-for-start-by .ensures) ∙ c .before .before .f .given .1))
 
 -- src/limits.rt:23:1
 returns-2 : tie.Need-returns-2
-returns-2 c = ?
+returns-2 c = sym (via-refused Refused _ _ _ (sym (c .before .before .before .finish-for-start-by .ensures) ∙ c .before .k .given .1))
 
 pub start-limit-spec : {M : Type 1} → statement M
 start-limit-spec =

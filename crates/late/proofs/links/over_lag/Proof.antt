@@ -1,0 +1,65 @@
+use borrow.Author.Needs.{needs}
+use Rattle.late.proofs.links.over_lag.Statement.{statement}
+use Rattle.late.proofs.links.over_lag.Tie as tie
+use Rattle.late.proofs.links.over_lag.Reads as reads
+use Rattle.late.proofs.links.over_lag.Lts as lts
+use Rattle.calendars.proofs.exceptions_of.Reads as exceptions-of-reads
+use Rattle.calendars.proofs.week_of.Reads as week-of-reads
+use Rattle.clock.proofs.next_start.Reads as next-start-reads
+use Rattle.clock.proofs.shift.Reads as shift-reads
+use Rattle.number.proofs.sign.negate.Reads as negate-reads
+
+-- src/links.rt:30:9
+returns : tie.Need-returns
+returns c = ?
+
+-- src/links.rt:32:9
+week-of-requires : tie.Need-week-of-requires
+week-of-requires c κs = search needs
+
+-- src/links.rt:33:9
+exceptions-of-requires : tie.Need-exceptions-of-requires
+exceptions-of-requires c κs = search needs
+
+-- src/links.rt:36:47
+negate-requires : tie.Need-negate-requires
+negate-requires c κs = search needs
+
+-- src/links.rt:36:11
+shift-requires : tie.Need-shift-requires
+shift-requires c κs = ?
+
+-- src/links.rt:37:18
+enum-known-v : tie.Need-enum-known-v
+enum-known-v c = search needs
+
+-- src/links.rt:37:24
+next-start-requires : tie.Need-next-start-requires
+next-start-requires c κs = ?
+
+-- src/links.rt:38:23
+enum-known-r : tie.Need-enum-known-r
+enum-known-r c = search needs
+
+-- src/links.rt:25:1
+returns-2 : tie.Need-returns-2
+returns-2 c = ?
+
+-- src/links.rt:25:1
+returns-3 : tie.Need-returns-3
+returns-3 c = ?
+
+pub over-lag-spec : {M : Type 1} → statement M
+over-lag-spec =
+    tie.close
+    (tie.spec
+    returns
+    week-of-requires
+    exceptions-of-requires
+    negate-requires
+    shift-requires
+    enum-known-v
+    next-start-requires
+    enum-known-r
+    returns-2
+    returns-3)

@@ -1,0 +1,119 @@
+use borrow.Author.Needs.{needs}
+use Rattle.late.proofs.place_late.Statement.{statement}
+use Rattle.late.proofs.place_late.Tie as tie
+use Rattle.late.proofs.place_late.Reads as reads
+use Rattle.late.proofs.place_late.Lts as lts
+use Rattle.late.proofs.lift.Reads as lift-reads
+use Rattle.placing.proofs.bounded.Reads as bounded-reads
+use Rattle.placing.proofs.place_finish.Reads as place-finish-reads
+use Rattle.placing.proofs.start_of.Reads as start-of-reads
+
+-- src/lib.rt:97:11
+place-finish-requires : tie.Need-place-finish-requires
+place-finish-requires c κs = search needs
+
+-- src/lib.rt:98:18
+enum-known-t : tie.Need-enum-known-t
+enum-known-t c = search needs
+
+-- src/lib.rt:98:30
+bounded-requires : tie.Need-bounded-requires
+bounded-requires c κs = search needs
+
+-- src/lib.rt:99:22
+enum-known-b : tie.Need-enum-known-b
+enum-known-b c = search needs
+
+-- src/lib.rt:99:34
+lift-requires : tie.Need-lift-requires
+lift-requires c κs = ?
+
+-- src/lib.rt:100:26
+enum-known-f : tie.Need-enum-known-f
+enum-known-f c = search needs
+
+-- src/lib.rt:100:38
+start-of-requires : tie.Need-start-of-requires
+start-of-requires c κs = search needs
+
+-- src/lib.rt:101:30
+enum-known-u : tie.Need-enum-known-u
+enum-known-u c = search needs
+
+-- src/lib.rt:101:42
+bounded-requires-2 : tie.Need-bounded-requires-2
+bounded-requires-2 c κs = search needs
+
+-- src/lib.rt:102:34
+enum-known-s : tie.Need-enum-known-s
+enum-known-s c = search needs
+
+-- src/lib.rt:103:39
+enum-known-k : tie.Need-enum-known-k
+enum-known-k c = search needs
+
+-- src/lib.rt:105:35
+enum-known-k-2 : tie.Need-enum-known-k-2
+enum-known-k-2 c = search needs
+
+-- src/lib.rt:107:31
+enum-known-k-3 : tie.Need-enum-known-k-3
+enum-known-k-3 c = search needs
+
+-- src/lib.rt:109:27
+enum-known-k-4 : tie.Need-enum-known-k-4
+enum-known-k-4 c = search needs
+
+-- src/lib.rt:111:23
+enum-known-k-5 : tie.Need-enum-known-k-5
+enum-known-k-5 c = search needs
+
+-- src/lib.rt:82:1
+returns : tie.Need-returns
+returns c = ?
+
+-- src/lib.rt:82:1
+returns-2 : tie.Need-returns-2
+returns-2 c = ?
+
+-- src/lib.rt:82:1
+returns-3 : tie.Need-returns-3
+returns-3 c = ?
+
+-- src/lib.rt:82:1
+returns-4 : tie.Need-returns-4
+returns-4 c = ?
+
+-- src/lib.rt:82:1
+returns-5 : tie.Need-returns-5
+returns-5 c = ?
+
+-- src/lib.rt:82:1
+returns-6 : tie.Need-returns-6
+returns-6 c = ?
+
+pub place-late-spec : {M : Type 1} → statement M
+place-late-spec =
+    tie.close
+    (tie.spec
+    place-finish-requires
+    enum-known-t
+    bounded-requires
+    enum-known-b
+    lift-requires
+    enum-known-f
+    start-of-requires
+    enum-known-u
+    bounded-requires-2
+    enum-known-s
+    enum-known-k
+    enum-known-k-2
+    enum-known-k-3
+    enum-known-k-4
+    enum-known-k-5
+    returns
+    returns-2
+    returns-3
+    returns-4
+    returns-5
+    returns-6)
