@@ -4,12 +4,17 @@ use project::Activity;
 use project::OptionalDate;
 use project::RelationshipType;
 use sheet::Contents;
+use worktime::Walk;
 ghost use mathlib.Core.Path.{_≡_};
 ghost use Prim.Native.Nat.{_+_, _^_, _≤_, _<_};
+ghost use Rattle.number.specs.Zed.{dn};
+ghost use Rattle.calendar.specs.Hours.{worked};
+ghost use Rattle.worktime.specs.Walks.{shift};
 ghost use Rattle.memory.specs.State.{Room, stateOf};
 ghost use Rattle.sheet.specs.Known.{SheetRead};
 ghost use Rattle.order.specs.Plan.{Plan, planOf};
 ghost use Rattle.passes.specs.Plan.{origin, floor, begun};
+ghost use Rattle.calendars.specs.Calendars.{Places};
 ghost use Rattle.dates.specs.Standing.{asTie, tieIn, actualIn};
 
 // A kept link: the activities at its ends, its type, and its lag in minutes of a calendar.
@@ -112,4 +117,17 @@ pub fn floor_of(sheet: &[u8], contents: Contents) -> u64
             return start;
         }
     }
+}
+
+// `t` moved by a lag that counts on calendar `k`.
+pub fn shifted(sheet: &[u8], contents: Contents, places: &[u64], k: usize, t: u64, lag: i64) -> Walk
+    requires { ⌜ SheetRead (now sheet) contents × Places (now sheet) contents (now places) × (dn lag < 2 ^ 63) ⌝ }
+    ensures { λ r. ⌜ r ≡ shift (worked (planOf (now (sheet .entry)) contents .hours k)) t lag ⌝ }
+{
+    if lag == 0 {
+        return Walk::At(t);
+    }
+    let week = calendars::week_of(sheet, contents, places, k);
+    let e = calendars::exceptions_of(sheet, contents, places, k);
+    clock::shift(week, sheet, e.at, e.n, t, lag)
 }

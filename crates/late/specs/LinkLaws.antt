@@ -2,11 +2,11 @@
 use mathlib.Core.Path.{_≡_, refl, sym, ap, _∙_}
 use mathlib.Core.Bool.{Bool, true, false}
 use mathlib.Core.List.{List, [], _∷_}
-use Prim.Native.Nat.{ℕ, _+_, min}
+use Prim.Native.Nat.{ℕ, zero, suc, _+_, min}
 use native.Mathlib.Omega.{arith}
 use borrow.Author.Tests.{ne-eqb}
 use lib.Dec.{eqb}
-use lib.IntN.{ℤ, pos, negℤ}
+use lib.IntN.{ℤ, pos, negsuc, negℤ}
 use Rattle.number.specs.Zed.{up, dn}
 use Rattle.worktime.specs.declared.Walk.{Walk}
 use Rattle.worktime.specs.declared.Walk.the-variants.{At, Refused}
@@ -14,7 +14,7 @@ use Rattle.worktime.specs.Walks.{nextStart, shift, advance}
 use Rattle.worktime.specs.Reads.{on-false}
 use Rattle.project.specs.declared.RelationshipType.{RelationshipType}
 use Rattle.project.specs.declared.RelationshipType.the-variants.{FinishToStart, StartToStart, FinishToFinish, StartToFinish}
-use Rattle.placing.specs.Placing.{via, bounded}
+use Rattle.placing.specs.Placing.{via, bounded, latestSame}
 use Rattle.placing.specs.PlacingLaws.{via-at, via-refused}
 use Rattle.cells.specs.Chain.{gather}
 use Rattle.order.specs.Plan.{Plan}
@@ -55,6 +55,16 @@ module _ (w : ℕ → Bool) (ls lf : ℕ) where
   unfolding timesOf
   times-at s f e g = via-at LateDates.Refused _ _ s e ∙ via-at LateDates.Refused _ _ f g
 
+-- ---- a lag of no minutes, and the other sign
+pub none-is : (z : ℤ) → up z + dn z ≡ 0 → z ≡ pos 0
+none-is (pos n) e = let z : n ≡ 0 = omega arith in ap pos z
+none-is (negsuc n) e = absurd (omega arith)
+
+pub dn-negated : (z : ℤ) → dn (negℤ z) ≡ up z
+dn-negated (pos zero) = refl
+dn-negated (pos (suc n)) = refl
+dn-negated (negsuc n) = refl
+
 via-all : (x : Walk) → via Refused x (λ v. At v) ≡ x
 via-all (At t) = refl
 via-all (Refused k) = refl
@@ -92,14 +102,16 @@ module _ (p : Plan) (d : Early) (l : Late) where
       pub link-times-refused : (r : ℕ) → times ≡ LateDates.Refused r → linkFinish p d l i k ≡ Refused r
       unfolding linkFinish timesOf
       link-times-refused r e =
-          both-refused _ _ (λ ls lf. via Refused (finishFor p d l i (tie p k) (tie p k .kind) ls lf) (bounded (origin p))) r e
+          both-refused (latestSame (own p (tie p k .to)) (l .ls (tie p k .to))) (latestSame (own p (tie p k .to)) (l .lf (tie p k .to)))
+          (λ ls lf. via Refused (finishFor p d l i (tie p k) (tie p k .kind) ls lf) (bounded (origin p))) r e
 
       module _ (ls lf : ℕ) (e : times ≡ Dates ls lf) where
         link-over : linkFinish p d l i k
             ≡ via Refused (via Refused (overLag p d l (tie p k) (targetOf (tie p k .kind) ls lf)) (finishBy (own p i) (d .left i) (tie p k .kind))) (bounded (origin p))
         unfolding linkFinish timesOf
         link-over =
-            both-at _ _ (λ ls lf. via Refused (finishFor p d l i (tie p k) (tie p k .kind) ls lf) (bounded (origin p))) ls lf e
+            both-at (latestSame (own p (tie p k .to)) (l .ls (tie p k .to))) (latestSame (own p (tie p k .to)) (l .lf (tie p k .to)))
+            (λ ls lf. via Refused (finishFor p d l i (tie p k) (tie p k .kind) ls lf) (bounded (origin p))) ls lf e
             ∙ ap (λ (x : Walk). via Refused x (bounded (origin p))) (finish-for-is (tie p k) (tie p k .kind) ls lf)
 
         pub link-lag-refused : (r : ℕ) → overLag p d l (tie p k) (targetOf (tie p k .kind) ls lf) ≡ Refused r → linkFinish p d l i k ≡ Refused r

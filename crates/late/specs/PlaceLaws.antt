@@ -33,6 +33,12 @@ fitting-dates s f a b t g e =
     let y : f ≡ g = cc in
     (omega arith, omega arith)
 
+pub fits-at : (t : ℕ) → t < 2 ^ 63 → (v : ℕ) → At t ≡ At v → v < 2 ^ 63
+fits-at t h v e = let z : t ≡ v = cc in omega arith
+
+pub fits-refused : (k v : ℕ) → Refused k ≡ At v → v < 2 ^ 63
+fits-refused k v e = let z : _≡_ {A = ℕ} 0 1 = cc in absurd (omega arith)
+
 pub bounded-fits : (o t b : ℕ) → o < 2 ^ 43 → bounded o t ≡ At b → b < 2 ^ 63
 bounded-fits o t b h e = let q = bounded-sound o t b e in omega (arith, q .0, q .1)
 

@@ -6,8 +6,8 @@ use project::RelationshipType;
 use sheet::Contents;
 use worktime::Walk;
 ghost use mathlib.Core.Path.{_≡_};
-ghost use Prim.Native.Nat.{ℕ, _^_, _<_};
-ghost use Rattle.number.specs.Zed.{dn};
+ghost use Prim.Native.Nat.{ℕ, _+_, _^_, _<_};
+ghost use Rattle.number.specs.Zed.{up, dn};
 ghost use Rattle.calendar.specs.Records.{Valid};
 ghost use Rattle.clock.specs.On.{workedOn};
 ghost use Rattle.memory.specs.State.{Room, stateOf};
@@ -23,7 +23,7 @@ ghost use Rattle.late.specs.Times.{timesOf, targetOf, finishBy};
 
 // Back from `x` over a lag on calendar `k`, and, for a lag that is not 0, on to that calendar's next start.
 fn over_lag(sheet: &[u8], contents: Contents, places: &[u64], k: usize, lag: i64, x: u64) -> Walk
-    requires { ⌜ SheetRead (now sheet) contents × Places (now sheet) contents (now places) × (dn lag < 2 ^ 63) ⌝ }
+    requires { ⌜ SheetRead (now sheet) contents × Places (now sheet) contents (now places) × (up lag + dn lag < 2 ^ 63) ⌝ }
     ensures { λ r. ⌜ ((d : Early) (l : Late) (t : Tie) → t .calendar ≡ k → t .lag ≡ lag → r ≡ overLag (planOf (now (sheet .entry)) contents) d l t x) ⌝ }
 {
     if lag == 0 {

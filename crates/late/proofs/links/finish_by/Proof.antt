@@ -1,3 +1,8 @@
+-- `late::links::finish_by` meets its contract, by the link's type.
+use Rattle.late.specs.Times.{finishBy}
+use Rattle.clock.specs.On.{workedOn}
+use Rattle.project.specs.declared.RelationshipType.{RelationshipType}
+use mathlib.Core.Path.{sym, ap, _∙_}
 use borrow.Author.Needs.{needs}
 use Rattle.late.proofs.links.finish_by.Statement.{statement}
 use Rattle.late.proofs.links.finish_by.Tie as tie
@@ -31,19 +36,27 @@ finish-for-start-requires-2 c κs = search needs
 
 -- src/links.rt:83:1
 returns : tie.Need-returns
-returns c = ?
+returns c =
+    let x = c .before .before .before .args in
+    sym (ap (λ (k : RelationshipType). finishBy (workedOn (x .week) (x .sheet .now) (x .unfinished .at) (x .unfinished .n)) (x .unfinished .left) k (x .v)) (c .enum-told .given .1))
 
 -- src/links.rt:83:1
 returns-2 : tie.Need-returns-2
-returns-2 c = ?
+returns-2 c =
+    let x = c .before .before .before .before .args in
+    c .finish-for-start .ensures ∙ sym (ap (λ (k : RelationshipType). finishBy (workedOn (x .week) (x .sheet .now) (x .unfinished .at) (x .unfinished .n)) (x .unfinished .left) k (x .v)) (c .before .enum-told2 .given .1))
 
 -- src/links.rt:83:1
 returns-3 : tie.Need-returns-3
-returns-3 c = ?
+returns-3 c =
+    let x = c .before .before .before .args in
+    sym (ap (λ (k : RelationshipType). finishBy (workedOn (x .week) (x .sheet .now) (x .unfinished .at) (x .unfinished .n)) (x .unfinished .left) k (x .v)) (c .enum-told3 .given .1))
 
 -- src/links.rt:83:1
 returns-4 : tie.Need-returns-4
-returns-4 c = ?
+returns-4 c =
+    let x = c .before .before .before .before .args in
+    c .finish-for-start2 .ensures ∙ sym (ap (λ (k : RelationshipType). finishBy (workedOn (x .week) (x .sheet .now) (x .unfinished .at) (x .unfinished .n)) (x .unfinished .left) k (x .v)) (c .before .enum-told4 .given .1))
 
 pub finish-by-spec : {M : Type 1} → statement M
 finish-by-spec =

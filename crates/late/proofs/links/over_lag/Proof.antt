@@ -1,3 +1,16 @@
+-- `late::links::over_lag` meets its contract.
+use Rattle.late.specs.LinkLaws.{none-is, dn-negated, over-none, over-refused, over-at}
+use Rattle.calendars.specs.CalendarLaws.{calendar-valid, calendar-worked}
+use Rattle.order.specs.Plan.{planOf}
+use Rattle.worktime.specs.Walks.{nextStart, shift}
+use Rattle.calendar.specs.Hours.{worked}
+use lib.IntN.{negℤ}
+use mir.Facts.{toZ-ofZ}
+use mir.Val.{toZ, ofZ}
+use mir.Syntax.{w64}
+use native.Mathlib.Omega.{arith}
+use Prim.Native.Nat.{ℕ}
+use mathlib.Core.Path.{_≡_, sym, ap, _∙_}
 use borrow.Author.Needs.{needs}
 use Rattle.late.proofs.links.over_lag.Statement.{statement}
 use Rattle.late.proofs.links.over_lag.Tie as tie
@@ -11,7 +24,7 @@ use Rattle.number.proofs.sign.negate.Reads as negate-reads
 
 -- src/links.rt:30:9
 returns : tie.Need-returns
-returns c = ?
+returns c = λ d l t e f. sym (over-none _ d l t _ (f ∙ sym (toZ-ofZ (c .before .before .before .fits .lag)) ∙ ap (toZ w64) (c .if1 .taken)))
 
 -- src/links.rt:32:9
 week-of-requires : tie.Need-week-of-requires
@@ -27,7 +40,7 @@ negate-requires c κs = search needs
 
 -- src/links.rt:36:11
 shift-requires : tie.Need-shift-requires
-shift-requires c κs = ?
+shift-requires c κs = (calendar-valid (record { week-is = c .before .before .week-of .ensures; at-is = c .before .exceptions-of .ensures .0; n-is = c .before .exceptions-of .ensures .1 }) (c .before .before .before .before .before .before .pre .0), ?)
 
 -- src/links.rt:37:18
 enum-known-v : tie.Need-enum-known-v
@@ -35,7 +48,7 @@ enum-known-v c = search needs
 
 -- src/links.rt:37:24
 next-start-requires : tie.Need-next-start-requires
-next-start-requires c κs = ?
+next-start-requires c κs = calendar-valid (record { week-is = c .before .before .before .before .before .before .week-of .ensures; at-is = c .before .before .before .before .before .exceptions-of .ensures .0; n-is = c .before .before .before .before .before .exceptions-of .ensures .1 }) (c .before .before .before .before .before .before .before .before .before .before .pre .0)
 
 -- src/links.rt:38:23
 enum-known-r : tie.Need-enum-known-r
@@ -43,7 +56,7 @@ enum-known-r c = search needs
 
 -- src/links.rt:25:1
 returns-2 : tie.Need-returns-2
-returns-2 c = ?
+returns-2 c = let z = (c .before .before .before .before .before .before .before .before .if1 .left, c .before .before .before .before .before .negate .ensures, c .before .before .before .before .shift .ensures, c .before .before .before .before .before .negate .fits) in ?
 
 -- src/links.rt:25:1
 returns-3 : tie.Need-returns-3

@@ -1,3 +1,13 @@
+-- `late::links::successor_times` meets its contract.
+use Rattle.late.specs.LinkLaws.{times-start-refused, times-finish-refused, times-at}
+use Rattle.calendars.specs.CalendarLaws.{calendar-valid, calendar-worked}
+use Rattle.passes.specs.Plan.{own}
+use Rattle.order.specs.Plan.{planOf}
+use Rattle.project.specs.declared.Activity.{Activity}
+use Rattle.worktime.specs.Walks.{nextStart}
+use Rattle.clock.specs.On.{workedOn}
+use Rattle.calendar.specs.Hours.{worked}
+use mathlib.Core.Path.{_≡_, sym, ap, _∙_}
 use borrow.Author.Needs.{needs}
 use Rattle.late.proofs.links.successor_times.Statement.{statement}
 use Rattle.late.proofs.links.successor_times.Tie as tie
@@ -35,7 +45,7 @@ get-act-requires-2 c κs = search needs
 
 -- src/links.rt:61:11
 latest-same-requires : tie.Need-latest-same-requires
-latest-same-requires c κs = ?
+latest-same-requires c κs = calendar-valid (record { week-is = c .before .before .before .week-of .ensures; at-is = c .before .before .exceptions-of .ensures .0; n-is = c .before .before .exceptions-of .ensures .1 }) (c .before .before .before .before .before .before .before .before .pre .0)
 
 -- src/links.rt:62:18
 enum-known-s : tie.Need-enum-known-s
@@ -43,7 +53,7 @@ enum-known-s c = search needs
 
 -- src/links.rt:62:30
 latest-same-requires-2 : tie.Need-latest-same-requires-2
-latest-same-requires-2 c κs = ?
+latest-same-requires-2 c κs = calendar-valid (record { week-is = c .before .before .before .before .before .before .before .week-of .ensures; at-is = c .before .before .before .before .before .before .exceptions-of .ensures .0; n-is = c .before .before .before .before .before .before .exceptions-of .ensures .1 }) (c .before .before .before .before .before .before .before .before .before .before .before .before .pre .0)
 
 -- src/links.rt:63:22
 enum-known-f : tie.Need-enum-known-f
@@ -59,15 +69,30 @@ enum-known-r-2 c = search needs
 
 -- src/links.rt:43:1
 returns : tie.Need-returns
-returns c = ?
+returns c =
+    let s = c .before .before .before .before .before .before .before .before .before .before .before .before .before .before .before .before in
+    let p = planOf (s .args .sheet .now) (s .args .contents) in
+    let e = c .before .before .before .before .before .before .before .before .before .before .exceptions-of .ensures in
+    let w = calendar-worked (record { week-is = c .before .before .before .before .before .before .before .before .before .before .before .week-of .ensures; at-is = e .0; n-is = e .1 }) ∙ ap (λ (y : Activity). worked (p .hours (y .calendar))) (c .before .before .before .before .before .before .before .before .before .before .before .before .before .activity-of .ensures) in
+    sym (times-at (own p (s .args .j)) _ _ _ _ ((λ z. nextStart (sym w z) (sym (c .before .before .before .before .before .before .before .before .before .get-act .ensures .0) z)) ∙ sym (c .before .before .before .before .before .before .before .latest-same .ensures) ∙ c .before .before .before .before .before .s .given .1) ((λ z. nextStart (sym w z) (sym (c .before .before .before .before .before .before .before .before .get-act2 .ensures .0) z)) ∙ sym (c .before .before .before .latest-same2 .ensures) ∙ c .before .f .given .1))
 
 -- src/links.rt:43:1
 returns-2 : tie.Need-returns-2
-returns-2 c = ?
+returns-2 c =
+    let s = c .before .before .before .before .before .before .before .before .before .before .before .before .before .before .before .before in
+    let p = planOf (s .args .sheet .now) (s .args .contents) in
+    let e = c .before .before .before .before .before .before .before .before .before .before .exceptions-of .ensures in
+    let w = calendar-worked (record { week-is = c .before .before .before .before .before .before .before .before .before .before .before .week-of .ensures; at-is = e .0; n-is = e .1 }) ∙ ap (λ (y : Activity). worked (p .hours (y .calendar))) (c .before .before .before .before .before .before .before .before .before .before .before .before .before .activity-of .ensures) in
+    sym (times-finish-refused (own p (s .args .j)) _ _ _ _ ((λ z. nextStart (sym w z) (sym (c .before .before .before .before .before .before .before .before .before .get-act .ensures .0) z)) ∙ sym (c .before .before .before .before .before .before .before .latest-same .ensures) ∙ c .before .before .before .before .before .s .given .1) ((λ z. nextStart (sym w z) (sym (c .before .before .before .before .before .before .before .before .get-act2 .ensures .0) z)) ∙ sym (c .before .before .before .latest-same2 .ensures) ∙ c .before .r .given .1))
 
 -- src/links.rt:43:1
 returns-3 : tie.Need-returns-3
-returns-3 c = ?
+returns-3 c =
+    let s = c .before .before .before .before .before .before .before .before .before .before .before .before in
+    let p = planOf (s .args .sheet .now) (s .args .contents) in
+    let e = c .before .before .before .before .before .before .exceptions-of .ensures in
+    let w = calendar-worked (record { week-is = c .before .before .before .before .before .before .before .week-of .ensures; at-is = e .0; n-is = e .1 }) ∙ ap (λ (y : Activity). worked (p .hours (y .calendar))) (c .before .before .before .before .before .before .before .before .before .activity-of .ensures) in
+    sym (times-start-refused (own p (s .args .j)) _ _ _ ((λ z. nextStart (sym w z) (sym (c .before .before .before .before .before .get-act .ensures .0) z)) ∙ sym (c .before .before .before .latest-same .ensures) ∙ c .before .r2 .given .1))
 
 pub successor-times-spec : {M : Type 1} → statement M
 successor-times-spec =
