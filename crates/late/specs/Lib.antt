@@ -5,3 +5,4 @@ pub mod UnfinishedLaws
 pub mod LimitLaws
 pub mod PlaceLaws
 pub mod LinkLaws
+pub mod StandLaws

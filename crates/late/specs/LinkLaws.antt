@@ -2,12 +2,16 @@
 use mathlib.Core.Path.{_≡_, refl, sym, ap, _∙_}
 use mathlib.Core.Bool.{Bool, true, false}
 use mathlib.Core.List.{List, [], _∷_}
-use Prim.Native.Nat.{ℕ, zero, suc, _+_, min}
+use Prim.Native.Nat.{ℕ, _+_, _^_, _<_, min}
 use native.Mathlib.Omega.{arith}
 use borrow.Author.Tests.{ne-eqb}
 use lib.Dec.{eqb}
 use lib.IntN.{ℤ, pos, negsuc, negℤ}
+use mir.Syntax.{w64}
+use mir.Val.{SFits, toZ, ofZ}
+use mir.Facts.{toZ-ofZ}
 use Rattle.number.specs.Zed.{up, dn}
+use Rattle.number.specs.ZedLaws.{neg-fits}
 use Rattle.worktime.specs.declared.Walk.{Walk}
 use Rattle.worktime.specs.declared.Walk.the-variants.{At, Refused}
 use Rattle.worktime.specs.Walks.{nextStart, shift, advance}
@@ -55,15 +59,14 @@ module _ (w : ℕ → Bool) (ls lf : ℕ) where
   unfolding timesOf
   times-at s f e g = via-at LateDates.Refused _ _ s e ∙ via-at LateDates.Refused _ _ f g
 
--- ---- a lag of no minutes, and the other sign
+-- ---- a lag of no minutes, and a lag's other sign
 pub none-is : (z : ℤ) → up z + dn z ≡ 0 → z ≡ pos 0
 none-is (pos n) e = let z : n ≡ 0 = omega arith in ap pos z
 none-is (negsuc n) e = absurd (omega arith)
 
-pub dn-negated : (z : ℤ) → dn (negℤ z) ≡ up z
-dn-negated (pos zero) = refl
-dn-negated (pos (suc n)) = refl
-dn-negated (negsuc n) = refl
+-- a negated number in a word of 64 bits
+pub negated-back : (z : ℤ) → SFits w64 z → dn z < 2 ^ 63 → (r : ℤ) → r ≡ negℤ (toZ w64 (ofZ w64 z)) → toZ w64 (ofZ w64 r) ≡ negℤ z
+negated-back z f b r e = let q : r ≡ negℤ z = e ∙ ap negℤ (toZ-ofZ f) in rw q (toZ-ofZ (neg-fits w64 z f b))
 
 via-all : (x : Walk) → via Refused x (λ v. At v) ≡ x
 via-all (At t) = refl

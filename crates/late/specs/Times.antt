@@ -9,7 +9,8 @@ use Rattle.project.specs.declared.RelationshipType.the-variants.{FinishToStart,
 use Rattle.placing.specs.Placing.{via, latestSame, finishForStart}
 use Rattle.order.specs.Plan.{Plan}
 use Rattle.passes.specs.Dates.{Early, Late, Pass, leaves, refused}
-use Rattle.passes.specs.Backward.{late}
+use Rattle.passes.specs.Plan.{tiesOut}
+use Rattle.passes.specs.Backward.{late, lowered, heldLate, placedLate}
 use Rattle.late.specs.declared.LateDates.{LateDates}
 use Rattle.late.specs.declared.LateDates.the-variants.{Dates}
 
@@ -39,6 +40,10 @@ lowering link latest k go = via Refused (link k) (λ f. go (min latest f))
 abbrev pub dated : Plan → Early → Late → ℕ → LateDates → Pass Late
 dated p d l i (Dates s f) = leaves (late p d l i s f)
 dated p d l i (LateDates.Refused k) = refused k
+
+-- the late dates of an activity that is not completed
+abbrev pub unfinishedLate : Plan → Early → Late → ℕ → ℕ → Pass Late
+unfinishedLate p d l i last = via refused (lowered p d l i (tiesOut p i) last) (λ f. via refused (heldLate p d l i f) (placedLate p d l i))
 
 -- they fit the memory
 abbrev pub Fitting : LateDates → Type 0

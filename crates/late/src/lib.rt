@@ -1,17 +1,23 @@
 // The late dates of one activity: the finish that its links and constraints leave, and where its work then begins and ends.
 use calendar::Period;
+use placing::Actual;
 use project::Activity;
+use sheet::Contents;
 use worktime::Walk;
 ghost use mathlib.Core.Path.{_≡_};
 ghost use Prim.Native.Nat.{ℕ, _^_, _<_, min};
 ghost use Rattle.worktime.specs.declared.Walk.the-variants.{At};
 ghost use Rattle.calendar.specs.Records.{Valid};
 ghost use Rattle.clock.specs.On.{workedOn};
-ghost use Rattle.order.specs.Plan.{Plan};
+ghost use Rattle.memory.specs.State.{stateOf};
+ghost use Rattle.order.specs.Plan.{Plan, planOf};
+ghost use Rattle.passes.specs.Plan.{recorded};
 ghost use Rattle.passes.specs.Dates.{Early, Late};
 ghost use Rattle.passes.specs.Backward.{lifted, placedLate};
 ghost use Rattle.late.specs.Unfinished.{IsUnfinished};
-ghost use Rattle.late.specs.Times.{dated, Fitting};
+ghost use Rattle.dates.specs.Columns.{earlyIn, lateIn};
+ghost use Rattle.dates.specs.Standing.{Ready};
+ghost use Rattle.late.specs.Times.{dated, unfinishedLate, Fitting};
 
 pub mod limits;
 
@@ -110,4 +116,69 @@ fn place_late(
         },
         Walk::Refused(k) => LateDates::Refused(k),
     }
+}
+
+// The late dates that the links out of activity `i` and its constraints leave it.
+fn late_from(
+    sheet: &[u8],
+    contents: Contents,
+    places: &[u64],
+    t: usize,
+    work: &[i64],
+    week: [[Period; 8]; 7],
+    unfinished: Unfinished,
+    i: usize,
+    actual: Actual,
+    last: u64,
+) -> LateDates
+    requires { ⌜ Ready (now sheet) contents (now places) t (now work) × (i < contents .activities) × Valid week (now sheet) (unfinished .at) (unfinished .n) × IsUnfinished (planOf (now sheet) contents) (earlyIn (planOf (now sheet) contents) (stateOf (contents .activities) (contents .links) (now work))) i (workedOn week (now sheet) (unfinished .at) (unfinished .n)) unfinished × (unfinished .origin < 2 ^ 43) × (actual ≡ recorded (planOf (now sheet) contents) i) ⌝ }
+    ensures { λ r. ⌜ (dated (planOf (now (sheet .entry)) contents) (earlyIn (planOf (now (sheet .entry)) contents) (stateOf (contents .activities) (contents .links) (now (work .entry)))) (lateIn (planOf (now (sheet .entry)) contents) (stateOf (contents .activities) (contents .links) (now (work .entry))) last) i r ≡ unfinishedLate (planOf (now (sheet .entry)) contents) (earlyIn (planOf (now (sheet .entry)) contents) (stateOf (contents .activities) (contents .links) (now (work .entry)))) (lateIn (planOf (now (sheet .entry)) contents) (stateOf (contents .activities) (contents .links) (now (work .entry))) last) i last) × Fitting r ⌝ }
+{
+    let a = contents.activities;
+    let l = contents.links;
+    let mark = memory::get_act(work, a, l, i, memory::fields::IS_SUMMARY);
+    let early = memory::get_act(work, a, l, i, memory::fields::EARLY_FINISH);
+    match links::lower(sheet, contents, places, t, work, week, unfinished, i, last) {
+        Walk::At(f) => match limits::hold_late(week, sheet, unfinished, mark == 1, actual, f) {
+            Walk::At(g) => place_late(week, sheet, unfinished, early, g),
+            Walk::Refused(k) => LateDates::Refused(k),
+        },
+        Walk::Refused(k) => LateDates::Refused(k),
+    }
+}
+
+// The late dates of activity `i`, of which `actual` is recorded and which is not completed; `last` is the end.
+pub fn late_of(
+    sheet: &[u8],
+    contents: Contents,
+    places: &[u64],
+    t: usize,
+    work: &[i64],
+    i: usize,
+    actual: Actual,
+    last: u64,
+) -> LateDates
+    requires { ⌜ Ready (now sheet) contents (now places) t (now work) × (i < contents .activities) × (actual ≡ recorded (planOf (now sheet) contents) i) ⌝ }
+    ensures { λ r. ⌜ (dated (planOf (now (sheet .entry)) contents) (earlyIn (planOf (now (sheet .entry)) contents) (stateOf (contents .activities) (contents .links) (now (work .entry)))) (lateIn (planOf (now (sheet .entry)) contents) (stateOf (contents .activities) (contents .links) (now (work .entry))) last) i r ≡ unfinishedLate (planOf (now (sheet .entry)) contents) (earlyIn (planOf (now (sheet .entry)) contents) (stateOf (contents .activities) (contents .links) (now (work .entry)))) (lateIn (planOf (now (sheet .entry)) contents) (stateOf (contents .activities) (contents .links) (now (work .entry))) last) i last) × Fitting r ⌝ }
+{
+    let activity = dates::activity_of(sheet, contents, i);
+    let k = activity.calendar as usize;
+    let week = calendars::week_of(sheet, contents, places, k);
+    let e = calendars::exceptions_of(sheet, contents, places, k);
+    let left = memory::get_act(
+        work,
+        contents.activities,
+        contents.links,
+        i,
+        memory::fields::WORK_LEFT,
+    );
+    let origin = dates::origin_of(sheet, contents);
+    let unfinished = Unfinished {
+        activity: activity,
+        at: e.at,
+        n: e.n,
+        left: left,
+        origin: origin,
+    };
+    late_from(sheet, contents, places, t, work, week, unfinished, i, actual, last)
 }

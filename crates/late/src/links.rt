@@ -15,10 +15,13 @@ ghost use Rattle.memory.specs.Fields.{lateStart, lateFinish};
 ghost use Rattle.sheet.specs.Known.{SheetRead};
 ghost use Rattle.order.specs.Plan.{planOf};
 ghost use Rattle.order.specs.Ties.{Tie};
-ghost use Rattle.passes.specs.Plan.{own};
+ghost use Rattle.passes.specs.Plan.{own, tiesOut};
 ghost use Rattle.passes.specs.Dates.{Early, Late};
-ghost use Rattle.passes.specs.Backward.{overLag};
+ghost use Rattle.passes.specs.Backward.{overLag, linkFinish, lowered};
 ghost use Rattle.calendars.specs.Calendars.{Places};
+ghost use Rattle.dates.specs.Columns.{earlyIn, lateIn};
+ghost use Rattle.dates.specs.Standing.{Ready};
+ghost use Rattle.late.specs.Unfinished.{IsUnfinished};
 ghost use Rattle.late.specs.Times.{timesOf, targetOf, finishBy};
 
 // Back from `x` over a lag on calendar `k`, and, for a lag that is not 0, on to that calendar's next start.
@@ -112,4 +115,68 @@ fn finish_by(
             v,
         ),
     }
+}
+
+// The latest finish that link `k` leaves an activity that it leads out of.
+fn link_finish(
+    sheet: &[u8],
+    contents: Contents,
+    places: &[u64],
+    t: usize,
+    work: &[i64],
+    week: [[Period; 8]; 7],
+    unfinished: Unfinished,
+    k: usize,
+) -> Walk
+    requires { ⌜ Ready (now sheet) contents (now places) t (now work) × (k < t) × Valid week (now sheet) (unfinished .at) (unfinished .n) ⌝ }
+    ensures { λ r. ⌜ ((i last : ℕ) → IsUnfinished (planOf (now (sheet .entry)) contents) (earlyIn (planOf (now (sheet .entry)) contents) (stateOf (contents .activities) (contents .links) (now (work .entry)))) i (workedOn week (now (sheet .entry)) (unfinished .at) (unfinished .n)) unfinished → r ≡ linkFinish (planOf (now (sheet .entry)) contents) (earlyIn (planOf (now (sheet .entry)) contents) (stateOf (contents .activities) (contents .links) (now (work .entry)))) (lateIn (planOf (now (sheet .entry)) contents) (stateOf (contents .activities) (contents .links) (now (work .entry))) last) i k) ⌝ }
+{
+    let tie = dates::tie_at(work, contents.activities, contents.links, k);
+    let kind = tie.kind;
+    match successor_times(sheet, contents, places, work, tie.to) {
+        LateDates::Dates(start, finish) => {
+            let x = target(kind, start, finish);
+            match over_lag(sheet, contents, places, tie.calendar, tie.lag, x) {
+                Walk::At(v) => match finish_by(week, sheet, unfinished, kind, v) {
+                    Walk::At(f) => placing::bounded(unfinished.origin, f),
+                    Walk::Refused(r) => Walk::Refused(r),
+                },
+                Walk::Refused(r) => Walk::Refused(r),
+            }
+        }
+        LateDates::Refused(r) => Walk::Refused(r),
+    }
+}
+
+// The latest finish that the links out of activity `i` leave it, from `last` down.
+pub fn lower(
+    sheet: &[u8],
+    contents: Contents,
+    places: &[u64],
+    t: usize,
+    work: &[i64],
+    week: [[Period; 8]; 7],
+    unfinished: Unfinished,
+    i: usize,
+    last: u64,
+) -> Walk
+    requires { ⌜ Ready (now sheet) contents (now places) t (now work) × (i < contents .activities) × Valid week (now sheet) (unfinished .at) (unfinished .n) × IsUnfinished (planOf (now sheet) contents) (earlyIn (planOf (now sheet) contents) (stateOf (contents .activities) (contents .links) (now work))) i (workedOn week (now sheet) (unfinished .at) (unfinished .n)) unfinished ⌝ }
+    ensures { λ r. ⌜ r ≡ lowered (planOf (now (sheet .entry)) contents) (earlyIn (planOf (now (sheet .entry)) contents) (stateOf (contents .activities) (contents .links) (now (work .entry)))) (lateIn (planOf (now (sheet .entry)) contents) (stateOf (contents .activities) (contents .links) (now (work .entry))) last) i (tiesOut (planOf (now (sheet .entry)) contents) i) last ⌝ }
+{
+    let a = contents.activities;
+    let l = contents.links;
+    let mut latest = last;
+    let mut k = memory::get_act(work, a, l, i, memory::fields::FIRST_OUT) as usize;
+    while k < t {
+        match link_finish(sheet, contents, places, t, work, week, unfinished, k) {
+            Walk::At(f) => {
+                latest = crate::earlier(latest, f);
+            }
+            Walk::Refused(r) => {
+                return Walk::Refused(r);
+            }
+        }
+        k = memory::get_link(work, a, l, k, memory::fields::NEXT_OUT) as usize;
+    }
+    Walk::At(latest)
 }

@@ -1,5 +1,9 @@
+use Rattle.late.specs.LinkLaws.{negated-back}
+use Rattle.number.specs.ZedLaws.{neg-dn}
+use Rattle.number.specs.Zed.{dn}
+use Prim.Native.Nat.{_^_, _<_}
 -- `late::links::over_lag` meets its contract.
-use Rattle.late.specs.LinkLaws.{none-is, dn-negated, over-none, over-refused, over-at}
+use Rattle.late.specs.LinkLaws.{none-is, over-none, over-refused, over-at}
 use Rattle.calendars.specs.CalendarLaws.{calendar-valid, calendar-worked}
 use Rattle.order.specs.Plan.{planOf}
 use Rattle.worktime.specs.Walks.{nextStart, shift}
@@ -36,11 +40,18 @@ exceptions-of-requires c κs = search needs
 
 -- src/links.rt:36:47
 negate-requires : tie.Need-negate-requires
-negate-requires c κs = search needs
+negate-requires c κs =
+    let s = c .before .before .before .before .before in
+    let h : dn (s .args .lag) < 2 ^ 63 = omega (arith, s .pre .2) in
+    rw (toZ-ofZ (s .fits .lag)) h
 
 -- src/links.rt:36:11
 shift-requires : tie.Need-shift-requires
-shift-requires c κs = (calendar-valid (record { week-is = c .before .before .week-of .ensures; at-is = c .before .exceptions-of .ensures .0; n-is = c .before .exceptions-of .ensures .1 }) (c .before .before .before .before .before .before .pre .0), ?)
+shift-requires c κs =
+    let s = c .before .before .before .before .before .before in
+    let h : dn (negℤ (s .args .lag)) < 2 ^ 63 = omega (arith, neg-dn (s .args .lag), s .pre .2) in
+    (calendar-valid (record { week-is = c .before .before .week-of .ensures; at-is = c .before .exceptions-of .ensures .0; n-is = c .before .exceptions-of .ensures .1 }) (s .pre .0),
+    rw (negated-back (s .args .lag) (s .fits .lag) (omega (arith, s .pre .2)) _ (c .negate .ensures)) h)
 
 -- src/links.rt:37:18
 enum-known-v : tie.Need-enum-known-v
@@ -56,11 +67,28 @@ enum-known-r c = search needs
 
 -- src/links.rt:25:1
 returns-2 : tie.Need-returns-2
-returns-2 c = let z = (c .before .before .before .before .before .before .before .before .if1 .left, c .before .before .before .before .before .negate .ensures, c .before .before .before .before .shift .ensures, c .before .before .before .before .before .negate .fits) in ?
+returns-2 c =
+    λ d l t e f.
+    let s = c .before .before .before .before .before .before .before .before .before .before .before in
+    let p = planOf (s .args .sheet .now) (s .args .contents) in
+    let E = c .before .before .before .before .before .before .exceptions-of .ensures in
+    let w = calendar-worked (record { week-is = c .before .before .before .before .before .before .before .week-of .ensures; at-is = E .0; n-is = E .1 }) ∙ ap (λ (j : ℕ). worked (p .hours j)) (sym e) in
+    let m = ap negℤ f ∙ sym (negated-back (s .args .lag) (s .fits .lag) (omega (arith, s .pre .2)) _ (c .before .before .before .before .before .negate .ensures)) in
+    c .next-start .ensures ∙ (λ z. nextStart (w z) (c .before .before .v .given .0 .0))
+    ∙ sym
+    (over-at p d l t (s .args .x) _ ((λ z. shift (sym w z) (s .args .x) (m z)) ∙ sym (c .before .before .before .before .shift .ensures) ∙ c .before .before .v .given .1)
+    (λ h. c .before .before .before .before .before .before .before .before .if1 .left (ap (ofZ w64) (sym f ∙ none-is (t .lag) h))))
 
 -- src/links.rt:25:1
 returns-3 : tie.Need-returns-3
-returns-3 c = ?
+returns-3 c =
+    λ d l t e f.
+    let s = c .before .before .before .before .before .before .before .before .before .before in
+    let p = planOf (s .args .sheet .now) (s .args .contents) in
+    let E = c .before .before .before .before .before .exceptions-of .ensures in
+    let w = calendar-worked (record { week-is = c .before .before .before .before .before .before .week-of .ensures; at-is = E .0; n-is = E .1 }) ∙ ap (λ (j : ℕ). worked (p .hours j)) (sym e) in
+    let m = ap negℤ f ∙ sym (negated-back (s .args .lag) (s .fits .lag) (omega (arith, s .pre .2)) _ (c .before .before .before .before .negate .ensures)) in
+    sym (over-refused p d l t (s .args .x) _ ((λ z. shift (sym w z) (s .args .x) (m z)) ∙ sym (c .before .before .before .shift .ensures) ∙ c .before .r .given .1))
 
 pub over-lag-spec : {M : Type 1} → statement M
 over-lag-spec =
