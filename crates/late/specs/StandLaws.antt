@@ -12,15 +12,15 @@ use Rattle.worktime.specs.declared.Walk.the-variants.{At, Refused}
 use Rattle.cells.specs.Chain.{after, gather}
 use Rattle.cells.specs.ChainLaws.{Cursor, cursor-start, cursor-turn, cursor-stop, cursor-end}
 use Rattle.memory.specs.State.{State, stateOf}
-use Rattle.memory.specs.Fields.{lateStart, lateFinish, earlyFinish, isSummary, fromField, firstOut, nextOut}
+use Rattle.memory.specs.Fields.{lateStart, lateFinish, earlyFinish, workLeft, isSummary, fromField, firstOut, nextOut}
 use Rattle.sheet.specs.declared.Contents.{Contents}
 use Rattle.placing.specs.PlacingLaws.{via-at, via-refused}
 use Rattle.order.specs.Plan.{Plan, planOf}
 use Rattle.order.specs.Ids.{summary}
 use Rattle.order.specs.Ties as ties
 use Rattle.passes.specs.Plan.{own, tie, tiesOut, origin}
-use Rattle.passes.specs.Dates.{Early, Late}
-use Rattle.passes.specs.Backward.{overLag, linkFinish, lowered}
+use Rattle.passes.specs.Dates.{Early, Late, refused}
+use Rattle.passes.specs.Backward.{overLag, linkFinish, lowered, heldLate, placedLate}
 use Rattle.dates.specs.declared.Tie.{Tie}
 use Rattle.dates.specs.Columns.{earlyIn, lateIn}
 use Rattle.dates.specs.ColumnLaws.{column-at}
@@ -29,8 +29,19 @@ use Rattle.dates.specs.StandingLaws.{out-is}
 use Rattle.bounds.specs.ReadyLaws.{activities-are, tie-to-below}
 use Rattle.bounds.specs.LinkLaws.{tie-is, to-in}
 use Rattle.late.specs.declared.LateDates.{LateDates}
-use Rattle.late.specs.Times.{timesOf, targetOf, finishBy, lowering}
+use Rattle.late.specs.Times.{timesOf, targetOf, finishBy, lowering, unfinishedLate}
 use Rattle.late.specs.LinkLaws.{lowered-gather}
+
+-- ---- the ways to the late dates of an activity that is not completed
+module _ (p : Plan) (d : Early) (l : Late) (i last : ℕ) where
+  pub unfinished-lowered : (k : ℕ) → lowered p d l i (tiesOut p i) last ≡ Refused k → unfinishedLate p d l i last ≡ refused k
+  unfinished-lowered k e = via-refused refused _ _ k e
+
+  pub unfinished-held : (f k : ℕ) → lowered p d l i (tiesOut p i) last ≡ At f → heldLate p d l i f ≡ Refused k → unfinishedLate p d l i last ≡ refused k
+  unfinished-held f k e h = via-at refused _ _ f e ∙ via-refused refused _ _ k h
+
+  pub unfinished-placed : (f g : ℕ) → lowered p d l i (tiesOut p i) last ≡ At f → heldLate p d l i f ≡ At g → unfinishedLate p d l i last ≡ placedLate p d l i g
+  unfinished-placed f g e h = via-at refused _ _ f e ∙ via-at refused _ _ g h
 
 -- ---- a mark of 1
 pub mark-is : (b : Bool) (m : ℕ) → m ≡ bit b → eqb m 1 ≡ b
@@ -46,6 +57,9 @@ module _ {s : List ℕ} {c : Contents} {places : List ℕ} {t : ℕ} {xs : List 
 
   pub early-at : (i : ℕ) → i < c .activities → earlyIn p S .ef i ≡ S .act earlyFinish i
   early-at i b = column-at (p .activities) (λ j. origin p) earlyFinish S i (omega (arith, activities-are s c))
+
+  pub left-at : (i : ℕ) → i < c .activities → earlyIn p S .left i ≡ S .act workLeft i
+  left-at i b = column-at (p .activities) (λ j. 0) workLeft S i (omega (arith, activities-are s c))
 
   pub summary-at : (i m : ℕ) → i < c .activities → m ≡ S .act isSummary i → eqb m 1 ≡ summary p i
   summary-at i m b e = mark-is (summary p i) m (e ∙ R .standing .marks i (omega (arith, activities-are s c)))

@@ -1,0 +1,5 @@
+-- The backward pass.
+pub mod Finish
+pub mod FinishLaws
+pub mod OrderLaws
+pub mod BackLaws
