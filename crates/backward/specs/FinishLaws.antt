@@ -20,7 +20,23 @@ use Rattle.order.specs.Ids.{summary}
 use Rattle.passes.specs.Plan.{origin, evening}
 use Rattle.passes.specs.Dates.{Early}
 use Rattle.passes.specs.Backward.{greatestBelow, allSummaries, finish, endBy, end}
+use Rattle.memory.specs.State.{State}
+use Rattle.memory.specs.Fields.{earlyStart, earlyFinish}
+use Rattle.dates.specs.Columns.{earlyIn}
+use Rattle.dates.specs.ColumnLaws.{column-at}
+use Rattle.bounds.specs.ReadyLaws.{activities-are}
 use Rattle.backward.specs.Finish.{onward, greatestOne}
+
+-- ---- the early dates of one activity
+module _ (s : List ℕ) (c : Contents) (S : State) (i : ℕ) (b : i < c .activities) where
+  within : i < planOf s c .activities
+  within = omega (arith, activities-are s c)
+
+  pub start-at : earlyIn (planOf s c) S .es i ≡ S .act earlyStart i
+  start-at = column-at (planOf s c .activities) (λ j. origin (planOf s c)) earlyStart S i within
+
+  pub finish-at : earlyIn (planOf s c) S .ef i ≡ S .act earlyFinish i
+  finish-at = column-at (planOf s c .activities) (λ j. origin (planOf s c)) earlyFinish S i within
 
 -- ---- on with one activity
 pub onward-summary : (b : Bool) (ef so : ℕ) → b ≡ true → onward b ef so ≡ so
