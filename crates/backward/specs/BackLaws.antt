@@ -2,7 +2,7 @@
 use mathlib.Core.Path.{_≡_, refl, sym, ap, _∙_}
 use mathlib.Core.Bool.{Bool, true, false}
 use mathlib.Core.List.{List}
-use Prim.Native.Nat.{ℕ, _≤_, _<_}
+use Prim.Native.Nat.{ℕ, _<_}
 use native.Mathlib.Omega.{arith}
 use lib.Dec.{eqb}
 use lib.IntN.{ℤ, pos}
@@ -17,26 +17,24 @@ use Rattle.placing.specs.declared.Actual.{Actual}
 use Rattle.placing.specs.declared.Actual.the-variants.{Unstarted, Begun, Completed}
 use Rattle.order.specs.Plan.{Plan, planOf}
 use Rattle.passes.specs.Plan.{origin, recorded}
-use Rattle.passes.specs.Dates.{Early, Late, Pass, leaves, refused, put}
+use Rattle.passes.specs.Dates.{Early, Late, leaves, refused, put}
 use Rattle.passes.specs.Backward.{late, backwardBy, backward}
 use Rattle.dates.specs.Columns.{earlyIn, lateIn}
 use Rattle.dates.specs.ColumnLaws.{column-same, column-put, column-fill}
-use Rattle.dates.specs.Standing.{actualOf, Standing, Ready, Recorded}
+use Rattle.dates.specs.Standing.{actualOf, Ready, Recorded}
 use Rattle.dates.specs.StandingLaws.{standing-kept, recorded-kept}
 use Rattle.late.specs.Times.{unfinishedLate}
+use Rattle.backward.specs.Stored.{stored, filled}
 
 -- ---- late dates stored
-abbrev pub stored : State → ℕ → ℕ → ℕ → State
-stored S i s f = putAct (putAct S lateStart i s) lateFinish i f
-
 module _ (p : Plan) (S : State) (i s f : ℕ) where
   pub stored-late : (d : Early) (last : ℕ) → i < p .activities → lateIn p (stored S i s f) last ≡ late p d (lateIn p S last) i s f
   stored-late d last l =
       let T : State = putAct S lateStart i s in
       let a = column-same (p .activities) (λ j. last) lateStart T (stored S i s f) (act-field T lateFinish i (pos f) lateStart (λ e. omega arith))
-          ∙ column-put (p .activities) (λ j. last) lateStart S i s l in
+      ∙ column-put (p .activities) (λ j. last) lateStart S i s l in
       let b = column-put (p .activities) (λ j. last) lateFinish T i f l
-          ∙ ap (λ (g : ℕ → ℕ). put g i f) (column-same (p .activities) (λ j. last) lateFinish S T (act-field S lateStart i (pos s) lateFinish (λ e. omega arith))) in
+      ∙ ap (λ (g : ℕ → ℕ). put g i f) (column-same (p .activities) (λ j. last) lateFinish S T (act-field S lateStart i (pos s) lateFinish (λ e. omega arith))) in
       λ z. record { ls = a z; lf = b z }
 
   pub stored-frame : Frame 10 12 0 0 S (stored S i s f)
@@ -45,9 +43,6 @@ module _ (p : Plan) (S : State) (i s f : ℕ) where
       (frame-put 10 12 0 0 lateFinish (omega arith) (omega arith) (putAct S lateStart i s) i (pos f))
 
 -- ---- both fields filled with the end
-abbrev pub filled : State → ℕ → ℕ → State
-filled S n v = fillAct (fillAct S lateStart n v) lateFinish n v
-
 module _ (p : Plan) (S : State) (v : ℕ) where
   pub filled-late : lateIn p (filled S (p .activities) v) v ≡ record { ls = λ i. v; lf = λ i. v }
   filled-late =

@@ -15,8 +15,8 @@ Marked p S = (i : ℕ) → i < p .activities → S .act isSummary i ≡ bit (sum
 
 -- one more than the greatest early finish so far, and 0 for none: on with activity i
 abbrev pub onward : Bool → ℕ → ℕ → ℕ
-onward true ef so = so
-onward false ef so = max so (ef + 1)
+onward true ef top = top
+onward false ef top = max top (ef + 1)
 
 -- of the first n activities
 unfoldable pub greatestOne : Plan → Early → ℕ → ℕ

@@ -2,12 +2,11 @@
 use mathlib.Core.Path.{_≡_, refl, sym, ap, _∙_}
 use mathlib.Core.Bool.{Bool, true, false, _&&_}
 use mathlib.Core.List.{List}
-use Prim.Native.Nat.{ℕ, zero, suc, _+_, _-_, _^_, _≤_, _<_, max}
+use Prim.Native.Nat.{ℕ, zero, suc, _+_, _-_, _≤_, _<_, max}
 use native.Mathlib.Omega.{arith}
 use native.Mathlib.Numerals.{add-one}
 use Rattle.number.specs.Bit.{bit}
-use Rattle.worktime.specs.declared.Walk.{Walk}
-use Rattle.worktime.specs.declared.Walk.the-variants.{At, Refused}
+use Rattle.worktime.specs.declared.Walk.the-variants.{At}
 use Rattle.worktime.specs.Reads.{on-true, on-false}
 use Rattle.date.specs.declared.Date.{Date}
 use Rattle.project.specs.declared.OptionalDate.{OptionalDate}
@@ -17,7 +16,7 @@ use Rattle.placing.specs.Placing.{bounded, midnightOf}
 use Rattle.sheet.specs.declared.Contents.{Contents}
 use Rattle.order.specs.Plan.{Plan, planOf}
 use Rattle.order.specs.Ids.{summary}
-use Rattle.passes.specs.Plan.{origin, evening}
+use Rattle.passes.specs.Plan.{origin}
 use Rattle.passes.specs.Dates.{Early}
 use Rattle.passes.specs.Backward.{greatestBelow, allSummaries, finish, endBy, end}
 use Rattle.memory.specs.State.{State}
@@ -39,14 +38,14 @@ module _ (s : List ℕ) (c : Contents) (S : State) (i : ℕ) (b : i < c .activit
   finish-at = column-at (planOf s c .activities) (λ j. origin (planOf s c)) earlyFinish S i within
 
 -- ---- on with one activity
-pub onward-summary : (b : Bool) (ef so : ℕ) → b ≡ true → onward b ef so ≡ so
-onward-summary b ef so e = rw e
+pub onward-summary : (b : Bool) (ef top : ℕ) → b ≡ true → onward b ef top ≡ top
+onward-summary b ef top e = rw e
 
-pub onward-later : (b : Bool) (ef so : ℕ) → b ≡ false → so < ef + 1 → onward b ef so ≡ ef + 1
-onward-later b ef so e h = let m : max so (ef + 1) ≡ ef + 1 = omega arith in ap (λ (x : Bool). onward x ef so) e ∙ m
+pub onward-later : (b : Bool) (ef top : ℕ) → b ≡ false → top < ef + 1 → onward b ef top ≡ ef + 1
+onward-later b ef top e h = let m : max top (ef + 1) ≡ ef + 1 = omega arith in ap (λ (x : Bool). onward x ef top) e ∙ m
 
-pub onward-before : (b : Bool) (ef so : ℕ) → b ≡ false → ef + 1 ≤ so → onward b ef so ≡ so
-onward-before b ef so e h = let m : max so (ef + 1) ≡ so = omega arith in ap (λ (x : Bool). onward x ef so) e ∙ m
+pub onward-before : (b : Bool) (ef top : ℕ) → b ≡ false → ef + 1 ≤ top → onward b ef top ≡ top
+onward-before b ef top e h = let m : max top (ef + 1) ≡ top = omega arith in ap (λ (x : Bool). onward x ef top) e ∙ m
 
 -- a mark that is 0, and one that is not
 pub mark-none : (b : Bool) (m : ℕ) → m ≡ bit b → m ≡ 0 → b ≡ false
@@ -62,9 +61,9 @@ module _ (p : Plan) (d : Early) where
   unfolding greatestOne
   one-none = refl
 
-  pub one-more : (n so r : ℕ) → so ≡ greatestOne p d n → r ≡ onward (summary p n) (d .ef n) so → r ≡ greatestOne p d (n + 1)
+  pub one-more : (n top r : ℕ) → top ≡ greatestOne p d n → r ≡ onward (summary p n) (d .ef n) top → r ≡ greatestOne p d (n + 1)
   unfolding greatestOne
-  one-more n so r e f = rw add-one (f ∙ ap (onward (summary p n) (d .ef n)) e)
+  one-more n top r e f = rw add-one (f ∙ ap (onward (summary p n) (d .ef n)) e)
 
   -- the loop's number is 0 where all are summaries, and else one more than the greatest
   record Says (n g : ℕ) : Type 0 where

@@ -1,5 +1,5 @@
 -- The order backward, as a loop takes it.
-use mathlib.Core.Path.{_≡_, refl, sym, ap, _∙_}
+use mathlib.Core.Path.{_≡_, sym, ap, _∙_}
 use mathlib.Core.Logic.{⊎-elim}
 use mathlib.Core.List.{List, [], _∷_, reverse, reverseAux}
 use Prim.Native.Nat.{ℕ, suc, _+_, _-_, _≤_, _<_}

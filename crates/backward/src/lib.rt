@@ -24,29 +24,23 @@ ghost use Rattle.dates.specs.Columns.{earlyIn, lateIn, ended};
 ghost use Rattle.dates.specs.Standing.{Ready, Recorded};
 ghost use Rattle.late.specs.Times.{unfinishedLate};
 ghost use Rattle.backward.specs.Finish.{Marked, onward};
-ghost use Rattle.backward.specs.BackLaws.{stored, filled};
+ghost use Rattle.backward.specs.Stored.{stored};
 
 // One more than the greatest early finish so far, on with activity `i`; a summary has none.
-fn finish_onward(
-    sheet: &[u8],
-    contents: Contents,
-    work: &[i64],
-    i: usize,
-    so: u64,
-) -> u64
-    requires { ⌜ Room (contents .activities) (contents .links) (now work) × (i < contents .activities) × Marked (planOf (now sheet) contents) (stateOf (contents .activities) (contents .links) (now work)) × (so ≤ 2 ^ 63) ⌝ }
-    ensures { λ r. ⌜ (r ≡ onward (summary (planOf (now (sheet .entry)) contents) i) (stateOf (contents .activities) (contents .links) (now (work .entry)) .act earlyFinish i) so) × (r ≤ 2 ^ 63) ⌝ }
+fn finish_onward(sheet: &[u8], contents: Contents, work: &[i64], i: usize, top: u64) -> u64
+    requires { ⌜ Room (contents .activities) (contents .links) (now work) × (i < contents .activities) × Marked (planOf (now sheet) contents) (stateOf (contents .activities) (contents .links) (now work)) × (top ≤ 2 ^ 63) ⌝ }
+    ensures { λ r. ⌜ (r ≡ onward (summary (planOf (now (sheet .entry)) contents) i) (stateOf (contents .activities) (contents .links) (now (work .entry)) .act earlyFinish i) top) × (r ≤ 2 ^ 63) ⌝ }
 {
     let a = contents.activities;
     let l = contents.links;
     if memory::get_act(work, a, l, i, memory::fields::IS_SUMMARY) == 0 {
         let next = memory::get_act(work, a, l, i, memory::fields::EARLY_FINISH) + 1;
-        if so < next {
+        if top < next {
             return next;
         }
-        return so;
+        return top;
     }
-    so
+    top
 }
 
 // The greatest early finish of the activities that are no summaries, and the project's start where there is none.
@@ -54,14 +48,14 @@ pub fn greatest_finish(sheet: &[u8], contents: Contents, work: &[i64]) -> u64
     requires { ⌜ SheetRead (now sheet) contents × Room (contents .activities) (contents .links) (now work) × Marked (planOf (now sheet) contents) (stateOf (contents .activities) (contents .links) (now work)) ⌝ }
     ensures { λ r. ⌜ (r ≡ finish (planOf (now (sheet .entry)) contents) (earlyIn (planOf (now (sheet .entry)) contents) (stateOf (contents .activities) (contents .links) (now (work .entry))))) × (r < 2 ^ 63) ⌝ }
 {
-    let mut so: u64 = 0;
+    let mut top: u64 = 0;
     let mut i: usize = 0;
     while i < contents.activities {
-        so = finish_onward(sheet, contents, work, i, so);
+        top = finish_onward(sheet, contents, work, i, top);
         i += 1;
     }
-    if so > 0 {
-        return so - 1;
+    if top > 0 {
+        return top - 1;
     }
     dates::origin_of(sheet, contents)
 }

@@ -1,8 +1,7 @@
 -- One law for each way through an activity's late constraints.
-use mathlib.Core.Path.{_≡_, refl, sym, ap, _∙_}
-use mathlib.Core.Bool.{Bool, true, false}
+use mathlib.Core.Path.{_≡_, sym, ap, _∙_}
+use mathlib.Core.Bool.{true, false}
 use Prim.Native.Nat.{ℕ}
-use Rattle.worktime.specs.declared.Walk.{Walk}
 use Rattle.worktime.specs.declared.Walk.the-variants.{At, Refused}
 use Rattle.worktime.specs.Reads.{on-true, on-false}
 use Rattle.project.specs.declared.Constraint.{Constraint}
@@ -62,7 +61,7 @@ module _ (p : Plan) (d : Early) (l : Late) (i : ℕ) where
     held-summary e = on-true (summary p i) (At latest) _ e
 
     module _ (e : summary p i ≡ false) (a : Actual) (r : a ≡ recorded p i) (c₁ c₂ : Constraint) (q₁ : c₁ ≡ p .activity i .constraint)
-      (q₂ : c₂ ≡ p .activity i .«secondary_constraint») where
+        (q₂ : c₂ ≡ p .activity i .«secondary_constraint») where
       held-both : heldLate p d l i latest ≡ via Refused (limitedBy p d l i a c₁ latest) (limitedBy p d l i a c₂)
       unfolding heldLate
       held-both =

@@ -1,11 +1,10 @@
 -- One law for each way to an activity's late dates.
-use mathlib.Core.Path.{_≡_, refl, sym, ap, ap₂, _∙_}
+use mathlib.Core.Path.{_≡_, refl, _∙_}
 use mathlib.Core.Bool.{Bool, true, false, _&&_}
-use Prim.Native.Nat.{ℕ, _+_, _^_, _≤_, _<_}
+use Prim.Native.Nat.{ℕ, _^_, _≤_, _<_}
 use native.Mathlib.Omega.{arith}
 use borrow.Author.Tests.{lt-ltb, le-ltb, le-leb, lt-leb}
 use lib.Dec.{ltb, leb}
-use Rattle.worktime.specs.declared.Walk.{Walk}
 use Rattle.worktime.specs.declared.Walk.the-variants.{At, Refused}
 use Rattle.worktime.specs.Reads.{on-true, on-false}
 use Rattle.placing.specs.Placing.{via, bounded, placeFinish, latestSame, startOf}
@@ -13,7 +12,7 @@ use Rattle.placing.specs.PlacingLaws.{via-at, via-refused}
 use Rattle.placing.specs.PlacingSound.{bounded-sound}
 use Rattle.order.specs.Plan.{Plan}
 use Rattle.passes.specs.Plan.{own, origin, kindOf}
-use Rattle.passes.specs.Dates.{Early, Late, Pass, leaves, refused}
+use Rattle.passes.specs.Dates.{Early, Late, leaves, refused}
 use Rattle.passes.specs.Backward.{lifted, late, placedLate}
 use Rattle.late.specs.declared.LateDates.{LateDates}
 use Rattle.late.specs.declared.LateDates.the-variants.{Dates}

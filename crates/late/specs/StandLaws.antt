@@ -1,5 +1,5 @@
 -- What the links' steps read of the memory is what the definitions read of the plan and the dates.
-use mathlib.Core.Path.{_≡_, refl, sym, ap, _∙_}
+use mathlib.Core.Path.{_≡_, sym, ap, _∙_}
 use mathlib.Core.Bool.{Bool, true, false}
 use mathlib.Core.List.{List}
 use Prim.Native.Nat.{ℕ, _≤_, _<_, min}
@@ -7,7 +7,6 @@ use native.Mathlib.Omega.{arith}
 use lib.Dec.{eqb}
 use lib.IntN.{ℤ}
 use Rattle.number.specs.Bit.{bit}
-use Rattle.worktime.specs.declared.Walk.{Walk}
 use Rattle.worktime.specs.declared.Walk.the-variants.{At, Refused}
 use Rattle.cells.specs.Chain.{after, gather}
 use Rattle.cells.specs.ChainLaws.{Cursor, cursor-start, cursor-turn, cursor-stop, cursor-end}
@@ -26,9 +25,8 @@ use Rattle.dates.specs.Columns.{earlyIn, lateIn}
 use Rattle.dates.specs.ColumnLaws.{column-at}
 use Rattle.dates.specs.Standing.{asTie, tieIn, Ready}
 use Rattle.dates.specs.StandingLaws.{out-is}
-use Rattle.bounds.specs.ReadyLaws.{activities-are, tie-to-below}
+use Rattle.bounds.specs.ReadyLaws.{activities-are}
 use Rattle.bounds.specs.LinkLaws.{tie-is, to-in}
-use Rattle.late.specs.declared.LateDates.{LateDates}
 use Rattle.late.specs.Times.{timesOf, targetOf, finishBy, lowering, unfinishedLate}
 use Rattle.late.specs.LinkLaws.{lowered-gather}
 

@@ -4,7 +4,7 @@ use mathlib.Core.Bool.{Bool}
 use Prim.Native.Nat.{ℕ}
 use Rattle.worktime.specs.Walks.{nextStart, retreat}
 use Rattle.project.specs.declared.RelationshipType.{RelationshipType}
-use Rattle.placing.specs.Placing.{bounded, placeFinish, latestSame, startOf, finishForStart}
+use Rattle.placing.specs.Placing.{bounded, placeFinish, latestSame, startOf}
 use Rattle.order.specs.Plan.{Plan}
 use Rattle.passes.specs.Plan.{own, origin, kindOf}
 use Rattle.passes.specs.Dates.{Early}

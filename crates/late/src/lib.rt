@@ -20,7 +20,6 @@ ghost use Rattle.dates.specs.Standing.{Ready};
 ghost use Rattle.late.specs.Times.{dated, unfinishedLate, Fitting};
 
 pub mod limits;
-
 pub mod links;
 
 // An activity that is not completed: where its calendar's E records stand, its minutes of work left, and the project's start.
@@ -180,5 +179,16 @@ pub fn late_of(
         left: left,
         origin: origin,
     };
-    late_from(sheet, contents, places, t, work, week, unfinished, i, actual, last)
+    late_from(
+        sheet,
+        contents,
+        places,
+        t,
+        work,
+        week,
+        unfinished,
+        i,
+        actual,
+        last,
+    )
 }

@@ -36,7 +36,8 @@ fn over_lag(sheet: &[u8], contents: Contents, places: &[u64], k: usize, lag: i64
     let e = calendars::exceptions_of(sheet, contents, places, k);
     let at = e.at;
     let n = e.n;
-    match clock::shift(week, sheet, at, n, x, number::sign::negate(lag)) {
+    let back = number::sign::negate(lag);
+    match clock::shift(week, sheet, at, n, x, back) {
         Walk::At(v) => clock::next_start(week, sheet, at, n, v),
         Walk::Refused(r) => Walk::Refused(r),
     }

@@ -1,6 +1,10 @@
 -- `backward::backward_all` meets its contract. The loop's invariant: the last `q` activities of the order are done.
-use Rattle.backward.specs.BackLaws.{early-kept, recorded-after, ready-after}
-use Rattle.backward.specs.OrderLaws.{backward-length, backward-at, backward-below}
+use borrow.Author.Needs.{needs}
+use mathlib.Core.List.{reverse}
+use mathlib.Core.Path.{_≡_, refl, ap, _∙_}
+use Prim.Native.Nat.{_-_, _≤_, _<_}
+use native.Mathlib.Omega.{arith}
+use lib.ListN.{length}
 use Rattle.dates.specs.ThroughLaws.{Through, through-start, through-turn, through-stop, through-end}
 use Rattle.dates.specs.Columns.{earlyIn, lateIn}
 use Rattle.passes.specs.Backward.{backward}
@@ -10,18 +14,10 @@ use Rattle.order.specs.Plan.{planOf}
 use Rattle.topology.specs.FrameLaws.{frame-refl, frame-then}
 use Rattle.topology.specs.Frame.{Frame}
 use Rattle.memory.specs.State.{stateOf}
-use lib.ListN.{length}
-use native.Mathlib.Omega.{arith}
-use Prim.Native.Nat.{ℕ, _-_, _≤_, _<_}
-use mathlib.Core.List.{reverse}
-use mathlib.Core.Path.{_≡_, refl, sym, ap, _∙_}
-use borrow.Author.Needs.{needs}
+use Rattle.backward.specs.BackLaws.{early-kept, recorded-after, ready-after}
+use Rattle.backward.specs.OrderLaws.{backward-length, backward-at, backward-below}
 use Rattle.backward.proofs.backward_all.Statement.{statement}
 use Rattle.backward.proofs.backward_all.Tie as tie
-use Rattle.backward.proofs.backward_all.Reads as reads
-use Rattle.backward.proofs.backward_all.Lts as lts
-use Rattle.backward.proofs.backward_one.Reads as backward-one-reads
-use Rattle.memory.proofs.get_act.Reads as get-act-reads
 
 abbrev Inv-loop : tie.InvT-loop
 Inv-loop sheet contents places t work₀ last a l q₀ work q =
@@ -36,7 +32,6 @@ Inv-loop sheet contents places t work₀ last a l q₀ work q =
 abbrev μ-loop : tie.MeasureT-loop
 μ-loop sheet contents places t work₀ last a l q₀ work q = contents .activities - q
 
--- src/lib.rt:165:5
 loop-holds : tie.Need-loop-holds Inv-loop μ-loop
 loop-holds c =
     let s = c .before .before in
@@ -46,19 +41,15 @@ loop-holds c =
     let last = s .args .last in
     (omega arith, refl, frame-refl 10 12 0 0 S, through-start (backward p (earlyIn p S) last) (reverse (order p)) (lateIn p S last))
 
--- src/lib.rt:166:50
 add-get-act : tie.Need-add-get-act Inv-loop μ-loop
 add-get-act c = omega (arith, c .before .loop-test .taken, c .before .before .before .before .before .pre .0 .read .activities-few)
 
--- src/lib.rt:166:45
 sub-get-act : tie.Need-sub-get-act Inv-loop μ-loop
 sub-get-act c = omega (arith, c .before .loop-test .taken)
 
--- src/lib.rt:166:17
 get-act-requires : tie.Need-get-act-requires Inv-loop μ-loop
 get-act-requires c κs = (omega (arith, c .before .before .before .before .before .pre .0 .room, c .before .before .loop .inv .1), omega (arith, c .before .loop-test .taken), omega arith)
 
--- src/lib.rt:167:15
 backward-one-requires : tie.Need-backward-one-requires Inv-loop μ-loop
 backward-one-requires c κs =
     let s = c .before .before .before .before .before .before .before in
@@ -72,15 +63,12 @@ backward-one-requires c κs =
 enum-told : tie.Need-enum-told Inv-loop μ-loop
 enum-told c = search needs
 
--- src/lib.rt:169:27
 enum-known-k : tie.Need-enum-known-k Inv-loop μ-loop
 enum-known-k c = search needs
 
--- src/lib.rt:170:17
 same-length : tie.Need-same-length Inv-loop μ-loop
 same-length c = c .before .before .before .before .backward-one .ensures .2 ∙ c .before .before .before .before .before .before .before .before .before .loop .inv .1
 
--- src/lib.rt:170:17
 returns : tie.Need-returns Inv-loop μ-loop
 returns c =
     let s = c .before .before .before .before .before .before .before .before .before .before .before .before in
@@ -96,19 +84,18 @@ returns c =
     let i = c .before .before .before .before .before .before .get-act .result in
     let at = c .before .before .before .before .before .before .get-act .ensures .0 ∙ backward-at R (L .q) (c .before .before .before .before .before .before .before .before .loop-test .taken) in
     let l : L .q < length (reverse (order p)) = omega (arith, c .before .before .before .before .before .before .before .before .loop-test .taken, backward-length R) in
-    let e = b .0 ∙ ap (λ (d : Early). backward p d last (lateIn p T last) i) (early-kept (L .inv .2) p) in
-    (through-stop (backward p (earlyIn p S) last) (reverse (order p)) (lateIn p S last) (L .inv .3) i at l (lateIn p U last) (c .before .before .before .before .backward-one .result) e (lateIn p U last) _ (c .before .k .given .1),
-    frame-then 10 12 0 0 (L .inv .2) (b .1), b .2 ∙ L .inv .1)
+    let e = b .0 ∙ ap (λ (d : Early). backward p d last (lateIn p T last) i) (early-kept (L .inv .2) p) in (
+      through-stop (backward p (earlyIn p S) last) (reverse (order p)) (lateIn p S last) (L .inv .3) i at l (lateIn p U last) (c .before .before .before .before .backward-one .result) e (lateIn p U last) _ (c .before .k .given .1),
+      frame-then 10 12 0 0 (L .inv .2) (b .1),
+      b .2 ∙ L .inv .1,
+    )
 
--- src/lib.rt:173:9
 add-q : tie.Need-add-q Inv-loop μ-loop
 add-q c = omega (arith, c .before .before .before .before .before .before .before .loop-test .taken, c .before .before .before .before .before .before .before .before .before .before .before .pre .0 .read .activities-few)
 
--- src/lib.rt:165:5
 loop-less : tie.Need-loop-less Inv-loop μ-loop
 loop-less c = omega (arith, c .before .before .before .before .before .before .before .loop-test .taken)
 
--- src/lib.rt:165:5
 loop-again : tie.Need-loop-again Inv-loop μ-loop
 loop-again c =
     let s = c .before .before .before .before .before .before .before .before .before .before .before in
@@ -124,15 +111,16 @@ loop-again c =
     let i = c .before .before .before .before .before .get-act .result in
     let at = c .before .before .before .before .before .get-act .ensures .0 ∙ backward-at R (L .q) (c .before .before .before .before .before .before .before .loop-test .taken) in
     let l : L .q < length (reverse (order p)) = omega (arith, c .before .before .before .before .before .before .before .loop-test .taken, backward-length R) in
-    let e = b .0 ∙ ap (λ (d : Early). backward p d last (lateIn p T last) i) (early-kept (L .inv .2) p) in
-    (omega (arith, c .before .before .before .before .before .before .before .loop-test .taken), b .2 ∙ L .inv .1, frame-then 10 12 0 0 (L .inv .2) (b .1),
-    through-turn (backward p (earlyIn p S) last) (reverse (order p)) (lateIn p S last) (L .inv .3) i at l (lateIn p U last) (c .before .before .before .backward-one .result) e (c .enum-told .given .1))
+    let e = b .0 ∙ ap (λ (d : Early). backward p d last (lateIn p T last) i) (early-kept (L .inv .2) p) in (
+      omega (arith, c .before .before .before .before .before .before .before .loop-test .taken),
+      b .2 ∙ L .inv .1,
+      frame-then 10 12 0 0 (L .inv .2) (b .1),
+      through-turn (backward p (earlyIn p S) last) (reverse (order p)) (lateIn p S last) (L .inv .3) i at l (lateIn p U last) (c .before .before .before .backward-one .result) e (c .enum-told .given .1),
+    )
 
--- src/lib.rt:151:1
 same-length-2 : tie.Need-same-length-2 Inv-loop μ-loop
 same-length-2 c = c .before .loop .inv .1
 
--- src/lib.rt:151:1
 returns-2 : tie.Need-returns-2 Inv-loop μ-loop
 returns-2 c =
     let s = c .before .before .before .before in

@@ -1,32 +1,23 @@
 -- `backward::keep_early` meets its contract.
-use Rattle.backward.specs.BackLaws.{stored}
-use Rattle.memory.specs.State.{stateOf}
-use mathlib.Core.Path.{_∙_}
 use borrow.Author.Needs.{needs}
+use mathlib.Core.Path.{_∙_}
+use Rattle.memory.specs.State.{stateOf}
+use Rattle.backward.specs.Stored.{stored}
 use Rattle.backward.proofs.keep_early.Statement.{statement}
 use Rattle.backward.proofs.keep_early.Tie as tie
-use Rattle.backward.proofs.keep_early.Reads as reads
-use Rattle.backward.proofs.keep_early.Lts as lts
-use Rattle.backward.proofs.store_late.Reads as store-late-reads
-use Rattle.memory.proofs.get_act.Reads as get-act-reads
 
--- src/lib.rt:97:9
 get-act-requires : tie.Need-get-act-requires
 get-act-requires c κs = search needs
 
--- src/lib.rt:98:9
 get-act-requires-2 : tie.Need-get-act-requires-2
 get-act-requires-2 c κs = search needs
 
--- src/lib.rt:99:5
 store-late-requires : tie.Need-store-late-requires
 store-late-requires c κs = search needs
 
--- src/lib.rt:93:1
 same-length : tie.Need-same-length
 same-length c = search needs
 
--- src/lib.rt:93:1
 returns : tie.Need-returns
 returns c =
     let x = c .before .before .before .before .before .before .before .args in

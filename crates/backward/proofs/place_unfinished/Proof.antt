@@ -1,44 +1,35 @@
-use Prim.Native.Nat.{_<_}
 -- `backward::place_unfinished` meets its contract: the dates found are stored.
-use Rattle.backward.specs.BackLaws.{stored-late, stored-frame}
+use borrow.Author.Needs.{needs}
+use mathlib.Core.Path.{refl, sym, ap, _∙_}
+use Prim.Native.Nat.{_<_}
+use native.Mathlib.Omega.{arith}
 use Rattle.late.specs.Times.{dated}
 use Rattle.bounds.specs.ReadyLaws.{activities-are}
 use Rattle.dates.specs.Columns.{earlyIn, lateIn}
-use Rattle.passes.specs.Dates.{Late, leaves}
+use Rattle.passes.specs.Dates.{leaves}
 use Rattle.order.specs.Plan.{planOf}
 use Rattle.topology.specs.FrameLaws.{frame-refl}
 use Rattle.topology.specs.Frame.{Frame}
 use Rattle.memory.specs.State.{State, stateOf}
-use native.Mathlib.Omega.{arith}
-use mathlib.Core.Path.{_≡_, refl, sym, ap, _∙_}
-use borrow.Author.Needs.{needs}
+use Rattle.backward.specs.BackLaws.{stored-late, stored-frame}
 use Rattle.backward.proofs.place_unfinished.Statement.{statement}
 use Rattle.backward.proofs.place_unfinished.Tie as tie
-use Rattle.backward.proofs.place_unfinished.Reads as reads
-use Rattle.backward.proofs.place_unfinished.Lts as lts
-use Rattle.backward.proofs.store_late.Reads as store-late-reads
-use Rattle.late.proofs.late_of.Reads as late-of-reads
 
--- src/lib.rt:116:11
 late-of-requires : tie.Need-late-of-requires
 late-of-requires c κs = search needs
 
--- src/lib.rt:117:26
 enum-known-start : tie.Need-enum-known-start
 enum-known-start c = search needs
 
--- src/lib.rt:118:13
 store-late-requires : tie.Need-store-late-requires
 store-late-requires c κs =
     let s = c .before .before .before .before .before .before .before .before in
     let f = c .before .before .before .before .late-of .ensures .1 _ _ (c .before .before .start .given .1) in
     (s .pre .0 .room, s .pre .1, f .0, f .1)
 
--- src/lib.rt:119:13
 same-length : tie.Need-same-length
 same-length c = search needs
 
--- src/lib.rt:119:13
 returns : tie.Need-returns
 returns c =
     let s = c .before .before .before .before .before .before .before .before .before .before in
@@ -50,20 +41,19 @@ returns c =
     let T = stateOf (C .activities) (C .links) (c .before .store-late .last .0) in
     let E = c .before .store-late .ensures .0 in
     let b : s .args .i < p .activities = omega (arith, s .pre .1, activities-are (s .args .sheet .now) C) in
-    let F : Frame 10 12 0 0 S T = rw E (stored-frame p S (s .args .i) (c .before .before .before .before .start .given .0 .0) (c .before .before .before .before .start .given .0 .1 .0)) in
-    (ap leaves (ap (λ (U : State). lateIn p U (s .args .last)) E ∙ stored-late p S (s .args .i) _ _ d (s .args .last) b)
-    ∙ ap (dated p d m (s .args .i)) (sym (c .before .before .before .before .start .given .1)) ∙ c .before .before .before .before .before .before .late-of .ensures .0,
-    F, c .before .store-late .ensures .1)
+    let F : Frame 10 12 0 0 S T = rw E (stored-frame p S (s .args .i) (c .before .before .before .before .start .given .0 .0) (c .before .before .before .before .start .given .0 .1 .0)) in (
+      ap leaves (ap (λ (U : State). lateIn p U (s .args .last)) E ∙ stored-late p S (s .args .i) _ _ d (s .args .last) b)
+          ∙ ap (dated p d m (s .args .i)) (sym (c .before .before .before .before .start .given .1)) ∙ c .before .before .before .before .before .before .late-of .ensures .0,
+      F,
+      c .before .store-late .ensures .1,
+    )
 
--- src/lib.rt:121:28
 enum-known-k : tie.Need-enum-known-k
 enum-known-k c = search needs
 
--- src/lib.rt:122:13
 same-length-2 : tie.Need-same-length-2
 same-length-2 c = search needs
 
--- src/lib.rt:122:13
 returns-2 : tie.Need-returns-2
 returns-2 c =
     let s = c .before .before .before .before .before .before .before in

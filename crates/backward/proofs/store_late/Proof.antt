@@ -1,27 +1,20 @@
 -- `backward::store_late` meets its contract.
+use borrow.Author.Needs.{needs}
+use mathlib.Core.Path.{_∙_}
 use Rattle.memory.specs.Fields.{lateFinish}
 use Rattle.memory.specs.State.{putAct}
-use mathlib.Core.Path.{_∙_}
-use borrow.Author.Needs.{needs}
 use Rattle.backward.proofs.store_late.Statement.{statement}
 use Rattle.backward.proofs.store_late.Tie as tie
-use Rattle.backward.proofs.store_late.Reads as reads
-use Rattle.backward.proofs.store_late.Lts as lts
-use Rattle.memory.proofs.put_act.Reads as put-act-reads
 
--- src/lib.rt:88:5
 put-act-requires : tie.Need-put-act-requires
 put-act-requires c κs = search needs
 
--- src/lib.rt:89:5
 put-act-requires-2 : tie.Need-put-act-requires-2
 put-act-requires-2 c κs = search needs
 
--- src/lib.rt:84:1
 same-length : tie.Need-same-length
 same-length c = search needs
 
--- src/lib.rt:84:1
 returns : tie.Need-returns
 returns c =
     let x = c .before .before .before .before .before .before .args in

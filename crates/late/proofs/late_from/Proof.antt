@@ -1,6 +1,6 @@
 -- `late::late_from` meets its contract. Each way out has its law.
 use borrow.Author.Needs.{needs}
-use mathlib.Core.Path.{_≡_, sym, ap, _∙_}
+use mathlib.Core.Path.{sym, _∙_}
 use native.Mathlib.Omega.{arith}
 use Rattle.order.specs.Plan.{planOf}
 use Rattle.memory.specs.State.{stateOf}
@@ -47,9 +47,10 @@ returns c =
     let m = lateIn p S (s .args .last) in
     let i = s .args .i in
     let q = c .before .before .before .before .before .before .before .before .before .get-act2 .ensures .0 ∙ sym (early-at R i (s .pre .1)) in
-    let h = c .before .before .before .before .hold-late .ensures p d m i (s .pre .3) (summary-at R i _ (s .pre .1) (c .before .before .before .before .before .before .before .before .before .before .get-act .ensures .0)) (s .pre .5) in
-    (c .place-late .ensures .0 p d m i (s .pre .3) q ∙ sym (unfinished-placed p d m i (s .args .last) _ _ (sym (c .before .before .before .before .before .before .before .before .lower .ensures) ∙ c .before .before .before .before .before .before .f .given .1) (sym h ∙ c .before .before .g .given .1)),
-    c .place-late .ensures .1)
+    let h = c .before .before .before .before .hold-late .ensures p d m i (s .pre .3) (summary-at R i _ (s .pre .1) (c .before .before .before .before .before .before .before .before .before .before .get-act .ensures .0)) (s .pre .5) in (
+      c .place-late .ensures .0 p d m i (s .pre .3) q ∙ sym (unfinished-placed p d m i (s .args .last) _ _ (sym (c .before .before .before .before .before .before .before .before .lower .ensures) ∙ c .before .before .before .before .before .before .f .given .1) (sym h ∙ c .before .before .g .given .1)),
+      c .place-late .ensures .1,
+    )
 
 returns-2 : tie.Need-returns-2
 returns-2 c =

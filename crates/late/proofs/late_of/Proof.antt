@@ -1,10 +1,8 @@
 -- `late::late_of` meets its contract.
 use borrow.Author.Needs.{needs}
-use mathlib.Core.Path.{_≡_, sym, ap, _∙_}
+use mathlib.Core.Path.{sym, ap, _∙_}
 use native.Mathlib.Omega.{arith}
 use Rattle.order.specs.Plan.{planOf}
-use Rattle.memory.specs.State.{stateOf}
-use Rattle.dates.specs.Columns.{earlyIn, lateIn}
 use Rattle.calendar.specs.Hours.{worked}
 use Rattle.project.specs.declared.Activity.{Activity}
 use Rattle.calendars.specs.CalendarLaws.{calendar-valid, calendar-worked}
@@ -35,16 +33,19 @@ late-from-requires c κs =
     let s = c .before .before .before .before .before .before .before .before in
     let R = s .pre .0 in
     let p = planOf (s .args .sheet .now) (s .args .contents) in
-    let e = c .before .before .exceptions-of .ensures in
-    (R, s .pre .1,
-    calendar-valid (record { week-is = c .before .before .before .week-of .ensures; at-is = e .0; n-is = e .1 }) (R .read),
-    record {
-      works = calendar-worked (record { week-is = c .before .before .before .week-of .ensures; at-is = e .0; n-is = e .1 }) ∙ ap (λ (y : Activity). worked (p .hours (y .calendar))) (c .before .before .before .before .before .activity-of .ensures);
-      activity-is = c .before .before .before .before .before .activity-of .ensures;
-      left-is = c .before .get-act .ensures .0 ∙ sym (left-at R (s .args .i) (s .pre .1));
-      origin-is = c .origin-of .ensures .0;
-    },
-    c .origin-of .ensures .1, s .pre .2)
+    let e = c .before .before .exceptions-of .ensures in (
+      R,
+      s .pre .1,
+      calendar-valid (record { week-is = c .before .before .before .week-of .ensures; at-is = e .0; n-is = e .1 }) (R .read),
+      record {
+        works = calendar-worked (record { week-is = c .before .before .before .week-of .ensures; at-is = e .0; n-is = e .1 }) ∙ ap (λ (y : Activity). worked (p .hours (y .calendar))) (c .before .before .before .before .before .activity-of .ensures);
+        activity-is = c .before .before .before .before .before .activity-of .ensures;
+        left-is = c .before .get-act .ensures .0 ∙ sym (left-at R (s .args .i) (s .pre .1));
+        origin-is = c .origin-of .ensures .0;
+      },
+      c .origin-of .ensures .1,
+      s .pre .2,
+    )
 
 returns : tie.Need-returns
 returns c = c .late-from .ensures

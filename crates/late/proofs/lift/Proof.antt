@@ -1,56 +1,48 @@
 -- `late::lift` meets its contract. Each way out has its law.
+use borrow.Author.Needs.{needs}
+use mathlib.Core.Path.{sym, ap, _∙_}
+use native.Mathlib.Omega.{arith}
+use Rattle.worktime.specs.declared.Walk.the-variants.{At}
 use Rattle.late.specs.PlaceLaws.{fits-at, fits-refused, lifted-not-before, lifted-after-latest, lifted-refused, lifted-same, lifted-apart}
 use Rattle.late.specs.UnfinishedLaws.{own-same}
-use Rattle.worktime.specs.declared.Walk.the-variants.{At}
-use native.Mathlib.Omega.{arith}
-use mathlib.Core.Path.{sym, ap, _∙_}
-use borrow.Author.Needs.{needs}
 use Rattle.late.proofs.lift.Statement.{statement}
 use Rattle.late.proofs.lift.Tie as tie
-use Rattle.late.proofs.lift.Reads as reads
-use Rattle.late.proofs.lift.Lts as lts
-use Rattle.placing.proofs.latest_same.Reads as latest-same-reads
 
--- src/lib.rt:58:9
 returns : tie.Need-returns
 returns c = (λ p d l i O q. sym (lifted-not-before p d l i _ _ (omega (arith, q, c .if1 .taken))), fits-at _ (c .before .before .pre .2))
 
--- src/lib.rt:61:9
 returns-2 : tie.Need-returns-2
 returns-2 c = (λ p d l i O q. sym (lifted-after-latest p d l i _ _ (omega (arith, q, c .if2 .taken))), fits-at _ (c .before .before .before .pre .2))
 
--- src/lib.rt:63:11
 latest-same-requires : tie.Need-latest-same-requires
 latest-same-requires c κs = search needs
 
--- src/lib.rt:71:18
 enum-known-s : tie.Need-enum-known-s
 enum-known-s c = search needs
 
--- src/lib.rt:73:17
 returns-3 : tie.Need-returns-3
-returns-3 c =
-    (λ p d l i O q.
-    ap At q ∙ sym (lifted-same p d l i _ _ (omega (arith, q, c .before .before .before .before .before .before .if1 .left)) (omega (arith, q, c .before .before .before .before .before .if2 .left)) _ (own-same O _ ∙ sym (c .before .before .before .before .latest-same .ensures) ∙ c .before .before .s .given .1) (omega (arith, q, c .if3 .taken))),
-    fits-at _ (c .before .before .before .before .before .before .before .before .pre .1))
+returns-3 c = (
+  λ p d l i O q.
+      ap At q ∙ sym (lifted-same p d l i _ _ (omega (arith, q, c .before .before .before .before .before .before .if1 .left)) (omega (arith, q, c .before .before .before .before .before .if2 .left)) _ (own-same O _ ∙ sym (c .before .before .before .before .latest-same .ensures) ∙ c .before .before .s .given .1) (omega (arith, q, c .if3 .taken))),
+  fits-at _ (c .before .before .before .before .before .before .before .before .pre .1),
+)
 
--- src/lib.rt:77:23
 enum-known-k : tie.Need-enum-known-k
 enum-known-k c = search needs
 
--- src/lib.rt:46:1
 returns-4 : tie.Need-returns-4
-returns-4 c =
-    (λ p d l i O q.
-    sym (lifted-apart p d l i _ _ (omega (arith, q, c .before .before .before .before .before .before .if1 .left)) (omega (arith, q, c .before .before .before .before .before .if2 .left)) _ (own-same O _ ∙ sym (c .before .before .before .before .latest-same .ensures) ∙ c .before .before .s .given .1) (omega (arith, q, c .if3 .left))),
-    fits-at _ (c .before .before .before .before .before .before .before .before .pre .2))
+returns-4 c = (
+  λ p d l i O q.
+      sym (lifted-apart p d l i _ _ (omega (arith, q, c .before .before .before .before .before .before .if1 .left)) (omega (arith, q, c .before .before .before .before .before .if2 .left)) _ (own-same O _ ∙ sym (c .before .before .before .before .latest-same .ensures) ∙ c .before .before .s .given .1) (omega (arith, q, c .if3 .left))),
+  fits-at _ (c .before .before .before .before .before .before .before .before .pre .2),
+)
 
--- src/lib.rt:46:1
 returns-5 : tie.Need-returns-5
-returns-5 c =
-    (λ p d l i O q.
-    sym (lifted-refused p d l i _ _ (omega (arith, q, c .before .before .before .before .before .if1 .left)) (omega (arith, q, c .before .before .before .before .if2 .left)) _ (own-same O _ ∙ sym (c .before .before .before .latest-same .ensures) ∙ c .before .k .given .1)),
-    fits-refused _)
+returns-5 c = (
+  λ p d l i O q.
+      sym (lifted-refused p d l i _ _ (omega (arith, q, c .before .before .before .before .before .if1 .left)) (omega (arith, q, c .before .before .before .before .if2 .left)) _ (own-same O _ ∙ sym (c .before .before .before .latest-same .ensures) ∙ c .before .k .given .1)),
+  fits-refused _,
+)
 
 pub lift-spec : {M : Type 1} → statement M
 lift-spec =

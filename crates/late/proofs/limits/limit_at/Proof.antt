@@ -1,125 +1,95 @@
 -- `late::limits::limit_at` meets its contract, by the constraint.
+use borrow.Author.Needs.{needs}
+use mathlib.Core.Path.{sym, ap, _∙_}
+use Prim.Native.Nat.{min}
 use Rattle.passes.specs.Backward.{atLate}
 use Rattle.placing.specs.Placing.{via, finishForStartBy}
 use Rattle.worktime.specs.declared.Walk.the-variants.{At, Refused}
 use Rattle.project.specs.declared.Constraint.{Constraint}
-use Prim.Native.Nat.{min}
-use mathlib.Core.Path.{sym, ap, _∙_}
-use borrow.Author.Needs.{needs}
 use Rattle.late.proofs.limits.limit_at.Statement.{statement}
 use Rattle.late.proofs.limits.limit_at.Tie as tie
-use Rattle.late.proofs.limits.limit_at.Reads as reads
-use Rattle.late.proofs.limits.limit_at.Lts as lts
-use Rattle.late.proofs.earlier.Reads as earlier-reads
-use Rattle.late.proofs.limits.start_limit.Reads as start-limit-reads
-use Rattle.placing.proofs.finish_for_start_by.Reads as finish-for-start-by-reads
 
--- src/limits.rt:60:38
 enum-told : tie.Need-enum-told
 enum-told c = search needs
 
--- src/limits.rt:61:42
 enum-told-2 : tie.Need-enum-told-2
 enum-told-2 c = search needs
 
--- src/limits.rt:62:43
 enum-told-3 : tie.Need-enum-told-3
 enum-told-3 c = search needs
 
--- src/limits.rt:62:43
 start-limit-requires : tie.Need-start-limit-requires
 start-limit-requires c κs = search needs
 
--- src/limits.rt:63:43
 enum-told-4 : tie.Need-enum-told-4
 enum-told-4 c = search needs
 
--- src/limits.rt:64:53
 enum-told-5 : tie.Need-enum-told-5
 enum-told-5 c = search needs
 
--- src/limits.rt:64:53
 earlier-requires : tie.Need-earlier-requires
 earlier-requires c κs = search needs
 
--- src/limits.rt:65:35
 enum-told-6 : tie.Need-enum-told-6
 enum-told-6 c = search needs
 
--- src/limits.rt:65:35
 start-limit-requires-2 : tie.Need-start-limit-requires-2
 start-limit-requires-2 c κs = search needs
 
--- src/limits.rt:66:45
 enum-told-7 : tie.Need-enum-told-7
 enum-told-7 c = search needs
 
--- src/limits.rt:66:45
 earlier-requires-2 : tie.Need-earlier-requires-2
 earlier-requires-2 c κs = search needs
 
--- src/limits.rt:67:42
 enum-told-8 : tie.Need-enum-told-8
 enum-told-8 c = search needs
 
--- src/limits.rt:67:42
 finish-for-start-by-requires : tie.Need-finish-for-start-by-requires
 finish-for-start-by-requires c κs = search needs
 
--- src/limits.rt:76:43
 enum-told-9 : tie.Need-enum-told-9
 enum-told-9 c = search needs
 
--- src/limits.rt:77:41
 enum-told-10 : tie.Need-enum-told-10
 enum-told-10 c = search needs
 
--- src/limits.rt:48:1
 returns : tie.Need-returns
 returns c = λ p d l i O. let x = c .before .before .before .args in sym (ap (λ (k : Constraint). atLate p d l i k (x .t) (x .latest)) (c .enum-told .given .1))
 
--- src/limits.rt:48:1
 returns-2 : tie.Need-returns-2
 returns-2 c = λ p d l i O. let x = c .before .before .before .args in sym (ap (λ (k : Constraint). atLate p d l i k (x .t) (x .latest)) (c .enum-told2 .given .1))
 
--- src/limits.rt:48:1
 returns-3 : tie.Need-returns-3
 returns-3 c =
     λ p d l i O.
     let x = c .before .before .before .before .args in
     c .start-limit .ensures ∙ (λ z. via Refused (finishForStartBy (O .works z) (O .left-is z) (x .t)) (λ f. At (min (x .latest) f))) ∙ sym (ap (λ (k : Constraint). atLate p d l i k (x .t) (x .latest)) (c .before .enum-told3 .given .1))
 
--- src/limits.rt:48:1
 returns-4 : tie.Need-returns-4
 returns-4 c = λ p d l i O. let x = c .before .before .before .args in sym (ap (λ (k : Constraint). atLate p d l i k (x .t) (x .latest)) (c .enum-told4 .given .1))
 
--- src/limits.rt:48:1
 returns-5 : tie.Need-returns-5
 returns-5 c = λ p d l i O. let x = c .before .before .before .before .args in ap At (c .earlier .ensures) ∙ sym (ap (λ (k : Constraint). atLate p d l i k (x .t) (x .latest)) (c .before .enum-told5 .given .1))
 
--- src/limits.rt:48:1
 returns-6 : tie.Need-returns-6
 returns-6 c =
     λ p d l i O.
     let x = c .before .before .before .before .args in
     c .start-limit2 .ensures ∙ (λ z. via Refused (finishForStartBy (O .works z) (O .left-is z) (x .t)) (λ f. At (min (x .latest) f))) ∙ sym (ap (λ (k : Constraint). atLate p d l i k (x .t) (x .latest)) (c .before .enum-told6 .given .1))
 
--- src/limits.rt:48:1
 returns-7 : tie.Need-returns-7
 returns-7 c = λ p d l i O. let x = c .before .before .before .before .args in ap At (c .earlier2 .ensures) ∙ sym (ap (λ (k : Constraint). atLate p d l i k (x .t) (x .latest)) (c .before .enum-told7 .given .1))
 
--- src/limits.rt:48:1
 returns-8 : tie.Need-returns-8
 returns-8 c =
     λ p d l i O.
     let x = c .before .before .before .before .args in
     c .finish-for-start-by .ensures ∙ (λ z. finishForStartBy (O .works z) (O .left-is z) (x .t)) ∙ sym (ap (λ (k : Constraint). atLate p d l i k (x .t) (x .latest)) (c .before .enum-told8 .given .1))
 
--- src/limits.rt:48:1
 returns-9 : tie.Need-returns-9
 returns-9 c = λ p d l i O. let x = c .before .before .before .args in sym (ap (λ (k : Constraint). atLate p d l i k (x .t) (x .latest)) (c .enum-told9 .given .1))
 
--- src/limits.rt:48:1
 returns-10 : tie.Need-returns-10
 returns-10 c = λ p d l i O. let x = c .before .before .before .args in sym (ap (λ (k : Constraint). atLate p d l i k (x .t) (x .latest)) (c .enum-told10 .given .1))
 

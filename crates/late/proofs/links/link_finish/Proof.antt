@@ -1,7 +1,9 @@
 -- `late::links::link_finish` meets its contract. The link is the plan's, and its successor's times are read from the memory.
-use Rattle.late.specs.StandLaws.{times-are, over-are, by-are}
-use Rattle.late.specs.LinkLaws.{link-times-refused, link-lag-refused, link-finish-refused, link-at}
-use Rattle.late.specs.UnfinishedLaws.{own-bounded, own-by}
+use borrow.Author.Needs.{needs}
+use mathlib.Core.Path.{refl, sym, ap, _∙_}
+use Prim.Native.Nat.{ℕ, _+_, _^_, _<_}
+use native.Mathlib.Omega.{arith}
+use mir.Facts.{toZ-ofZ}
 use Rattle.bounds.specs.LinkLaws.{to-in, lag-in}
 use Rattle.bounds.specs.ReadyLaws.{kept-within}
 use Rattle.dates.specs.Standing.{asTie}
@@ -11,39 +13,24 @@ use Rattle.passes.specs.Plan.{own}
 use Rattle.order.specs.Plan.{planOf}
 use Rattle.memory.specs.State.{stateOf}
 use Rattle.number.specs.Zed.{up, dn}
-use mir.Facts.{toZ-ofZ}
-use native.Mathlib.Omega.{arith}
-use Prim.Native.Nat.{ℕ, _+_, _^_, _<_}
-use mathlib.Core.Path.{_≡_, refl, sym, ap, _∙_}
-use borrow.Author.Needs.{needs}
+use Rattle.late.specs.StandLaws.{times-are, over-are, by-are}
+use Rattle.late.specs.LinkLaws.{link-times-refused, link-lag-refused, link-finish-refused, link-at}
+use Rattle.late.specs.UnfinishedLaws.{own-bounded, own-by}
 use Rattle.late.proofs.links.link_finish.Statement.{statement}
 use Rattle.late.proofs.links.link_finish.Tie as tie
-use Rattle.late.proofs.links.link_finish.Reads as reads
-use Rattle.late.proofs.links.link_finish.Lts as lts
-use Rattle.dates.proofs.tie_at.Reads as tie-at-reads
-use Rattle.late.proofs.links.finish_by.Reads as finish-by-reads
-use Rattle.late.proofs.links.over_lag.Reads as over-lag-reads
-use Rattle.late.proofs.links.successor_times.Reads as successor-times-reads
-use Rattle.late.proofs.links.target.Reads as target-reads
-use Rattle.placing.proofs.bounded.Reads as bounded-reads
 
--- src/links.rt:134:9
 tie-at-requires : tie.Need-tie-at-requires
 tie-at-requires c κs = (c .before .before .pre .0 .room, omega (arith, c .before .before .pre .1, kept-within (c .before .before .pre .0)))
 
--- src/links.rt:136:11
 successor-times-requires : tie.Need-successor-times-requires
 successor-times-requires c κs = let R = c .before .before .before .pre .0 in (R .read, R .located, R .room, to-in R _ (c .before .before .before .pre .1) _ (c .tie-at .ensures))
 
--- src/links.rt:137:26
 enum-known-start : tie.Need-enum-known-start
 enum-known-start c = search needs
 
--- src/links.rt:138:17
 target-requires : tie.Need-target-requires
 target-requires c κs = search needs
 
--- src/links.rt:139:19
 over-lag-requires : tie.Need-over-lag-requires
 over-lag-requires c κs =
     let R = c .before .before .before .before .before .before .before .before .before .pre .0 in
@@ -51,35 +38,27 @@ over-lag-requires c κs =
     let h : up (τ .lag) + dn (τ .lag) < 2 ^ 63 = omega (arith, lag-in R _ (c .before .before .before .before .before .before .before .before .before .pre .1) _ (c .before .before .before .before .before .before .tie-at .ensures)) in
     (R .read, R .located, rw (toZ-ofZ (record { sfits = c .struct-told .given .1 .1 .1 .0 .1 })) h)
 
--- src/links.rt:140:26
 enum-known-v : tie.Need-enum-known-v
 enum-known-v c = search needs
 
--- src/links.rt:140:38
 finish-by-requires : tie.Need-finish-by-requires
 finish-by-requires c κs = search needs
 
--- src/links.rt:141:30
 enum-known-f : tie.Need-enum-known-f
 enum-known-f c = search needs
 
--- src/links.rt:141:36
 bounded-requires : tie.Need-bounded-requires
 bounded-requires c κs = search needs
 
--- src/links.rt:142:35
 enum-known-r : tie.Need-enum-known-r
 enum-known-r c = search needs
 
--- src/links.rt:144:31
 enum-known-r-2 : tie.Need-enum-known-r-2
 enum-known-r-2 c = search needs
 
--- src/links.rt:147:28
 enum-known-r-3 : tie.Need-enum-known-r-3
 enum-known-r-3 c = search needs
 
--- src/links.rt:121:1
 returns : tie.Need-returns
 returns c =
     λ i last O.
@@ -97,7 +76,6 @@ returns c =
     let C = by-are R _ (s .pre .1) τ e (own p i) (d .left i) (c .before .before .before .before .before .before .v .given .0 .0) ∙ own-by O (τ .kind) (c .before .before .before .before .before .before .v .given .0 .0) ∙ sym (c .before .before .before .before .finish-by .ensures) ∙ c .before .before .f .given .1 in
     c .bounded .ensures ∙ sym (own-bounded O _) ∙ sym (link-at p d m i (s .args .k) _ _ A _ B _ C)
 
--- src/links.rt:121:1
 returns-2 : tie.Need-returns-2
 returns-2 c =
     λ i last O.
@@ -115,7 +93,6 @@ returns-2 c =
     let C = by-are R _ (s .pre .1) τ e (own p i) (d .left i) (c .before .before .before .before .before .v .given .0 .0) ∙ own-by O (τ .kind) (c .before .before .before .before .before .v .given .0 .0) ∙ sym (c .before .before .before .finish-by .ensures) ∙ c .before .r .given .1 in
     sym (link-finish-refused p d m i (s .args .k) _ _ A _ B _ C)
 
--- src/links.rt:121:1
 returns-3 : tie.Need-returns-3
 returns-3 c =
     λ i last O.
@@ -132,7 +109,6 @@ returns-3 c =
     let B = over-are R _ (s .pre .1) τ e d m _ _ ∙ ap (λ (x : ℕ). overLag p d m (asTie τ) x) (sym (c .before .before .before .before .before .target .ensures)) ∙ sym (c .before .before .before .over-lag .ensures d m (asTie τ) refl (sym F)) ∙ c .before .r2 .given .1 in
     sym (link-lag-refused p d m i (s .args .k) _ _ A _ B)
 
--- src/links.rt:121:1
 returns-4 : tie.Need-returns-4
 returns-4 c =
     λ i last O.

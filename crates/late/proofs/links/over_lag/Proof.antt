@@ -1,71 +1,54 @@
-use Rattle.late.specs.LinkLaws.{negated-back}
+-- `late::links::over_lag` meets its contract.
+use borrow.Author.Needs.{needs}
+use mathlib.Core.Path.{sym, ap, _∙_}
+use Prim.Native.Nat.{_^_, _<_, ℕ}
+use native.Mathlib.Omega.{arith}
+use lib.IntN.{negℤ}
+use mir.Facts.{toZ-ofZ}
+use mir.Syntax.{w64}
+use mir.Val.{toZ, ofZ}
 use Rattle.number.specs.ZedLaws.{neg-dn}
 use Rattle.number.specs.Zed.{dn}
-use Prim.Native.Nat.{_^_, _<_}
--- `late::links::over_lag` meets its contract.
-use Rattle.late.specs.LinkLaws.{none-is, over-none, over-refused, over-at}
 use Rattle.calendars.specs.CalendarLaws.{calendar-valid, calendar-worked}
 use Rattle.order.specs.Plan.{planOf}
 use Rattle.worktime.specs.Walks.{nextStart, shift}
 use Rattle.calendar.specs.Hours.{worked}
-use lib.IntN.{negℤ}
-use mir.Facts.{toZ-ofZ}
-use mir.Val.{toZ, ofZ}
-use mir.Syntax.{w64}
-use native.Mathlib.Omega.{arith}
-use Prim.Native.Nat.{ℕ}
-use mathlib.Core.Path.{_≡_, sym, ap, _∙_}
-use borrow.Author.Needs.{needs}
+use Rattle.late.specs.LinkLaws.{negated-back, none-is, over-none, over-refused, over-at}
 use Rattle.late.proofs.links.over_lag.Statement.{statement}
 use Rattle.late.proofs.links.over_lag.Tie as tie
-use Rattle.late.proofs.links.over_lag.Reads as reads
-use Rattle.late.proofs.links.over_lag.Lts as lts
-use Rattle.calendars.proofs.exceptions_of.Reads as exceptions-of-reads
-use Rattle.calendars.proofs.week_of.Reads as week-of-reads
-use Rattle.clock.proofs.next_start.Reads as next-start-reads
-use Rattle.clock.proofs.shift.Reads as shift-reads
-use Rattle.number.proofs.sign.negate.Reads as negate-reads
 
--- src/links.rt:30:9
 returns : tie.Need-returns
 returns c = λ d l t e f. sym (over-none _ d l t _ (f ∙ sym (toZ-ofZ (c .before .before .before .fits .lag)) ∙ ap (toZ w64) (c .if1 .taken)))
 
--- src/links.rt:32:9
 week-of-requires : tie.Need-week-of-requires
 week-of-requires c κs = search needs
 
--- src/links.rt:33:9
 exceptions-of-requires : tie.Need-exceptions-of-requires
 exceptions-of-requires c κs = search needs
 
--- src/links.rt:36:47
 negate-requires : tie.Need-negate-requires
 negate-requires c κs =
     let s = c .before .before .before .before .before in
     let h : dn (s .args .lag) < 2 ^ 63 = omega (arith, s .pre .2) in
     rw (toZ-ofZ (s .fits .lag)) h
 
--- src/links.rt:36:11
 shift-requires : tie.Need-shift-requires
 shift-requires c κs =
     let s = c .before .before .before .before .before .before in
-    let h : dn (negℤ (s .args .lag)) < 2 ^ 63 = omega (arith, neg-dn (s .args .lag), s .pre .2) in
-    (calendar-valid (record { week-is = c .before .before .week-of .ensures; at-is = c .before .exceptions-of .ensures .0; n-is = c .before .exceptions-of .ensures .1 }) (s .pre .0),
-    rw (negated-back (s .args .lag) (s .fits .lag) (omega (arith, s .pre .2)) _ (c .negate .ensures)) h)
+    let h : dn (negℤ (s .args .lag)) < 2 ^ 63 = omega (arith, neg-dn (s .args .lag), s .pre .2) in (
+      calendar-valid (record { week-is = c .before .before .week-of .ensures; at-is = c .before .exceptions-of .ensures .0; n-is = c .before .exceptions-of .ensures .1 }) (s .pre .0),
+      rw (negated-back (s .args .lag) (s .fits .lag) (omega (arith, s .pre .2)) _ (c .negate .ensures)) h,
+    )
 
--- src/links.rt:37:18
 enum-known-v : tie.Need-enum-known-v
 enum-known-v c = search needs
 
--- src/links.rt:37:24
 next-start-requires : tie.Need-next-start-requires
 next-start-requires c κs = calendar-valid (record { week-is = c .before .before .before .before .before .before .week-of .ensures; at-is = c .before .before .before .before .before .exceptions-of .ensures .0; n-is = c .before .before .before .before .before .exceptions-of .ensures .1 }) (c .before .before .before .before .before .before .before .before .before .before .pre .0)
 
--- src/links.rt:38:23
 enum-known-r : tie.Need-enum-known-r
 enum-known-r c = search needs
 
--- src/links.rt:25:1
 returns-2 : tie.Need-returns-2
 returns-2 c =
     λ d l t e f.
@@ -79,7 +62,6 @@ returns-2 c =
     (over-at p d l t (s .args .x) _ ((λ z. shift (sym w z) (s .args .x) (m z)) ∙ sym (c .before .before .before .before .shift .ensures) ∙ c .before .before .v .given .1)
     (λ h. c .before .before .before .before .before .before .before .before .if1 .left (ap (ofZ w64) (sym f ∙ none-is (t .lag) h))))
 
--- src/links.rt:25:1
 returns-3 : tie.Need-returns-3
 returns-3 c =
     λ d l t e f.
