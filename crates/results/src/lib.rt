@@ -1,4 +1,25 @@
 // What is shown of each activity.
+use calendar::Period;
+use placing::Actual;
+use project::ActivityKind;
+use project::CriticalBy;
+use project::FloatKind;
+use project::Project;
+use worktime::Work;
+ghost use mathlib.Core.Path.{_≡_};
+ghost use mathlib.Core.Bool.{Bool};
+ghost use Prim.Native.Nat.{ℕ, _-_, _^_, _≤_, _<_};
+ghost use lib.IntN.{pos, _*ℤ_};
+ghost use lib.ListN.{length};
+ghost use Rattle.number.specs.Bit.{bit};
+ghost use Rattle.calendar.specs.Records.{Valid};
+ghost use Rattle.clock.specs.On.{workedOn};
+ghost use Rattle.memory.specs.State.{Room, stateOf};
+ghost use Rattle.order.specs.Plan.{Plan};
+ghost use Rattle.passes.specs.Floats.{floatBy};
+ghost use Rattle.results.specs.Results.{startMinute, finishMinute, totalBy};
+ghost use Rattle.results.specs.View.{timesIn, putDays, putFloats, putBounds, putShown};
+ghost use Rattle.results.specs.Showing.{Holds, HoldsIf, showing, allInYears, criticalIn, totalWork, daysOf, criticalOf, shownFrom};
 
 // Days counted from the first that an i32 can name, floats in minutes, and for the roll-up the early and the late finish.
 pub struct Shown {
@@ -12,4 +33,222 @@ pub struct Shown {
     pub path: bool,
     pub finish: u64,
     pub late: u64,
+}
+
+// What is shown of an activity, or the refusal of a walk.
+pub enum Showing {
+    Is(Shown),
+    Refused(u64),
+}
+
+// What the passes leave of an activity.
+pub struct Times {
+    pub es: u64,
+    pub ef: u64,
+    pub left: u64,
+    pub ls: u64,
+    pub lf: u64,
+    pub free: u64,
+    pub path: bool,
+}
+
+// The days that are shown.
+pub struct Days {
+    pub es: u64,
+    pub ef: u64,
+    pub ls: u64,
+    pub lf: u64,
+}
+
+// ---- total float
+// The float of the project's kind.
+fn float_by(kind: FloatKind, finish: i64, start: i64) -> i64
+    ensures { λ r. ⌜ ((p : Plan) → r ≡ floatBy p kind finish start) ⌝ }
+{
+    match kind {
+        FloatKind::Finish => finish,
+        FloatKind::Start => start,
+        FloatKind::Smallest => number::sign::min(finish, start),
+    }
+}
+
+// Completed work has no float.
+fn total_by(actual: Actual, total: i64) -> i64
+    ensures { λ r. ⌜ r ≡ totalBy actual total ⌝ }
+{
+    match actual {
+        Actual::Completed(_, _) => 0,
+        Actual::Unstarted => total,
+        Actual::Begun(_) => total,
+        Actual::Refused(_) => total,
+    }
+}
+
+fn total_of(kind: FloatKind, actual: Actual, t: Times, week: [[Period; 8]; 7], sheet: &[u8], at: usize, n: usize) -> Work
+    requires { ⌜ Valid week (now sheet) at n ⌝ }
+    ensures { λ r. ⌜ ((p : Plan) → r ≡ totalWork p (workedOn week (now (sheet .entry)) at n) kind actual t) ⌝ }
+{
+    match clock::between(week, sheet, at, n, t.ef, t.lf) {
+        Work::Minutes(finish) => match clock::between(week, sheet, at, n, t.es, t.ls) {
+            Work::Minutes(start) => Work::Minutes(total_by(actual, float_by(kind, finish, start))),
+            Work::Refused(k) => Work::Refused(k),
+        },
+        Work::Refused(k) => Work::Refused(k),
+    }
+}
+
+// ---- days
+// The minute before.
+fn before(t: u64) -> u64
+    ensures { λ r. ⌜ r ≡ t - 1 ⌝ }
+{
+    if t == 0 {
+        return 0;
+    }
+    t - 1
+}
+
+// The minute whose day a start shows.
+fn start_minute(kind: ActivityKind, t: u64) -> u64
+    ensures { λ r. ⌜ r ≡ startMinute kind t ⌝ }
+{
+    match kind {
+        ActivityKind::Task => t,
+        ActivityKind::StartMilestone => t,
+        ActivityKind::FinishMilestone => before(t),
+    }
+}
+
+// The minute whose day a finish shows.
+fn finish_minute(kind: ActivityKind, left: u64, t: u64) -> u64
+    ensures { λ r. ⌜ r ≡ finishMinute kind left t ⌝ }
+{
+    match kind {
+        ActivityKind::Task => {
+            if left == 0 {
+                return t;
+            }
+            before(t)
+        }
+        ActivityKind::StartMilestone => t,
+        ActivityKind::FinishMilestone => before(t),
+    }
+}
+
+// Whether the four days lie in the years that may be read.
+fn all_in_years(days: Days) -> bool
+    ensures { λ r. ⌜ r ≡ allInYears days ⌝ }
+{
+    if date::in_years(days.ef) {
+        if date::in_years(days.es) {
+            if date::in_years(days.ls) {
+                return date::in_years(days.lf);
+            }
+            return false;
+        }
+        return false;
+    }
+    false
+}
+
+// ---- critical
+// So many days of `day_length` minutes.
+fn days_in_minutes(days: i32, day_length: u64) -> i64
+    requires { ⌜ «day_length» ≤ 1440 ⌝ }
+    ensures { λ r. ⌜ r ≡ days *ℤ pos «day_length» ⌝ }
+{
+    days as i64 * day_length as i64
+}
+
+fn is_critical(by: CriticalBy, day_length: u64, total: i64, path: bool) -> bool
+    requires { ⌜ «day_length» ≤ 1440 ⌝ }
+    ensures { λ r. ⌜ r ≡ criticalIn by «day_length» total path ⌝ }
+{
+    match by {
+        CriticalBy::TotalFloat(days) => total <= days_in_minutes(days, day_length),
+        CriticalBy::LongestPath => path,
+    }
+}
+
+// Completed work is not critical.
+fn critical_of(actual: Actual, by: CriticalBy, day_length: u64, total: i64, path: bool) -> bool
+    requires { ⌜ «day_length» ≤ 1440 ⌝ }
+    ensures { λ r. ⌜ ((p : Plan) → r ≡ criticalOf p actual by «day_length» total path) ⌝ }
+{
+    match actual {
+        Actual::Completed(_, _) => false,
+        Actual::Unstarted => is_critical(by, day_length, total, path),
+        Actual::Begun(_) => is_critical(by, day_length, total, path),
+        Actual::Refused(_) => is_critical(by, day_length, total, path),
+    }
+}
+
+// ---- an activity's row of the memory
+pub fn times_at(work: &[i64], a: usize, l: usize, i: usize) -> Times
+    requires { ⌜ Room a l (now work) × (i < a) ⌝ }
+    ensures { λ r. ⌜ (r ≡ timesIn (stateOf a l (now (work .entry))) i) × (r .ef < 2 ^ 63) × (r .lf < 2 ^ 63) × (r .free < 2 ^ 63) ⌝ }
+{
+    let es = memory::get_act(work, a, l, i, memory::fields::EARLY_START);
+    let ef = memory::get_act(work, a, l, i, memory::fields::EARLY_FINISH);
+    let left = memory::get_act(work, a, l, i, memory::fields::WORK_LEFT);
+    let ls = memory::get_act(work, a, l, i, memory::fields::LATE_START);
+    let lf = memory::get_act(work, a, l, i, memory::fields::LATE_FINISH);
+    let free = memory::get_act(work, a, l, i, memory::fields::FREE_FLOAT);
+    let path = memory::get_act(work, a, l, i, memory::fields::LONGEST_PATH) > 0;
+    Times {
+        es,
+        ef,
+        left,
+        ls,
+        lf,
+        free,
+        path,
+    }
+}
+
+fn number_of(b: bool) -> u64
+    ensures { λ r. ⌜ r ≡ bit b ⌝ }
+{
+    if b {
+        return 1;
+    }
+    0
+}
+
+fn put_days(work: &mut [i64], a: usize, l: usize, i: usize, x: Shown)
+    requires { ⌜ Room a l (now work) × (i < a) × Holds x ⌝ }
+    ensures { λ _. ⌜ (stateOf a l (now (work .exit)) ≡ putDays (stateOf a l (now (work .entry))) i x) × (length (now (work .exit)) ≡ length (now (work .entry))) ⌝ }
+{
+    memory::put_act(work, a, l, i, memory::fields::SHOWN_START, x.es);
+    memory::put_act(work, a, l, i, memory::fields::SHOWN_FINISH, x.ef);
+    memory::put_act(work, a, l, i, memory::fields::SHOWN_LATE_START, x.ls);
+    memory::put_act(work, a, l, i, memory::fields::SHOWN_LATE_FINISH, x.lf);
+}
+
+fn put_floats(work: &mut [i64], a: usize, l: usize, i: usize, x: Shown)
+    requires { ⌜ Room a l (now work) × (i < a) × Holds x ⌝ }
+    ensures { λ _. ⌜ (stateOf a l (now (work .exit)) ≡ putFloats (stateOf a l (now (work .entry))) i x) × (length (now (work .exit)) ≡ length (now (work .entry))) ⌝ }
+{
+    memory::put_act_signed(work, a, l, i, memory::fields::TOTAL_FLOAT, x.total);
+    memory::put_act(work, a, l, i, memory::fields::SHOWN_FREE, x.free);
+    memory::put_act(work, a, l, i, memory::fields::IS_CRITICAL, number_of(x.critical));
+    memory::put_act(work, a, l, i, memory::fields::IS_LONGEST, number_of(x.path));
+}
+
+fn put_bounds(work: &mut [i64], a: usize, l: usize, i: usize, x: Shown)
+    requires { ⌜ Room a l (now work) × (i < a) × Holds x ⌝ }
+    ensures { λ _. ⌜ (stateOf a l (now (work .exit)) ≡ putBounds (stateOf a l (now (work .entry))) i x) × (length (now (work .exit)) ≡ length (now (work .entry))) ⌝ }
+{
+    memory::put_act(work, a, l, i, memory::fields::GREATEST_FINISH, x.finish);
+    memory::put_act(work, a, l, i, memory::fields::GREATEST_LATE, x.late);
+}
+
+// Puts what is shown into the row of activity `i`.
+pub fn put_shown(work: &mut [i64], a: usize, l: usize, i: usize, x: Shown)
+    requires { ⌜ Room a l (now work) × (i < a) × Holds x ⌝ }
+    ensures { λ _. ⌜ (stateOf a l (now (work .exit)) ≡ putShown (stateOf a l (now (work .entry))) i x) × (length (now (work .exit)) ≡ length (now (work .entry))) ⌝ }
+{
+    put_days(work, a, l, i, x);
+    put_floats(work, a, l, i, x);
+    put_bounds(work, a, l, i, x);
 }
