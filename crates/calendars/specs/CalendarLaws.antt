@@ -20,25 +20,37 @@ use Rattle.order.specs.Plan.{planOf, weekOfCalendar, exceptionPlace, exceptionN
 use Rattle.calendars.specs.Calendars.{IsCalendar}
 
 module _ (s : List ℕ) (c : Contents) where
+  -- a calendar that the sheet names
+  pub week-named : (k : ℕ) → k < c .calendars → weekOfCalendar s c k ≡ weekAt s (calendarAt s k)
+  unfolding weekOfCalendar
+  week-named k l = on-true (ltb k (c .calendars)) (weekAt s (calendarAt s k)) roundTheClock (lt-ltb k (c .calendars) l)
+
+  pub place-named : (k : ℕ) → k < c .calendars → exceptionPlace s c k ≡ exceptionsAt s (calendarAt s k)
+  unfolding exceptionPlace
+  place-named k l = on-true (ltb k (c .calendars)) (exceptionsAt s (calendarAt s k)) 0 (lt-ltb k (c .calendars) l)
+
+  pub number-named : (k : ℕ) → k < c .calendars → exceptionNumber s c k ≡ exceptionCount s (calendarAt s k)
+  unfolding exceptionNumber
+  number-named k l = on-true (ltb k (c .calendars)) (exceptionCount s (calendarAt s k)) 0 (lt-ltb k (c .calendars) l)
+
+  -- the round-the-clock calendar
+  pub week-last : (k : ℕ) → c .calendars ≤ k → weekOfCalendar s c k ≡ roundTheClock
+  unfolding weekOfCalendar
+  week-last k l = on-false (ltb k (c .calendars)) (weekAt s (calendarAt s k)) roundTheClock (le-ltb k (c .calendars) l)
+
+  pub place-last : (k : ℕ) → c .calendars ≤ k → exceptionPlace s c k ≡ 0
+  unfolding exceptionPlace
+  place-last k l = on-false (ltb k (c .calendars)) (exceptionsAt s (calendarAt s k)) 0 (le-ltb k (c .calendars) l)
+
+  pub number-last : (k : ℕ) → c .calendars ≤ k → exceptionNumber s c k ≡ 0
+  unfolding exceptionNumber
+  number-last k l = on-false (ltb k (c .calendars)) (exceptionCount s (calendarAt s k)) 0 (le-ltb k (c .calendars) l)
+
   valid-named : SheetRead s c → (k : ℕ) → k < c .calendars → Valid (weekOfCalendar s c k) s (exceptionPlace s c k) (exceptionNumber s c k)
-  unfolding weekOfCalendar exceptionPlace exceptionNumber
-  valid-named read k l =
-      let e = lt-ltb k (c .calendars) l in
-      let at = calendarAt s k in
-      let w : weekOfCalendar s c k ≡ weekAt s at = on-true (ltb k (c .calendars)) (weekAt s at) roundTheClock e in
-      let x : exceptionPlace s c k ≡ exceptionsAt s at = on-true (ltb k (c .calendars)) (exceptionsAt s at) 0 e in
-      let n : exceptionNumber s c k ≡ exceptionCount s at = on-true (ltb k (c .calendars)) (exceptionCount s at) 0 e in
-      rw (w, x, n) (read .calendar k l .valid)
+  valid-named read k l = rw (week-named k l, place-named k l, number-named k l) (read .calendar k l .valid)
 
   valid-last : (k : ℕ) → c .calendars ≤ k → Valid (weekOfCalendar s c k) s (exceptionPlace s c k) (exceptionNumber s c k)
-  unfolding weekOfCalendar exceptionPlace exceptionNumber
-  valid-last k l =
-      let e = le-ltb k (c .calendars) l in
-      let at = calendarAt s k in
-      let w : weekOfCalendar s c k ≡ roundTheClock = on-false (ltb k (c .calendars)) (weekAt s at) roundTheClock e in
-      let x : exceptionPlace s c k ≡ 0 = on-false (ltb k (c .calendars)) (exceptionsAt s at) 0 e in
-      let n : exceptionNumber s c k ≡ 0 = on-false (ltb k (c .calendars)) (exceptionCount s at) 0 e in
-      rw (w, x, n) (clock-valid s 0 (omega arith))
+  valid-last k l = rw (week-last k l, place-last k l, number-last k l) (clock-valid s 0 (omega arith))
 
 module _ {s : List ℕ} {c : Contents} {k : ℕ} {week : List (List Period)} {at n : ℕ} (C : IsCalendar s c k week at n) where
   -- what the clock asks for

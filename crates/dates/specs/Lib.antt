@@ -4,3 +4,4 @@ pub mod Standing
 pub mod ColumnLaws
 pub mod StandingLaws
 pub mod ThroughLaws
+pub mod ReadLaws
