@@ -5,3 +5,5 @@ pub mod View
 pub mod Showing
 pub mod ShowingLaws
 pub mod ViewLaws
+pub mod Row
+pub mod RowLaws

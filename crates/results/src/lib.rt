@@ -5,20 +5,26 @@ use project::ActivityKind;
 use project::CriticalBy;
 use project::FloatKind;
 use project::Project;
+use sheet::Contents;
+use dates::Step;
 use worktime::Work;
 ghost use mathlib.Core.Path.{_≡_};
 ghost use mathlib.Core.Bool.{Bool};
-ghost use Prim.Native.Nat.{ℕ, _-_, _^_, _≤_, _<_};
+ghost use Prim.Native.Nat.{ℕ, _+_, _-_, _^_, _≤_, _<_};
 ghost use lib.IntN.{pos, _*ℤ_};
 ghost use lib.ListN.{length};
 ghost use Rattle.number.specs.Bit.{bit};
 ghost use Rattle.calendar.specs.Records.{Valid};
 ghost use Rattle.clock.specs.On.{workedOn};
 ghost use Rattle.memory.specs.State.{Room, stateOf};
-ghost use Rattle.order.specs.Plan.{Plan};
+ghost use Rattle.order.specs.Plan.{Plan, planOf};
 ghost use Rattle.passes.specs.Floats.{floatBy};
-ghost use Rattle.results.specs.Results.{startMinute, finishMinute, totalBy};
-ghost use Rattle.results.specs.View.{timesIn, putDays, putFloats, putBounds, putShown};
+ghost use Rattle.results.specs.Results.{startMinute, finishMinute, totalBy, shownBelow};
+ghost use Rattle.topology.specs.Frame.{Frame};
+ghost use Rattle.dates.specs.Columns.{ended};
+ghost use Rattle.results.specs.Row.{ToShow, rowShown};
+ghost use Rattle.results.specs.RowLaws.{shownNext};
+ghost use Rattle.results.specs.View.{ranIn, shownTo, timesIn, putDays, putFloats, putBounds, putShown};
 ghost use Rattle.results.specs.Showing.{Holds, HoldsIf, showing, allInYears, criticalIn, totalWork, daysOf, criticalOf, shownFrom};
 
 // Days counted from the first that an i32 can name, floats in minutes, and for the roll-up the early and the late finish.
@@ -135,6 +141,16 @@ fn finish_minute(kind: ActivityKind, left: u64, t: u64) -> u64
     }
 }
 
+fn days_of(kind: ActivityKind, actual: Actual, t: Times) -> Days
+    ensures { λ r. ⌜ ((p : Plan) → r ≡ daysOf p kind actual t) ⌝ }
+{
+    let es = start_minute(kind, dates::begun_at(actual, t.es)) / 1440;
+    let ef = finish_minute(kind, t.left, t.ef) / 1440;
+    let ls = start_minute(kind, dates::begun_at(actual, t.ls)) / 1440;
+    let lf = finish_minute(kind, t.left, t.lf) / 1440;
+    Days { es, ef, ls, lf }
+}
+
 // Whether the four days lie in the years that may be read.
 fn all_in_years(days: Days) -> bool
     ensures { λ r. ⌜ r ≡ allInYears days ⌝ }
@@ -180,6 +196,49 @@ fn critical_of(actual: Actual, by: CriticalBy, day_length: u64, total: i64, path
         Actual::Unstarted => is_critical(by, day_length, total, path),
         Actual::Begun(_) => is_critical(by, day_length, total, path),
         Actual::Refused(_) => is_critical(by, day_length, total, path),
+    }
+}
+
+// ---- what is shown of an activity, on its own calendar
+fn shown_of(
+    project: Project,
+    kind: ActivityKind,
+    day_length: u64,
+    actual: Actual,
+    t: Times,
+    week: [[Period; 8]; 7],
+    sheet: &[u8],
+    at: usize,
+    n: usize,
+) -> Showing
+    requires { ⌜ Valid week (now sheet) at n × («day_length» ≤ 1440) × (t .ef < 2 ^ 63) × (t .lf < 2 ^ 63) × (t .free < 2 ^ 63) ⌝ }
+    ensures { λ r. ⌜ ((p : Plan) → showing r ≡ shownFrom p project kind «day_length» (workedOn week (now (sheet .entry)) at n) actual t) × HoldsIf r ⌝ }
+{
+    let float = project.float_kind;
+    let by = project.critical_by;
+    match total_of(float, actual, t, week, sheet, at, n) {
+        Work::Minutes(total) => {
+            let days = days_of(kind, actual, t);
+            if all_in_years(days) {
+                let critical = critical_of(actual, by, day_length, total, t.path);
+                return Showing::Is(Shown {
+                    es: days.es,
+                    ef: days.ef,
+                    ls: days.ls,
+                    lf: days.lf,
+                    total,
+                    free: t.free,
+                    critical,
+                    path: t.path,
+                    finish: t.ef,
+                    late: t.lf,
+                });
+            }
+            return Showing::Refused(clock::TOO_LONG);
+        }
+        Work::Refused(k) => {
+            return Showing::Refused(k);
+        }
     }
 }
 
@@ -251,4 +310,57 @@ pub fn put_shown(work: &mut [i64], a: usize, l: usize, i: usize, x: Shown)
     put_days(work, a, l, i, x);
     put_floats(work, a, l, i, x);
     put_bounds(work, a, l, i, x);
+}
+
+// ---- all activities
+// What is shown of activity `i`, on its own calendar.
+fn row_of(sheet: &[u8], contents: Contents, places: &[u64], lengths: &[u64], project: Project, work: &[i64], i: usize) -> Showing
+    requires { ⌜ ToShow (now sheet) contents (now places) (now lengths) (now work) × (i < contents .activities) × (project ≡ planOf (now sheet) contents .project) ⌝ }
+    ensures { λ r. ⌜ (showing r ≡ rowShown (planOf (now (sheet .entry)) contents) (stateOf (contents .activities) (contents .links) (now (work .entry))) i) × HoldsIf r ⌝ }
+{
+    let activity = dates::activity_of(sheet, contents, i);
+    let kind = activity.kind;
+    let k = activity.calendar as usize;
+    let week = calendars::week_of(sheet, contents, places, k);
+    let e = calendars::exceptions_of(sheet, contents, places, k);
+    let actual = dates::recorded_at(work, contents.activities, contents.links, i);
+    let t = times_at(work, contents.activities, contents.links, i);
+    shown_of(project, kind, lengths[k], actual, t, week, sheet, e.at, e.n)
+}
+
+// Puts what is shown of activity `i` into its row.
+fn show_one(sheet: &[u8], contents: Contents, places: &[u64], lengths: &[u64], project: Project, work: &mut [i64], i: usize) -> Step
+    requires { ⌜ ToShow (now sheet) contents (now places) (now lengths) (now work) × (i < contents .activities) × (project ≡ planOf (now sheet) contents .project) ⌝ }
+    ensures { λ r. ⌜ (ended (shownTo (i + 1) (stateOf (contents .activities) (contents .links) (now (work .exit)))) r ≡ shownNext (rowShown (planOf (now (sheet .entry)) contents) (stateOf (contents .activities) (contents .links) (now (work .entry))) i) (shownTo i (stateOf (contents .activities) (contents .links) (now (work .entry)))) i) × Frame 20 30 0 0 (stateOf (contents .activities) (contents .links) (now (work .entry))) (stateOf (contents .activities) (contents .links) (now (work .exit))) × (length (now (work .exit)) ≡ length (now (work .entry))) ⌝ }
+{
+    let row = row_of(sheet, contents, places, lengths, project, work, i);
+    match row {
+        Showing::Is(x) => {
+            put_shown(work, contents.activities, contents.links, i, x);
+            return Step::Done;
+        }
+        Showing::Refused(k) => {
+            return Step::Refused(k);
+        }
+    }
+}
+
+// Puts what is shown of each activity into its row, in sheet order.
+pub fn show_all(sheet: &[u8], contents: Contents, places: &[u64], lengths: &[u64], work: &mut [i64]) -> Step
+    requires { ⌜ ToShow (now sheet) contents (now places) (now lengths) (now work) ⌝ }
+    ensures { λ r. ⌜ ((e : ℕ) (other : ℕ → Bool) → ended (shownTo (contents .activities) (stateOf (contents .activities) (contents .links) (now (work .exit)))) r ≡ shownBelow (planOf (now (sheet .entry)) contents) (ranIn (planOf (now (sheet .entry)) contents) (stateOf (contents .activities) (contents .links) (now (work .entry))) e other) (contents .activities)) × Frame 20 30 0 0 (stateOf (contents .activities) (contents .links) (now (work .entry))) (stateOf (contents .activities) (contents .links) (now (work .exit))) × (length (now (work .exit)) ≡ length (now (work .entry))) ⌝ }
+{
+    let project = project::records::read_project(sheet, 0);
+    let mut i: usize = 0;
+    while i < contents.activities {
+        let step = show_one(sheet, contents, places, lengths, project, work, i);
+        match step {
+            Step::Refused(k) => {
+                return Step::Refused(k);
+            }
+            Step::Done => {}
+        }
+        i += 1;
+    }
+    Step::Done
 }

@@ -1,41 +1,42 @@
+-- `results::all_in_years` meets its contract.
 use borrow.Author.Needs.{needs}
+use mathlib.Core.Path.{_≡_, sym, ap, _∙_}
+use Rattle.results.specs.ShowingLaws.{in-four, out-four, out-three, out-two}
 use Rattle.results.proofs.all_in_years.Statement.{statement}
 use Rattle.results.proofs.all_in_years.Tie as tie
-use Rattle.results.proofs.all_in_years.Reads as reads
-use Rattle.results.proofs.all_in_years.Lts as lts
-use Rattle.date.proofs.in_years.Reads as in-years-reads
 
--- src/lib.rt:141:8
 in-years-requires : tie.Need-in-years-requires
-in-years-requires c κs = ?
+in-years-requires c κs = search needs
 
--- src/lib.rt:142:12
 in-years-requires-2 : tie.Need-in-years-requires-2
-in-years-requires-2 c κs = ?
+in-years-requires-2 c κs = search needs
 
--- src/lib.rt:143:16
 in-years-requires-3 : tie.Need-in-years-requires-3
-in-years-requires-3 c κs = ?
+in-years-requires-3 c κs = search needs
 
--- src/lib.rt:144:17
 in-years-requires-4 : tie.Need-in-years-requires-4
-in-years-requires-4 c κs = ?
+in-years-requires-4 c κs = search needs
 
--- src/lib.rt:144:17
 returns : tie.Need-returns
-returns c = ?
+returns c =
+    c .in-years4 .ensures
+    ∙ in-four _ (sym (c .before .before .before .before .before .before .in-years .ensures) ∙ c .before .before .before .before .before .if1 .taken)
+    (sym (c .before .before .before .before .in-years2 .ensures) ∙ c .before .before .before .if2 .taken)
+    (sym (c .before .before .in-years3 .ensures) ∙ c .before .if3 .taken)
 
--- src/lib.rt:146:13
 returns-2 : tie.Need-returns-2
-returns-2 c = ?
+returns-2 c =
+    out-four _ (sym (c .before .before .before .before .before .in-years .ensures) ∙ c .before .before .before .before .if1 .taken)
+    (sym (c .before .before .before .in-years2 .ensures) ∙ c .before .before .if2 .taken)
+    (sym (c .before .in-years3 .ensures) ∙ c .if3 .left)
 
--- src/lib.rt:148:9
 returns-3 : tie.Need-returns-3
-returns-3 c = ?
+returns-3 c =
+    out-three _ (sym (c .before .before .before .in-years .ensures) ∙ c .before .before .if1 .taken)
+    (sym (c .before .in-years2 .ensures) ∙ c .if2 .left)
 
--- src/lib.rt:138:1
 returns-4 : tie.Need-returns-4
-returns-4 c = ?
+returns-4 c = out-two _ (sym (c .before .in-years .ensures) ∙ c .if1 .left)
 
 pub all-in-years-spec : {M : Type 1} → statement M
 all-in-years-spec =

@@ -1,31 +1,30 @@
+-- `results::put_shown` meets its contract.
 use borrow.Author.Needs.{needs}
+use mathlib.Core.Path.{_≡_, ap, _∙_}
+use native.Mathlib.Omega.{arith}
+use Rattle.memory.specs.State.{State}
+use Rattle.results.specs.View.{putFloats, putBounds}
 use Rattle.results.proofs.put_shown.Statement.{statement}
 use Rattle.results.proofs.put_shown.Tie as tie
-use Rattle.results.proofs.put_shown.Reads as reads
-use Rattle.results.proofs.put_shown.Lts as lts
-use Rattle.results.proofs.put_bounds.Reads as put-bounds-reads
-use Rattle.results.proofs.put_days.Reads as put-days-reads
-use Rattle.results.proofs.put_floats.Reads as put-floats-reads
 
--- src/lib.rt:242:5
 put-days-requires : tie.Need-put-days-requires
-put-days-requires c κs = ?
+put-days-requires c κs = search needs
 
--- src/lib.rt:243:5
 put-floats-requires : tie.Need-put-floats-requires
-put-floats-requires c κs = ?
+put-floats-requires c κs = search needs
 
--- src/lib.rt:244:5
 put-bounds-requires : tie.Need-put-bounds-requires
-put-bounds-requires c κs = ?
+put-bounds-requires c κs = search needs
 
--- src/lib.rt:238:1
 same-length : tie.Need-same-length
-same-length c = ?
+same-length c = search needs
 
--- src/lib.rt:238:1
 returns : tie.Need-returns
-returns c = ?
+returns c =
+    let a = c .before .before .before .before .before .before .before .before .before .args in
+    (c .before .put-bounds .ensures .0
+    ∙ ap (λ (T : State). putBounds T (a .i) (a .x)) (c .before .before .before .before .put-floats .ensures .0
+    ∙ ap (λ (T : State). putFloats T (a .i) (a .x)) (c .before .before .before .before .before .before .before .put-days .ensures .0)), omega arith)
 
 pub put-shown-spec : {M : Type 1} → statement M
 put-shown-spec =

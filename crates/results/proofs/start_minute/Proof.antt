@@ -1,37 +1,30 @@
+-- `results::start_minute` meets its contract, by the three kinds.
 use borrow.Author.Needs.{needs}
+use mathlib.Core.Path.{_≡_, sym, ap, _∙_}
+use Rattle.results.specs.Results.{startMinute}
 use Rattle.results.proofs.start_minute.Statement.{statement}
 use Rattle.results.proofs.start_minute.Tie as tie
-use Rattle.results.proofs.start_minute.Reads as reads
-use Rattle.results.proofs.start_minute.Lts as lts
-use Rattle.results.proofs.before.Reads as before-reads
 
--- src/lib.rt:115:31
 enum-told : tie.Need-enum-told
-enum-told c = ?
+enum-told c = search needs
 
--- src/lib.rt:116:41
 enum-told-2 : tie.Need-enum-told-2
-enum-told-2 c = ?
+enum-told-2 c = search needs
 
--- src/lib.rt:117:42
 enum-told-3 : tie.Need-enum-told-3
-enum-told-3 c = ?
+enum-told-3 c = search needs
 
--- src/lib.rt:117:42
 before-requires : tie.Need-before-requires
-before-requires c κs = ?
+before-requires c κs = search needs
 
--- src/lib.rt:111:1
 returns : tie.Need-returns
-returns c = ?
+returns c = rw (c .enum-told .given .1)
 
--- src/lib.rt:111:1
 returns-2 : tie.Need-returns-2
-returns-2 c = ?
+returns-2 c = rw (c .enum-told2 .given .1)
 
--- src/lib.rt:111:1
 returns-3 : tie.Need-returns-3
-returns-3 c = ?
+returns-3 c = rw (c .before .enum-told3 .given .1) (c .before2 .ensures)
 
 pub start-minute-spec : {M : Type 1} → statement M
 start-minute-spec =
