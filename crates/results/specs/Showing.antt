@@ -39,6 +39,12 @@ pub record Holds (x : Shown) : Type 0 where
   pub finish : x .finish < 2 ^ 63
   pub late : x .late < 2 ^ 63
 
+pub record DaysHold (d : Days) : Type 0 where
+  pub es : d .es < 2 ^ 63
+  pub ef : d .ef < 2 ^ 63
+  pub ls : d .ls < 2 ^ 63
+  pub lf : d .lf < 2 ^ 63
+
 abbrev pub HoldsIf : Showing → Type 0
 HoldsIf (Is x) = Holds x
 HoldsIf (Showing.Refused k) = Unit {0}

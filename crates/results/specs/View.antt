@@ -10,6 +10,7 @@ use Rattle.passes.specs.Run.{Ran}
 use Rattle.dates.specs.Columns.{earlyIn, lateIn, freeIn, pathIn}
 use Rattle.results.specs.declared.Shown.{Shown}
 use Rattle.results.specs.declared.Times.{Times}
+use Rattle.results.specs.declared.Days.{Days}
 use Rattle.results.specs.Results.{nothing}
 
 -- what the passes leave; past the activities there are the end e and the marks `other`
@@ -52,6 +53,14 @@ shownAt S i = record {
   path = ltb 0 (S .act isLongest i);
   finish = S .act greatestFinish i;
   late = S .act greatestLate i;
+}
+
+abbrev pub daysIn : State → ℕ → Days
+daysIn S i = record {
+  es = S .act shownStart i;
+  ef = S .act shownFinish i;
+  ls = S .act shownLateStart i;
+  lf = S .act shownLateFinish i;
 }
 
 -- what is shown of the first n activities

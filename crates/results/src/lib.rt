@@ -24,8 +24,8 @@ ghost use Rattle.topology.specs.Frame.{Frame};
 ghost use Rattle.dates.specs.Columns.{ended};
 ghost use Rattle.results.specs.Row.{ToShow, rowShown};
 ghost use Rattle.results.specs.RowLaws.{shownNext};
-ghost use Rattle.results.specs.View.{ranIn, shownTo, timesIn, putDays, putFloats, putBounds, putShown};
-ghost use Rattle.results.specs.Showing.{Holds, HoldsIf, showing, allInYears, criticalIn, totalWork, daysOf, criticalOf, shownFrom};
+ghost use Rattle.results.specs.View.{ranIn, shownTo, shownAt, daysIn, timesIn, putDays, putFloats, putBounds, putShown};
+ghost use Rattle.results.specs.Showing.{Holds, DaysHold, HoldsIf, showing, allInYears, criticalIn, totalWork, daysOf, criticalOf, shownFrom};
 
 // Days counted from the first that an i32 can name, floats in minutes, and for the roll-up the early and the late finish.
 pub struct Shown {
@@ -265,7 +265,44 @@ pub fn times_at(work: &[i64], a: usize, l: usize, i: usize) -> Times
     }
 }
 
-fn number_of(b: bool) -> u64
+fn days_at(work: &[i64], a: usize, l: usize, i: usize) -> Days
+    requires { ⌜ Room a l (now work) × (i < a) ⌝ }
+    ensures { λ r. ⌜ (r ≡ daysIn (stateOf a l (now (work .entry))) i) × DaysHold r ⌝ }
+{
+    let es = memory::get_act(work, a, l, i, memory::fields::SHOWN_START);
+    let ef = memory::get_act(work, a, l, i, memory::fields::SHOWN_FINISH);
+    let ls = memory::get_act(work, a, l, i, memory::fields::SHOWN_LATE_START);
+    let lf = memory::get_act(work, a, l, i, memory::fields::SHOWN_LATE_FINISH);
+    Days { es, ef, ls, lf }
+}
+
+// What is shown of activity `i`, from its row.
+pub fn shown_at(work: &[i64], a: usize, l: usize, i: usize) -> Shown
+    requires { ⌜ Room a l (now work) × (i < a) ⌝ }
+    ensures { λ r. ⌜ (r ≡ shownAt (stateOf a l (now (work .entry))) i) × Holds r ⌝ }
+{
+    let d = days_at(work, a, l, i);
+    let total = memory::get_act_signed(work, a, l, i, memory::fields::TOTAL_FLOAT);
+    let free = memory::get_act(work, a, l, i, memory::fields::SHOWN_FREE);
+    let critical = memory::get_act(work, a, l, i, memory::fields::IS_CRITICAL) > 0;
+    let path = memory::get_act(work, a, l, i, memory::fields::IS_LONGEST) > 0;
+    let finish = memory::get_act(work, a, l, i, memory::fields::GREATEST_FINISH);
+    let late = memory::get_act(work, a, l, i, memory::fields::GREATEST_LATE);
+    Shown {
+        es: d.es,
+        ef: d.ef,
+        ls: d.ls,
+        lf: d.lf,
+        total,
+        free,
+        critical,
+        path,
+        finish,
+        late,
+    }
+}
+
+pub fn number_of(b: bool) -> u64
     ensures { λ r. ⌜ r ≡ bit b ⌝ }
 {
     if b {
