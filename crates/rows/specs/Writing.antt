@@ -45,9 +45,13 @@ minuteIf b t = elim b [ true ↦ pos 0 | false ↦ signedMinute t ]
 abbrev pub workFields : Bool → Actual → ℕ → ℕ → ℕ → List ℤ
 workFields b a left es ef = pos (statusNumber a) ∷ pos left ∷ minuteIf b es ∷ minuteIf b ef ∷ []
 
+-- a row by its values
+abbrev pub rowFields : ℕ → ℕ → Shown → Bool → Actual → ℕ → ℕ → ℕ → List ℤ
+rowFields id dayLength x b a left es ef = pos id ∷ (dayFields x ++ (floatFields dayLength x ++ workFields b a left es ef))
+
 -- the row of activity i, from what is shown of it and its work left, early start and finish
 abbrev pub rowWith : Plan → ℕ → Shown → ℕ → ℕ → ℕ → List ℤ
-rowWith p i x left es ef = pos (idOf p i) ∷ (dayFields x ++ (floatFields (dayOf p i) x ++ workFields (summary p i) (recorded p i) left es ef))
+rowWith p i x left es ef = rowFields (idOf p i) (dayOf p i) x (summary p i) (recorded p i) left es ef
 
 unfoldable pub rowIn : Plan → State → ℕ → List ℤ
 rowIn p S i = rowWith p i (shownAt S i) (S .act workLeft i) (S .act earlyStart i) (S .act earlyFinish i)

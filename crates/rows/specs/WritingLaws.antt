@@ -1,7 +1,7 @@
 -- A row that is written stands in its place, and the rows are the definition's.
 use mathlib.Core.Path.{_≡_, refl, sym, ap, _∙_}
 use mathlib.Core.Bool.{Bool, true, false}
-use mathlib.Core.List.{List, [], _∷_, _++_, append-assoc}
+use mathlib.Core.List.{List, [], _∷_, _++_}
 use Prim.Native.Nat.{ℕ, zero, suc, _+_, _*_, _/_, max, _^_, _≤_, _<_}
 use native.Mathlib.Numerals.{add-one}
 use native.Mathlib.Nat.{div-le-self}
@@ -9,7 +9,7 @@ use native.Mathlib.Omega.{arith}
 use lib.Dec.{eqb, ltb}
 use lib.IntN.{ℤ, pos}
 use lib.ListN.{length, take, drop, set, length-append, length-drop}
-use lib.Seq.{sets, sets-eq, take-at, drop-at, drop-append-add, drop-drop}
+use lib.Seq.{sets, sets-eq, length-sets, take-at, drop-at, drop-append-add, drop-drop}
 use lib.Signed.{quotZ}
 use mir.Syntax.{w64}
 use mir.Val.{SFits}
@@ -21,18 +21,21 @@ use Rattle.memory.specs.State.{State, stateOf}
 use Rattle.memory.specs.Fields.{earlyStart, earlyFinish, workLeft}
 use Rattle.sheet.specs.declared.Contents.{Contents}
 use Rattle.order.specs.Plan.{Plan, planOf}
-use Rattle.order.specs.Ids.{summary}
-use Rattle.passes.specs.Plan.{origin}
+use Rattle.placing.specs.declared.Actual.{Actual}
+use Rattle.order.specs.Ids.{idOf, summary}
+use Rattle.passes.specs.Plan.{origin, recorded}
+use Rattle.passes.specs.Floats.{dayOf}
 use Rattle.passes.specs.Run.{Ran}
 use Rattle.calendars.specs.Calendars.{Lengths}
 use Rattle.dates.specs.ColumnLaws.{column-at}
 use Rattle.dates.specs.Standing.{Ready, Recorded}
+use Rattle.results.specs.declared.Shown.{Shown}
 use Rattle.results.specs.Results.{finishDay}
 use Rattle.results.specs.Rows.{minuteOf, rowOf, rowsBelow}
 use Rattle.results.specs.View.{ranIn, shownIn, shownAt}
 use Rattle.results.specs.ViewLaws.{to-at}
 use Rattle.results.specs.RowLaws.{plan-is-fine}
-use Rattle.rows.specs.Writing.{storedFrom, rowWith, rowIn, rowsIn, ToWrite}
+use Rattle.rows.specs.Writing.{storedFrom, rowFields, rowWith, rowIn, rowsIn, ToWrite}
 
 -- ---- what is lent
 pub to-write : {s : List ℕ} {c : Contents} {places lengths : List ℕ} {t : ℕ} {xs : List ℤ} → Ready s c places t xs → Lengths (planOf s c) lengths
@@ -52,8 +55,11 @@ stored-sets : (zs xs : List ℤ) (at k : ℕ) → storedFrom xs at k zs ≡ sets
 stored-sets [] xs at k = refl
 stored-sets (z ∷ zs) xs at k = let e : at + suc k ≡ suc (at + k) = omega arith in stored-sets zs (set xs (at + k) z) at (suc k) ∙ ap (λ (n : ℕ). sets (set xs (at + k) z) n zs) e
 
-pub stored-is : (zs xs : List ℤ) (at : ℕ) → at + length zs ≤ length xs → storedFrom xs at 0 zs ≡ take at xs ++ (zs ++ drop (at + length zs) xs)
+pub stored-is : (zs xs : List ℤ) (at : ℕ) → at + length zs ≤ length xs → storedFrom xs at 0 zs ≡ take at xs ++ zs ++ drop (at + length zs) xs
 stored-is zs xs at l = let e : at + 0 ≡ at = omega arith in stored-sets zs xs at 0 ∙ ap (λ (n : ℕ). sets xs n zs) e ∙ sets-eq zs xs at l
+
+pub stored-length : (zs xs : List ℤ) (at k : ℕ) → length (storedFrom xs at k zs) ≡ length xs
+stored-length zs xs at k = ap length (stored-sets zs xs at k) ∙ length-sets xs (at + k) zs
 
 -- ---- the rows
 row-length : (p : Plan) (S : State) (i : ℕ) → length (rowIn p S i) ≡ 15
@@ -85,8 +91,7 @@ module _ (p : Plan) (S : State) (xs ys : List ℤ) (i : ℕ) (e : ys ≡ rowsIn 
       in
       let one : rowsIn p S (i + 1) ≡ rowsIn p S i ++ rowIn p S i = ap (rowsIn p S) (add-one i) in
       stored-is (rowIn p S i) ys (15 * i) (omega (arith, rows-room, row-length p S i))
-      ∙ (λ z. before z ++ (rowIn p S i ++ past z))
-      ∙ sym (append-assoc (rowsIn p S i) (rowIn p S i) (drop (15 * (i + 1)) xs))
+      ∙ (λ z. before z ++ rowIn p S i ++ past z)
       ∙ ap (λ (zs : List ℤ). zs ++ drop (15 * (i + 1)) xs) (sym one)
 
 -- ---- the definition's rows
@@ -117,3 +122,15 @@ pub quot-fits : (m : ℤ) (d : ℕ) → SFits w64 m → SFits w64 (quotZ m (pos 
 quot-fits m d f =
     fits-sides w64 (quotZ m (pos d)) (omega (arith, quot-up m d, div-le-self (up m) d, up-fits w64 m f))
     (omega (arith, quot-dn m d, div-le-self (dn m) d, dn-fits w64 m f))
+
+-- ---- a row in hand
+bit-flag : (b : Bool) → ltb 0 (bit b) ≡ b
+bit-flag true = refl
+bit-flag false = refl
+
+pub fields-are : (p : Plan) (S : State) (i id dayLength : ℕ) (x : Shown) (b : Bool) (a : Actual) (m left es ef : ℕ)
+    → id ≡ idOf p i → dayLength ≡ dayOf p i → x ≡ shownAt S i → b ≡ ltb 0 m → m ≡ bit (summary p i) → a ≡ recorded p i
+    → left ≡ S .act workLeft i → es ≡ S .act earlyStart i → ef ≡ S .act earlyFinish i → rowFields id dayLength x b a left es ef ≡ rowIn p S i
+unfolding rowIn
+fields-are p S i id dayLength x b a m left es ef d e f g h j k l n =
+    λ z. rowFields (d z) (e z) (f z) ((g ∙ ap (ltb 0) h ∙ bit-flag (summary p i)) z) (j z) (k z) (l z) (n z)
