@@ -35,8 +35,9 @@ use Rattle.passes.specs.Forward.{leftOf, leftBelow, forwardBound, raised, const
 use Rattle.passes.specs.Backward.{greatestBelow, allSummaries, finish, end, overLag, linkFinish, lowered, limited, heldLate, lifted, placedLate, backward as backward-backward}
 use Rattle.passes.specs.Floats.{gap, slackBy, holdsLate, heldStart, heldMove, freed, freeFloat, lastOnes, drives, marked, onPath}
 use Rattle.passes.specs.Run.{forwardPass, backwardPass, freePass, pathPass, run as run-run}
-use Rattle.sched.specs.Results.{totalOf, shown, shownBelow, summariesAt, deepestFirst, childrenBelow, rolled, results, finishDay}
-use Rattle.sched.specs.Outcome.{minuteOf, rowOf, rowsBelow, refusedWith, accepted, planned, roomFor, outcome}
+use Rattle.results.specs.Results.{totalOf, shown, shownBelow, summariesAt, deepestFirst, childrenBelow, rolled, results, finishDay}
+use Rattle.results.specs.Rows.{minuteOf, rowOf, rowsBelow}
+use Rattle.sched.specs.Outcome.{refusedWith, accepted, planned, roomFor, outcome}
 use Rattle.project.specs.Status.{isMilestone, onStart, boundsStart, statusOf}
 use Rattle.number.specs.Sign.{minZ, maxZ, clampZ, percentOf, wholeDays}
 

@@ -1,6 +1,10 @@
 -- The scheduling call.
-pub mod Results
 pub mod Outcome
+pub mod Refusals
+pub mod RunRefusals
+pub mod RowLaws
+pub mod Demand
 pub mod Example
+pub mod Marked
 pub mod ExampleSheet
 pub mod ExampleRules

@@ -1,27 +1,25 @@
 -- The outcome of the scheduling call: its answer, and every lent slice afterwards.
-use mathlib.Core.Bool.{Bool, true, false, _&&_, _||_}
+use mathlib.Core.Bool.{Bool, true, false, _&&_}
 use mathlib.Core.List.{List, [], _∷_, _++_}
-use Prim.Native.Nat.{ℕ, zero, suc, _+_, _-_, _*_, _^_, max}
-use lib.Dec.{eqb, leb, ltb}
-use lib.IntN.{ℤ, pos, _-ℤ_}
+use Prim.Native.Nat.{ℕ, _+_, _*_, max}
+use lib.Dec.{eqb, leb}
+use lib.IntN.{ℤ, pos}
 use lib.ListN.{length, drop, replicate}
-use Rattle.number.specs.Bit.{bit}
-use Rattle.date.specs.Days.{signedMinute}
 use Rattle.sheet.specs.declared.Contents.{Contents}
 use Rattle.sheet.specs.declared.Sheet.{Sheet}
 use Rattle.sheet.specs.declared.Sheet.the-variants.{Read}
 use Rattle.sheet.specs.Reading.{readSheet}
 use Rattle.order.specs.Plan.{Plan, planOf}
-use Rattle.order.specs.Ids.{idOf, summary}
 use Rattle.order.specs.Ties.{ignoredLinks, openEnds}
 use Rattle.order.specs.Checks.{Verdict, checked}
-use Rattle.passes.specs.Plan.{recorded}
-use Rattle.passes.specs.Dates.{Pass, leaves, refused, after}
-use Rattle.passes.specs.Floats.{inDays}
+use Rattle.checks.specs.Names.{thenZeros}
+use Rattle.passes.specs.Dates.{Pass, leaves, refused}
 use Rattle.passes.specs.Run.{Ran, run}
+use Rattle.results.specs.declared.Shown.{Shown}
+use Rattle.results.specs.Results.{results, finishDay}
+use Rattle.results.specs.Rows.{signedDayOf, rowsBelow}
 use Rattle.sched.specs.declared.Answer.{Answer}
 use Rattle.sched.specs.declared.Answer.the-variants.{Accepted}
-use Rattle.sched.specs.Results.{Shown, statusNumber, results, finishDay}
 
 -- what is lent: results, names and work memory
 pub record Lent : Type 0 where
@@ -33,31 +31,7 @@ pub record Ended : Type 0 where
   pub answer : Answer
   pub lent : Lent
 
--- ---- "Result fields"
--- a day as 01 counts it
-abbrev pub signedDayOf : ℕ → ℤ
-signedDayOf d = pos d -ℤ pos (2 ^ 31)
-
-module _ (p : Plan) (r : Ran) (f : ℕ → Shown) where
-  -- "0 for summaries"
-  unfoldable pub minuteOf : ℕ → ℕ → ℤ
-  minuteOf i t = elim (summary p i) [ true ↦ pos 0 | false ↦ signedMinute t ]
-
-  unfoldable pub rowOf : ℕ → List ℤ
-  rowOf i =
-      pos (idOf p i) ∷ signedDayOf (f i .es) ∷ signedDayOf (f i .ef) ∷ signedDayOf (f i .ls) ∷ signedDayOf (f i .lf) ∷ inDays p i (f i .total)
-      ∷ inDays p i (pos (f i .free)) ∷ f i .total ∷ pos (f i .free) ∷ pos (bit (f i .critical)) ∷ pos (bit (f i .path))
-      ∷ pos (statusNumber (recorded p i)) ∷ pos (r .early .left i) ∷ minuteOf i (r .early .es i) ∷ minuteOf i (r .early .ef i) ∷ []
-
-  unfoldable pub rowsBelow : ℕ → List ℤ
-  rowsBelow zero = []
-  rowsBelow (suc n) = rowsBelow n ++ rowOf n
-
 -- ---- what a call leaves
--- a row of numbers at the front, and zeros to the end
-abbrev pub thenZeros : List ℕ → List ℕ → List ℕ
-thenZeros xs names = xs ++ replicate (length names - length xs) 0
-
 -- "The others keep results and zero work memory and names, but 12 and 15 first put the loop's ids in names"
 unfoldable pub refusedWith : Lent → ℕ → ℕ → List ℕ → Ended
 refusedWith m number id loop = record {

@@ -1,6 +1,5 @@
 -- Links with their ends and lags.
 pub mod Ends
-pub mod Lengths
 pub mod Checked
 pub mod EndLaws
 pub mod TieSteps

@@ -15,7 +15,7 @@ ghost use Rattle.ids.specs.Index.{Indexed};
 ghost use Rattle.ids.specs.Parented.{Parented};
 ghost use Rattle.ids.specs.Lent.{Lent, stateIn};
 ghost use Rattle.ties.specs.Ends.{Between, EndsOf};
-ghost use Rattle.ties.specs.Lengths.{Lengths};
+ghost use Rattle.calendars.specs.Calendars.{Lengths};
 ghost use Rattle.ties.specs.Checked.{LinkAnswered};
 
 pub mod fields;

@@ -17,19 +17,7 @@ use Rattle.passes.specs.Plan.{own, kindOf, origin, recorded, begun}
 use Rattle.passes.specs.Dates.{Early, Late, Pass, leaves, refused, after, put, through}
 use Rattle.passes.specs.Floats.{measured, floatBy, inDays, criticalBy, isCompleted}
 use Rattle.passes.specs.Run.{Ran}
-
--- what is shown of an activity: days counted from the first that an i32 can name, floats in minutes, and for the roll-up its early and late finish
-pub record Shown : Type 0 where
-  pub es : ℕ
-  pub ef : ℕ
-  pub ls : ℕ
-  pub lf : ℕ
-  pub total : ℤ
-  pub free : ℕ
-  pub critical : Bool
-  pub path : Bool
-  pub finish : ℕ
-  pub late : ℕ
+use Rattle.results.specs.declared.Shown.{Shown}
 
 -- a start shows its day; a finish milestone the day of the minute before
 abbrev pub startMinute : ActivityKind → ℕ → ℕ

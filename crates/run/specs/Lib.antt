@@ -1,0 +1,3 @@
+-- The run in stages.
+pub mod Stages
+pub mod StageLaws
