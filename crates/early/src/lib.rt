@@ -136,7 +136,18 @@ fn constrained(
     match placing::dates::constraint_time(activity, week, sheet, at, n, constraint) {
         Moment::At(x) => match placing::bounded(times.origin, x) {
             Walk::At(t) => {
-                return at_early(activity, week, sheet, at, n, left, times, constraint, t, start);
+                return at_early(
+                    activity,
+                    week,
+                    sheet,
+                    at,
+                    n,
+                    left,
+                    times,
+                    constraint,
+                    t,
+                    start,
+                );
             }
             Walk::Refused(k) => {
                 return Walk::Refused(k);
@@ -301,7 +312,13 @@ fn work_to(
     ensures { λ r. ⌜ ((p : Plan) (d : Early) (i : ℕ) → InHand p d i activity (workedOn week (now (sheet .entry)) at n) left → IsTimes p times → r ≡ workTo p d i s expected) × ((m : ℕ) → r ≡ At m → m < 2 ^ 63) ⌝ }
 {
     match expected {
-        OptionalDate::On(x) => match clock::previous_finish(week, sheet, at, n, x.midnight() + 1440) {
+        OptionalDate::On(x) => match clock::previous_finish(
+            week,
+            sheet,
+            at,
+            n,
+            x.midnight() + 1440,
+        ) {
             Walk::At(e) => match placing::bounded(times.origin, e) {
                 Walk::At(b) => {
                     let work = clock::between(week, sheet, at, n, s, later(b, s));
@@ -402,7 +419,17 @@ fn placed(
 {
     match placing::place_start(activity, week, sheet, at, n, start) {
         Walk::At(t) => match placing::bounded(times.origin, t) {
-            Walk::At(s) => match minutes_from(activity, week, sheet, at, n, left, times, is_summary, s) {
+            Walk::At(s) => match minutes_from(
+                activity,
+                week,
+                sheet,
+                at,
+                n,
+                left,
+                times,
+                is_summary,
+                s,
+            ) {
                 Walk::At(m) => {
                     return finished(activity, week, sheet, at, n, times, s, m);
                 }
@@ -436,7 +463,18 @@ pub fn place(
     requires { ⌜ Valid week (now sheet) at n × (left < 2 ^ 63) × (times .origin < 2 ^ 43) ⌝ }
     ensures { λ r. ⌜ ((p : Plan) (d : Early) (i : ℕ) → InHand p d i activity (workedOn week (now (sheet .entry)) at n) left → IsTimes p times → «is_summary» ≡ summary p i → placedAs p d i r ≡ afterStart p d i recorded start) × Fits r ⌝ }
 {
-    match start_by(activity, week, sheet, at, n, left, times, is_summary, recorded, start) {
+    match start_by(
+        activity,
+        week,
+        sheet,
+        at,
+        n,
+        left,
+        times,
+        is_summary,
+        recorded,
+        start,
+    ) {
         Walk::At(u) => {
             return placed(activity, week, sheet, at, n, left, times, is_summary, u);
         }

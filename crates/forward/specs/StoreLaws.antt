@@ -36,11 +36,11 @@ module _ (p : Plan) (S : State) (i s f m : ℕ) (l : i < p .activities) where
   early-stored =
       let n : ℕ = p .activities in
       let a : column n (λ i. origin p) (stored S i s f m) earlyStart ≡ put (column n (λ i. origin p) S earlyStart) i s =
-          column-same n (λ i. origin p) earlyStart (putAct S earlyStart i s) (stored S i s f m) refl ∙ column-put n (λ i. origin p) earlyStart S i s l in
+      column-same n (λ i. origin p) earlyStart (putAct S earlyStart i s) (stored S i s f m) refl ∙ column-put n (λ i. origin p) earlyStart S i s l in
       let b : column n (λ i. origin p) (stored S i s f m) earlyFinish ≡ put (column n (λ i. origin p) S earlyFinish) i f =
-          column-same n (λ i. origin p) earlyFinish (putAct S earlyFinish i f) (stored S i s f m) refl ∙ column-put n (λ i. origin p) earlyFinish S i f l in
+      column-same n (λ i. origin p) earlyFinish (putAct S earlyFinish i f) (stored S i s f m) refl ∙ column-put n (λ i. origin p) earlyFinish S i f l in
       let c : column n (λ i. 0) (stored S i s f m) workLeft ≡ put (column n (λ i. 0) S workLeft) i m =
-          column-same n (λ i. 0) workLeft (putAct S workLeft i m) (stored S i s f m) refl ∙ column-put n (λ i. 0) workLeft S i m l in
+      column-same n (λ i. 0) workLeft (putAct S workLeft i m) (stored S i s f m) refl ∙ column-put n (λ i. 0) workLeft S i m l in
       λ z. record { es = a z; ef = b z; left = c z }
 
 pub frame-stored : (S : State) (i s f m : ℕ) → Frame 12 15 0 0 S (stored S i s f m)
@@ -143,7 +143,7 @@ early-filled p S =
     let o : ℕ = origin p in
     let T : State = fillAct (fillAct S earlyStart n o) earlyFinish n o in
     let x : column n (λ i. o) T earlyStart ≡ (λ (i : ℕ). o) =
-        column-same n (λ i. o) earlyStart (fillAct S earlyStart n o) T refl ∙ column-fill n S earlyStart o in
+    column-same n (λ i. o) earlyStart (fillAct S earlyStart n o) T refl ∙ column-fill n S earlyStart o in
     let y : column n (λ i. o) T earlyFinish ≡ (λ (i : ℕ). o) = column-fill n (fillAct S earlyStart n o) earlyFinish o in
     let w : column n (λ i. 0) T workLeft ≡ column n (λ i. 0) S workLeft = column-same n (λ i. 0) workLeft S T refl in
     λ z. record { es = x z; ef = y z; left = w z }

@@ -76,7 +76,19 @@ fn raised_by(
     requires { ⌜ Ready (now sheet) contents (now places) t (now work) × Recorded (planOf (now sheet) contents) (stateOf (contents .activities) (contents .links) (now work)) × (k < t) × Valid week (now sheet) at n ⌝ }
     ensures { λ r. ⌜ ((i : ℕ) → InHand (planOf (now (sheet .entry)) contents) (earlyIn (planOf (now (sheet .entry)) contents) (stateOf (contents .activities) (contents .links) (now (work .entry)))) i activity (workedOn week (now (sheet .entry)) at n) left → r ≡ via Refused (linkStart (planOf (now (sheet .entry)) contents) (earlyIn (planOf (now (sheet .entry)) contents) (stateOf (contents .activities) (contents .links) (now (work .entry)))) i k) (λ s. At (max start s))) ⌝ }
 {
-    match link_start(sheet, contents, places, t, work, k, activity, week, at, n, left) {
+    match link_start(
+        sheet,
+        contents,
+        places,
+        t,
+        work,
+        k,
+        activity,
+        week,
+        at,
+        n,
+        left,
+    ) {
         Walk::At(s) => {
             if start < s {
                 return Walk::At(s);
@@ -112,7 +124,20 @@ fn raise(
     let mut start = floor;
     let mut k = memory::get_act(work, a, l, i, memory::fields::FIRST_IN) as usize;
     while k < t {
-        match raised_by(sheet, contents, places, t, work, k, activity, week, at, n, left, start) {
+        match raised_by(
+            sheet,
+            contents,
+            places,
+            t,
+            work,
+            k,
+            activity,
+            week,
+            at,
+            n,
+            left,
+            start,
+        ) {
             Walk::At(s) => {
                 start = s;
             }
@@ -147,9 +172,33 @@ fn early_with(
     let left = memory::get_act(work, a, l, i, memory::fields::WORK_LEFT);
     let mark = memory::get_act(work, a, l, i, memory::fields::IS_SUMMARY);
     let times = early::times_of(sheet, contents);
-    match raise(sheet, contents, places, t, work, i, activity, week, at, n, left, times.floor) {
+    match raise(
+        sheet,
+        contents,
+        places,
+        t,
+        work,
+        i,
+        activity,
+        week,
+        at,
+        n,
+        left,
+        times.floor,
+    ) {
         Walk::At(start) => {
-            return early::place(activity, week, sheet, at, n, left, times, 0 < mark, recorded, start);
+            return early::place(
+                activity,
+                week,
+                sheet,
+                at,
+                n,
+                left,
+                times,
+                0 < mark,
+                recorded,
+                start,
+            );
         }
         Walk::Refused(k) => {
             return Placement::Refused(k);
@@ -174,7 +223,19 @@ fn early_of(
     let k = activity.calendar as usize;
     let week = calendars::week_of(sheet, contents, places, k);
     let e = calendars::exceptions_of(sheet, contents, places, k);
-    early_with(sheet, contents, places, t, work, i, recorded, activity, week, e.at, e.n)
+    early_with(
+        sheet,
+        contents,
+        places,
+        t,
+        work,
+        i,
+        recorded,
+        activity,
+        week,
+        e.at,
+        e.n,
+    )
 }
 
 // Stores an activity's early dates and its minutes of work left.
@@ -188,13 +249,7 @@ fn store(work: &mut [i64], a: usize, l: usize, i: usize, s: u64, f: u64, m: u64)
 }
 
 // Stores what was found, unless a walk was refused.
-fn settle(
-    work: &mut [i64],
-    a: usize,
-    l: usize,
-    i: usize,
-    placement: Placement,
-) -> Step
+fn settle(work: &mut [i64], a: usize, l: usize, i: usize, placement: Placement) -> Step
     requires { ⌜ Room a l (now work) × (i < a) × Fits placement ⌝ }
     ensures { λ r. ⌜ Settled i placement (stateOf a l (now (work .entry))) (stateOf a l (now (work .exit))) r × (length (now (work .exit)) ≡ length (now (work .entry))) ⌝ }
 {
@@ -203,8 +258,8 @@ fn settle(
             store(work, a, l, i, s, f, m);
             return Step::Done;
         }
-        Placement::Refused(k) => {
-            return Step::Refused(k);
+        Placement::Refused(number) => {
+            return Step::Refused(number);
         }
     }
 }
@@ -234,13 +289,7 @@ fn forward_one(
 }
 
 // The activities in the order.
-fn forward_all(
-    sheet: &[u8],
-    contents: Contents,
-    places: &[u64],
-    t: usize,
-    work: &mut [i64],
-) -> Step
+fn forward_all(sheet: &[u8], contents: Contents, places: &[u64], t: usize, work: &mut [i64]) -> Step
     requires { ⌜ Ready (now sheet) contents (now places) t (now work) × Recorded (planOf (now sheet) contents) (stateOf (contents .activities) (contents .links) (now work)) ⌝ }
     ensures { λ r. ⌜ (ended (earlyIn (planOf (now (sheet .entry)) contents) (stateOf (contents .activities) (contents .links) (now (work .exit)))) r ≡ through (forward (planOf (now (sheet .entry)) contents)) (order (planOf (now (sheet .entry)) contents)) (earlyIn (planOf (now (sheet .entry)) contents) (stateOf (contents .activities) (contents .links) (now (work .entry))))) × Frame 12 15 0 0 (stateOf (contents .activities) (contents .links) (now (work .entry))) (stateOf (contents .activities) (contents .links) (now (work .exit))) × (length (now (work .exit)) ≡ length (now (work .entry))) ⌝ }
 {

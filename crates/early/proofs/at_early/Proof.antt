@@ -1,5 +1,6 @@
+-- `early::at_early` meets its contract. Each way out has its law.
 use borrow.Author.Needs.{needs}
-use mathlib.Core.Path.{_≡_, sym, ap, _∙_}
+use mathlib.Core.Path.{sym, ap, _∙_}
 use Rattle.worktime.specs.declared.Walk.the-variants.{At}
 use Rattle.early.specs.EarlyLaws.{early-unconstrained, early-start-after, early-start-before, early-finish-after, early-finish-before, early-start-on, early-finish-on, early-mandatory-start, early-mandatory-finish, early-late}
 use Rattle.early.proofs.at_early.Statement.{statement}

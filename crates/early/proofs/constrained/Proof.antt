@@ -1,5 +1,6 @@
+-- `early::constrained` meets its contract. Each way out has its law.
 use borrow.Author.Needs.{needs}
-use mathlib.Core.Path.{_≡_, sym, ap, _∙_}
+use mathlib.Core.Path.{sym, _∙_}
 use Rattle.early.specs.EarlyLaws.{constrained-at, constrained-far, constrained-nowhere, constrained-refused}
 use Rattle.early.proofs.constrained.Statement.{statement}
 use Rattle.early.proofs.constrained.Tie as tie

@@ -1,47 +1,35 @@
+-- `early::finished` meets its contract. Each way out has its law.
 use borrow.Author.Needs.{needs}
-use Rattle.early.specs.EarlyLaws.{finished-at, finished-far, finished-refused, at-fits, refused-fits}
+use mathlib.Core.Path.{sym, _∙_}
 use Rattle.dates.specs.Bounds.{bounded-below}
-use mathlib.Core.Path.{_≡_, sym, ap, _∙_}
+use Rattle.early.specs.EarlyLaws.{finished-at, finished-far, finished-refused, at-fits, refused-fits}
 use Rattle.early.proofs.finished.Statement.{statement}
 use Rattle.early.proofs.finished.Tie as tie
-use Rattle.early.proofs.finished.Reads as reads
-use Rattle.early.proofs.finished.Lts as lts
-use Rattle.placing.proofs.bounded.Reads as bounded-reads
-use Rattle.placing.proofs.finish_of.Reads as finish-of-reads
 
--- src/lib.rt:373:11
 finish-of-requires : tie.Need-finish-of-requires
 finish-of-requires c κs = search needs
 
--- src/lib.rt:374:18
 enum-known-g : tie.Need-enum-known-g
 enum-known-g c = search needs
 
--- src/lib.rt:374:30
 bounded-requires : tie.Need-bounded-requires
 bounded-requires c κs = search needs
 
--- src/lib.rt:375:22
 enum-known-f : tie.Need-enum-known-f
 enum-known-f c = search needs
 
--- src/lib.rt:376:17
 returns : tie.Need-returns
 returns c = (λ p d i T. sym (finished-at p d i _ _ _ (c .before .before .before .before .before .before .before .finish-of .ensures) _ _ (c .before .before .before .before .before .g .given .1) (T .origin-is) (c .before .before .before .bounded .ensures) _ (c .before .f .given .1)), at-fits _ _ _ (c .before .before .before .before .before .before .before .before .before .pre .1) (bounded-below _ _ (c .before .before .before .before .before .before .before .before .before .pre .3) (sym (c .before .before .before .bounded .ensures) ∙ c .before .f .given .1)) (c .before .before .before .before .before .before .before .before .before .pre .2))
 
--- src/lib.rt:378:27
 enum-known-k : tie.Need-enum-known-k
 enum-known-k c = search needs
 
--- src/lib.rt:379:17
 returns-2 : tie.Need-returns-2
 returns-2 c = (λ p d i T. sym (finished-far p d i _ _ _ (c .before .before .before .before .before .before .before .finish-of .ensures) _ _ (c .before .before .before .before .before .g .given .1) (T .origin-is) (c .before .before .before .bounded .ensures) _ (c .before .k .given .1)), refused-fits _)
 
--- src/lib.rt:382:23
 enum-known-k-2 : tie.Need-enum-known-k-2
 enum-known-k-2 c = search needs
 
--- src/lib.rt:383:13
 returns-3 : tie.Need-returns-3
 returns-3 c = (λ p d i T. sym (finished-refused p d i _ _ _ (c .before .before .before .finish-of .ensures) _ (c .before .k2 .given .1)), refused-fits _)
 

@@ -1,29 +1,22 @@
+-- `early::levelled` meets its contract. Each way out has its law.
 use borrow.Author.Needs.{needs}
+use mathlib.Core.Path.{sym, _∙_}
 use Rattle.early.specs.EarlyLaws.{levelled-on, levelled-absent}
-use mathlib.Core.Path.{_≡_, sym, ap, _∙_}
 use Rattle.early.proofs.levelled.Statement.{statement}
 use Rattle.early.proofs.levelled.Tie as tie
-use Rattle.early.proofs.levelled.Reads as reads
-use Rattle.early.proofs.levelled.Lts as lts
-use Rattle.early.proofs.constrained.Reads as constrained-reads
 
--- src/lib.rt:170:26
 enum-known-day : tie.Need-enum-known-day
 enum-known-day c = search needs
 
--- src/lib.rt:172:13
 constrained-requires : tie.Need-constrained-requires
 constrained-requires c κs = search needs
 
--- src/lib.rt:172:13
 returns : tie.Need-returns
 returns c = λ p d i H T. c .constrained .ensures p d i H T ∙ sym (levelled-on H _ _ (c .before .before .day .given .1))
 
--- src/lib.rt:175:13
 enum-told : tie.Need-enum-told
 enum-told c = search needs
 
--- src/lib.rt:175:13
 returns-2 : tie.Need-returns-2
 returns-2 c = λ p d i H T. sym (levelled-absent H _ (c .enum-told .given .1))
 

@@ -1,69 +1,50 @@
+-- `early::placed` meets its contract. Each way out has its law.
 use borrow.Author.Needs.{needs}
-use Rattle.early.specs.EarlyLaws.{placed-from, placed-uncounted, placed-far, placed-refused, refused-fits}
+use mathlib.Core.Path.{sym, _∙_}
 use Rattle.dates.specs.Bounds.{bounded-below}
-use mathlib.Core.Path.{_≡_, sym, ap, _∙_}
+use Rattle.early.specs.EarlyLaws.{placed-from, placed-uncounted, placed-far, placed-refused, refused-fits}
 use Rattle.early.proofs.placed.Statement.{statement}
 use Rattle.early.proofs.placed.Tie as tie
-use Rattle.early.proofs.placed.Reads as reads
-use Rattle.early.proofs.placed.Lts as lts
-use Rattle.early.proofs.finished.Reads as finished-reads
-use Rattle.early.proofs.minutes_from.Reads as minutes-from-reads
-use Rattle.placing.proofs.bounded.Reads as bounded-reads
-use Rattle.placing.proofs.place_start.Reads as place-start-reads
 
--- src/lib.rt:403:11
 place-start-requires : tie.Need-place-start-requires
 place-start-requires c κs = search needs
 
--- src/lib.rt:404:18
 enum-known-t : tie.Need-enum-known-t
 enum-known-t c = search needs
 
--- src/lib.rt:404:30
 bounded-requires : tie.Need-bounded-requires
 bounded-requires c κs = search needs
 
--- src/lib.rt:405:22
 enum-known-s : tie.Need-enum-known-s
 enum-known-s c = search needs
 
--- src/lib.rt:405:34
 minutes-from-requires : tie.Need-minutes-from-requires
 minutes-from-requires c κs = search needs
 
--- src/lib.rt:406:26
 enum-known-m : tie.Need-enum-known-m
 enum-known-m c = search needs
 
--- src/lib.rt:407:21
 finished-requires : tie.Need-finished-requires
 finished-requires c κs = (c .before .before .before .before .before .before .before .before .before .before .before .before .before .pre .0, bounded-below _ _ (c .before .before .before .before .before .before .before .before .before .before .before .before .before .pre .2) (sym (c .before .before .before .before .before .before .before .bounded .ensures) ∙ c .before .before .before .before .before .s .given .1), c .before .before .before .minutes-from .ensures .1 _ (c .before .m .given .1), c .before .before .before .before .before .before .before .before .before .before .before .before .before .pre .2)
 
--- src/lib.rt:407:21
 returns : tie.Need-returns
 returns c = (λ p d i H T q. c .finished .ensures .0 p d i T ∙ sym (placed-from H _ (c .before .before .before .before .before .before .before .before .before .before .before .before .place-start .ensures) _ _ (c .before .before .before .before .before .before .before .before .before .before .t .given .1) (T .origin-is) (c .before .before .before .before .before .before .before .before .bounded .ensures) _ (c .before .before .before .before .before .before .s .given .1) (c .before .before .before .before .minutes-from .ensures .0 p d i H T q) _ (c .before .before .m .given .1)), c .finished .ensures .1)
 
--- src/lib.rt:409:31
 enum-known-k : tie.Need-enum-known-k
 enum-known-k c = search needs
 
--- src/lib.rt:410:21
 returns-2 : tie.Need-returns-2
 returns-2 c = (λ p d i H T q. sym (placed-uncounted H _ (c .before .before .before .before .before .before .before .before .before .before .before .place-start .ensures) _ _ (c .before .before .before .before .before .before .before .before .before .t .given .1) (T .origin-is) (c .before .before .before .before .before .before .before .bounded .ensures) _ (c .before .before .before .before .before .s .given .1) (c .before .before .before .minutes-from .ensures .0 p d i H T q) _ (c .before .k .given .1)), refused-fits _)
 
--- src/lib.rt:413:27
 enum-known-k-2 : tie.Need-enum-known-k-2
 enum-known-k-2 c = search needs
 
--- src/lib.rt:414:17
 returns-3 : tie.Need-returns-3
 returns-3 c = (λ p d i H T q. sym (placed-far H _ (c .before .before .before .before .before .before .before .place-start .ensures) _ _ (c .before .before .before .before .before .t .given .1) (T .origin-is) (c .before .before .before .bounded .ensures) _ (c .before .k2 .given .1)), refused-fits _)
 
--- src/lib.rt:417:23
 enum-known-k-3 : tie.Need-enum-known-k-3
 enum-known-k-3 c = search needs
 
--- src/lib.rt:418:13
 returns-4 : tie.Need-returns-4
 returns-4 c = (λ p d i H T q. sym (placed-refused H _ (c .before .before .before .place-start .ensures) _ (c .before .k3 .given .1)), refused-fits _)
 

@@ -1,51 +1,38 @@
+-- `early::start_by` meets its contract. Each way out has its law.
 use borrow.Author.Needs.{needs}
-use Rattle.early.specs.EarlyLaws.{start-unstarted, start-begun, start-completed, start-refused}
+use mathlib.Core.Path.{sym, ap, _∙_}
 use Rattle.worktime.specs.declared.Walk.the-variants.{At}
-use mathlib.Core.Path.{_≡_, sym, ap, _∙_}
+use Rattle.early.specs.EarlyLaws.{start-unstarted, start-begun, start-completed, start-refused}
 use Rattle.early.proofs.start_by.Statement.{statement}
 use Rattle.early.proofs.start_by.Tie as tie
-use Rattle.early.proofs.start_by.Reads as reads
-use Rattle.early.proofs.start_by.Lts as lts
-use Rattle.early.proofs.held.Reads as held-reads
-use Rattle.early.proofs.resumed.Reads as resumed-reads
 
--- src/lib.rt:258:13
 enum-told : tie.Need-enum-told
 enum-told c = search needs
 
--- src/lib.rt:258:13
 held-requires : tie.Need-held-requires
 held-requires c κs = search needs
 
--- src/lib.rt:258:13
 returns : tie.Need-returns
 returns c = λ p d i H T q. c .held .ensures p d i H T q ∙ sym (start-unstarted H _ _ (c .before .enum-told .given .1))
 
--- src/lib.rt:260:23
 enum-known-recorded : tie.Need-enum-known-recorded
 enum-known-recorded c = search needs
 
--- src/lib.rt:261:29
 resumed-requires : tie.Need-resumed-requires
 resumed-requires c κs = search needs
 
--- src/lib.rt:261:13
 returns-2 : tie.Need-returns-2
 returns-2 c = λ p d i H T q. ap At (c .resumed .ensures p d T) ∙ sym (start-begun H _ _ _ (c .before .before .recorded .given .1))
 
--- src/lib.rt:264:13
 enum-told-2 : tie.Need-enum-told-2
 enum-told-2 c = search needs
 
--- src/lib.rt:264:13
 returns-3 : tie.Need-returns-3
 returns-3 c = λ p d i H T q. sym (start-completed H _ _ _ _ (c .enum-told2 .given .1))
 
--- src/lib.rt:266:25
 enum-known-recorded-2 : tie.Need-enum-known-recorded-2
 enum-known-recorded-2 c = search needs
 
--- src/lib.rt:267:13
 returns-4 : tie.Need-returns-4
 returns-4 c = λ p d i H T q. sym (start-refused H _ _ _ (c .before .recorded2 .given .1))
 
