@@ -2,8 +2,8 @@
 use borrow.Author.Needs.{needs}
 use mathlib.Core.Path.{sym, _∙_}
 use mir.Facts.{toZ-ofZ}
-use Rattle.order.specs.Plan.{planOf}
 use Rattle.dates.specs.Standing.{asTie}
+use Rattle.order.specs.Plan.{planOf}
 use Rattle.bounds.specs.BoundLaws.{bound-at, bound-refused}
 use Rattle.bounds.proofs.forward_bound.Statement.{statement}
 use Rattle.bounds.proofs.forward_bound.Tie as tie
@@ -25,9 +25,11 @@ bounded-requires c κs = search needs
 
 returns : tie.Need-returns
 returns c =
+    let s = c .before .before .before .before .before .before .before .before .before .before in
+    let p = planOf (s .args .sheet .now) (s .args .contents) in
     c .bounded .ensures ∙
     sym
-    (bound-at (planOf (c .before .before .before .before .before .before .before .before .before .before .args .sheet .now) (c .before .before .before .before .before .before .before .before .before .before .args .contents)) (asTie (c .before .before .before .before .before .before .before .before .before .before .args .tie)) _ _ _ _ (c .before .before .before .before .before .before .before .source-of .ensures (planOf (c .before .before .before .before .before .before .before .before .before .before .args .sheet .now) (c .before .before .before .before .before .before .before .before .before .before .args .contents))) (toZ-ofZ (record { sfits = c .before .before .before .before .before .before .struct-told .given .1 .1 .1 .0 .1 })) _ _ _
+    (bound-at p (asTie (s .args .tie)) _ _ _ _ (c .before .before .before .before .before .before .before .source-of .ensures p) (toZ-ofZ (record { sfits = c .before .before .before .before .before .before .struct-told .given .1 .1 .1 .0 .1 })) _ _ _
     (c .before .before .before .before .before .shifted .ensures) (c .before .before .before .t .given .1) (c .before .origin-of .ensures .0))
 
 enum-known-k : tie.Need-enum-known-k
@@ -35,8 +37,10 @@ enum-known-k c = search needs
 
 returns-2 : tie.Need-returns-2
 returns-2 c =
+    let s = c .before .before .before .before .before .before .before .before in
+    let p = planOf (s .args .sheet .now) (s .args .contents) in
     sym
-    (bound-refused (planOf (c .before .before .before .before .before .before .before .before .args .sheet .now) (c .before .before .before .before .before .before .before .before .args .contents)) (asTie (c .before .before .before .before .before .before .before .before .args .tie)) _ _ _ _ (c .before .before .before .before .before .source-of .ensures (planOf (c .before .before .before .before .before .before .before .before .args .sheet .now) (c .before .before .before .before .before .before .before .before .args .contents))) (toZ-ofZ (record { sfits = c .before .before .before .before .struct-told .given .1 .1 .1 .0 .1 })) _ _ (c .before .before .before .shifted .ensures)
+    (bound-refused p (asTie (s .args .tie)) _ _ _ _ (c .before .before .before .before .before .source-of .ensures p) (toZ-ofZ (record { sfits = c .before .before .before .before .struct-told .given .1 .1 .1 .0 .1 })) _ _ (c .before .before .before .shifted .ensures)
     (c .before .k .given .1))
 
 pub forward-bound-spec : {M : Type 1} → statement M

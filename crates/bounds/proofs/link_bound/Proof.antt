@@ -1,8 +1,8 @@
 -- `bounds::link_bound` meets its contract. The link is the plan's, and its predecessor's dates and recorded work are read from the memory.
 use borrow.Author.Needs.{needs}
 use native.Mathlib.Omega.{arith}
-use Rattle.bounds.specs.ReadyLaws.{kept-within}
 use Rattle.bounds.specs.LinkLaws.{from-in, lead-fits, link-bound-is}
+use Rattle.bounds.specs.ReadyLaws.{kept-within}
 use Rattle.bounds.proofs.link_bound.Statement.{statement}
 use Rattle.bounds.proofs.link_bound.Tie as tie
 

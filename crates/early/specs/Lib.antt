@@ -1,0 +1,3 @@
+-- One activity's early dates.
+pub mod InHand
+pub mod EarlyLaws
