@@ -5,3 +5,5 @@ pub mod ColumnLaws
 pub mod StandingLaws
 pub mod ThroughLaws
 pub mod ReadLaws
+pub mod Bounds
+pub mod FineLaws

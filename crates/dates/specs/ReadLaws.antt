@@ -1,14 +1,11 @@
--- What is recorded of an activity by its three cells, the plan's start and floor by the days of the sheet, and a lag of no minutes.
+-- What is recorded of an activity by its three cells, and the plan's start and floor by the days of the sheet.
 use mathlib.Core.Path.{_≡_, refl, sym, ap, ap₂, _∙_}
-use mathlib.Core.Bool.{Bool, true, false}
+use mathlib.Core.Bool.{true, false}
 use mathlib.Core.List.{List}
 use Prim.Native.Nat.{ℕ, _+_, _*_, _≤_, _<_, max}
 use native.Mathlib.Omega.{arith}
 use borrow.Author.Tests.{eq-eqb, ne-eqb}
 use lib.Dec.{eqb}
-use lib.IntN.{ℤ, pos}
-use Rattle.worktime.specs.declared.Walk.the-variants.{At}
-use Rattle.worktime.specs.Walks.{advance, shift}
 use Rattle.worktime.specs.Reads.{on-true, on-false}
 use Rattle.date.specs.declared.Date.{Date}
 use Rattle.project.specs.declared.OptionalDate.{OptionalDate}
@@ -68,8 +65,3 @@ module _ (s : List ℕ) (c : Contents) where
 
   pub floor-absent : (o : ℕ) → optionalDateAt s 5 ≡ Absent → o ≡ origin (planOf s c) → floor (planOf s c) ≡ o
   floor-absent o e f = floor-is Absent e ∙ sym f
-
--- ---- a lag of no minutes
-pub shift-none : (w : ℕ → Bool) (t : ℕ) (lag : ℤ) → lag ≡ pos 0 → shift w t lag ≡ At t
-unfolding shift advance
-shift-none w t lag e = rw e

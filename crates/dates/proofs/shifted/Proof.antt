@@ -7,15 +7,15 @@ use mir.Syntax.{w64}
 use mir.Val.{toZ}
 use mir.Facts.{toZ-ofZ}
 use Rattle.worktime.specs.Walks.{shift}
+use Rattle.worktime.specs.Shift.{shift-zero}
 use Rattle.calendars.specs.CalendarLaws.{calendar-valid, calendar-worked}
-use Rattle.dates.specs.ReadLaws.{shift-none}
 use Rattle.dates.proofs.shifted.Statement.{statement}
 use Rattle.dates.proofs.shifted.Tie as tie
 
 returns : tie.Need-returns
 returns c =
     let s = c .before .before .before in
-    sym (shift-none _ _ _ (sym (toZ-ofZ (s .fits .lag)) ∙ ap (toZ w64) (c .if1 .taken)))
+    sym (ap (shift _ (s .args .t)) (sym (toZ-ofZ (s .fits .lag)) ∙ ap (toZ w64) (c .if1 .taken)) ∙ shift-zero _ _)
 
 week-of-requires : tie.Need-week-of-requires
 week-of-requires c κs = search needs
