@@ -1,6 +1,6 @@
 -- The activities above the first of a loop of parents, one step after another.
 use mathlib.Core.Path.{_≡_, sym, ap, _∙_}
-use Prim.Native.Nat.{ℕ, suc, _+_, _-_, _≤_, _<_}
+use Prim.Native.Nat.{ℕ, _+_, _-_, _≤_, _<_}
 use native.Mathlib.Omega.{arith}
 use native.Mathlib.Numerals.{add-one}
 use lib.ListN.{length, getD}
@@ -41,7 +41,7 @@ module _ (p : Plan) (K : ParentsKnown p) (first steps : ℕ) (L : LoopFrom p fir
   pub up-parent : (k : ℕ) → k < steps → parentOf p (upAt k) ≡ upAt (k + 1) + 1
   up-parent k h =
       let e : climb (parentOf p) (k + 1) first ≡ parentOf p (upAt k) =
-          ap (λ (m : ℕ). climb (parentOf p) m first) (add-one k) ∙ climb-next (parentOf p) k first (upAt k) (omega (arith, climb-some k (omega arith))) in
+      ap (λ (m : ℕ). climb (parentOf p) m first) (add-one k) ∙ climb-next (parentOf p) k first (upAt k) (omega (arith, climb-some k (omega arith))) in
       omega (arith, climb-some (k + 1) (omega arith))
 
   pub names-length : length parentNames ≡ steps + 1

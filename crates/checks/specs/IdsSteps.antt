@@ -1,7 +1,7 @@
 -- Rows 5 to 10: the first that refuses, or what stands where all are fine.
 use mathlib.Core.Path.{_≡_, refl, sym, ap, _∙_}
 use mathlib.Core.Bool.{Bool, true, false}
-use Prim.Native.Nat.{ℕ, _<_}
+use Prim.Native.Nat.{ℕ}
 use native.Mathlib.Omega.{arith}
 use Rattle.memory.specs.State.{State}
 use Rattle.memory.specs.Fields.{bucket, nextId, parent, isSummary}
@@ -13,13 +13,12 @@ use Rattle.order.specs.FineLaws.{activities-fine}
 use Rattle.ids.specs.declared.Check.{Check}
 use Rattle.ids.specs.declared.Check.the-variants.{Fine, Refused}
 use Rattle.ids.specs.Index.{Indexed}
-use Rattle.ids.specs.Parented.{Parented}
 use Rattle.ids.specs.Lent.{KeptBut}
 use Rattle.ids.specs.Answers.{Answered, IndexedBy, ParentedBy}
 use Rattle.ids.specs.AnswerLaws.{not-refused, answered-refused, fine-number, refused-number}
 use Rattle.ids.specs.SummaryLaws.{indexed-distinct, parented-known}
 use Rattle.calendars.specs.Calendars.{hoursVerdict}
-use Rattle.checks.specs.Stages.{idsVerdict, Prepared, IdsChecked}
+use Rattle.checks.specs.Stages.{IdsChecked}
 
 -- ---- answers of the first of two, and of the second
 module _ {v : Verdict} (w : Verdict) {r : Check} (A : Answered r v) where

@@ -5,9 +5,8 @@ use Prim.Native.Nat.{ℕ, zero, suc, _+_, _-_, _≤_, _<_}
 use native.Mathlib.Nat.{not-suc-le-zero, le-of-suc-le-suc}
 use native.Mathlib.Omega.{arith}
 use native.Mathlib.Numerals.{add-one}
-use lib.ListN.{length, getD, set, take, drop, replicate, length-append, length-set, length-replicate}
+use lib.ListN.{length, getD, set, take, replicate, length-append, length-set, length-replicate}
 use lib.Seq.{take-all, length-take-le}
-use Rattle.checks.specs.Names.{thenZeros}
 
 -- the first n of xs, and zeros up to `size`
 abbrev pub written : List ℕ → ℕ → ℕ → List ℕ

@@ -2,28 +2,27 @@
 use mathlib.Core.Path.{_≡_, refl, sym, ap, _∙_}
 use mathlib.Core.Logic.{_≢_}
 use mathlib.Core.List.{List}
-use Prim.Native.Nat.{ℕ, _+_, _-_, _≤_, _<_}
+use Prim.Native.Nat.{ℕ, _-_, _<_}
 use native.Mathlib.Omega.{arith}
 use lib.ListN.{length, getD}
 use lib.Seq.{ext-getD}
 use Rattle.memory.specs.State.{State}
-use Rattle.memory.specs.Fields.{parent, isSummary, orderAt, fromField, toField, kindField, lagField, lagCalendarField}
+use Rattle.memory.specs.Fields.{parent, isSummary, fromField, toField, kindField, lagField, lagCalendarField}
 use Rattle.project.specs.Records.{relationshipTypeOf}
 use Rattle.network.specs.Links.{Link, noLink}
 use Rattle.network.specs.Kahn.{kahn, namedLoop}
-use Rattle.topology.specs.Links.{linksOf, linkAt, Ends}
+use Rattle.topology.specs.Links.{linksOf, Ends}
 use Rattle.topology.specs.LinksLaws.{links-length, links-at, links-same}
 use Rattle.topology.specs.Order.{Topological}
 use Rattle.topology.specs.Loop.{Stuck, NamedLoop}
 use Rattle.topology.specs.LoopLaws.{topological-stuck}
 use Rattle.order.specs.Plan.{Plan}
 use Rattle.order.specs.Ids.{idOf}
-use Rattle.order.specs.Ties.{Tie, keptBelow, keptLinks, endsBelow, tieOf}
+use Rattle.order.specs.Ties.{Tie, keptBelow, keptLinks, tieOf}
 use Rattle.order.specs.TieLaws.{endsOf, ends-length, ends-at, kept-picked, from-below, to-below}
 use Rattle.order.specs.Checks.{fine, named, refuseLoop, order, judgeOrder}
 use Rattle.order.specs.CheckLaws.{order-whole, order-loop}
 use Rattle.order.specs.FineLaws.{LinksFine}
-use Rattle.passes.specs.Plan.{tie}
 use Rattle.dates.specs.Standing.{tieIn, Standing}
 use Rattle.checks.specs.StoredLinks.{StoredLinks}
 use Rattle.checks.specs.Column.{LoopIn}

@@ -42,7 +42,14 @@ fn name_one(sheet: &[u8], contents: Contents, names: &mut [u32], k: usize, i: us
 }
 
 // Row 12's names: the ids from activity `first` so many steps upward, which lead back to it, then zeros.
-fn name_parents(sheet: &[u8], contents: Contents, names: &mut [u32], work: &[i64], first: usize, steps: usize)
+fn name_parents(
+    sheet: &[u8],
+    contents: Contents,
+    names: &mut [u32],
+    work: &[i64],
+    first: usize,
+    steps: usize,
+)
     requires { ⌜ Lent (now sheet) contents (now work) × ParentsKnown (planOf (now sheet) contents) × Parented (planOf (now sheet) contents) (stateIn contents (now work)) (contents .activities) × LoopFrom (planOf (now sheet) contents) first steps × (contents .activities < length (now names)) ⌝ }
     ensures { λ _. ⌜ now (names .exit) ≡ thenZeros (named (idOf (planOf (now (sheet .entry)) contents)) (upward (parentOf (planOf (now (sheet .entry)) contents)) steps first)) (now (names .entry)) ⌝ }
 {
@@ -122,7 +129,14 @@ fn refuse_loop(names: &[u32], work: &mut [i64], number: u64) -> Checked
 }
 
 // Row 15: the order by the `t` kept links, which are stored; then the plan is ready, or the loop is named. The names hold the `n` ignored links.
-fn check_order(sheet: &[u8], contents: Contents, names: &mut [u32], work: &mut [i64], t: usize, n: usize) -> Checked
+fn check_order(
+    sheet: &[u8],
+    contents: Contents,
+    names: &mut [u32],
+    work: &mut [i64],
+    t: usize,
+    n: usize,
+) -> Checked
     requires { ⌜ Lent (now sheet) contents (now work) × StoredLinks (planOf (now sheet) contents) t (stateIn contents (now work)) × LinksFine (planOf (now sheet) contents) × (n ≡ length (ignoredLinks (planOf (now sheet) contents))) × (now names ≡ thenZeros (ignoredLinks (planOf (now sheet) contents)) (now names)) × (contents .activities < length (now names)) ⌝ }
     ensures { λ r. ⌜ Judged (planOf (now (sheet .entry)) contents) (judgeOrder (planOf (now (sheet .entry)) contents)) (length (now (names .entry))) (length (now (work .entry))) (now (names .exit)) (now (work .exit)) r ⌝ }
 {
@@ -165,7 +179,13 @@ fn check_ids(sheet: &[u8], contents: Contents, places: &[u64], work: &mut [i64])
 }
 
 // Rows 13, 14 and 8 of the links, then 15.
-fn check_links(sheet: &[u8], contents: Contents, lengths: &[u64], names: &mut [u32], work: &mut [i64]) -> Checked
+fn check_links(
+    sheet: &[u8],
+    contents: Contents,
+    lengths: &[u64],
+    names: &mut [u32],
+    work: &mut [i64],
+) -> Checked
     requires { ⌜ Lent (now sheet) contents (now work) × Prepared (planOf (now sheet) contents) (stateIn contents (now work)) × Lengths (planOf (now sheet) contents) (now lengths) × (contents .activities < length (now names)) × (contents .links ≤ length (now names)) ⌝ }
     ensures { λ r. ⌜ Judged (planOf (now (sheet .entry)) contents) (linksVerdict (planOf (now (sheet .entry)) contents)) (length (now (names .entry))) (length (now (work .entry))) (now (names .exit)) (now (work .exit)) r ⌝ }
 {
@@ -182,7 +202,13 @@ fn check_links(sheet: &[u8], contents: Contents, lengths: &[u64], names: &mut [u
 }
 
 // Rows 11 and 12, then those of the links.
-fn check_summaries(sheet: &[u8], contents: Contents, lengths: &[u64], names: &mut [u32], work: &mut [i64]) -> Checked
+fn check_summaries(
+    sheet: &[u8],
+    contents: Contents,
+    lengths: &[u64],
+    names: &mut [u32],
+    work: &mut [i64],
+) -> Checked
     requires { ⌜ Lent (now sheet) contents (now work) × Prepared (planOf (now sheet) contents) (stateIn contents (now work)) × Lengths (planOf (now sheet) contents) (now lengths) × (contents .activities < length (now names)) × (contents .links ≤ length (now names)) ⌝ }
     ensures { λ r. ⌜ Judged (planOf (now (sheet .entry)) contents) (summariesVerdict (planOf (now (sheet .entry)) contents)) (length (now (names .entry))) (length (now (work .entry))) (now (names .exit)) (now (work .exit)) r ⌝ }
 {
@@ -203,7 +229,14 @@ fn check_summaries(sheet: &[u8], contents: Contents, lengths: &[u64], names: &mu
 
 // Rows 5 to 15: where none refuses, the memory is ready for the passes and the names hold the ignored links' positions; else the names hold
 // the loop's ids, if there is one, and the memory is cleared.
-pub fn check_plan(sheet: &[u8], contents: Contents, places: &[u64], lengths: &[u64], names: &mut [u32], work: &mut [i64]) -> Checked
+pub fn check_plan(
+    sheet: &[u8],
+    contents: Contents,
+    places: &[u64],
+    lengths: &[u64],
+    names: &mut [u32],
+    work: &mut [i64],
+) -> Checked
     requires { ⌜ SheetRead (now sheet) contents × Room (contents .activities) (contents .links) (now work) × Places (now sheet) contents (now places) × Lengths (planOf (now sheet) contents) (now lengths) × (max (contents .activities + 1) (contents .links) ≤ length (now names)) ⌝ }
     ensures { λ r. ⌜ PlanChecked (now (sheet .entry)) contents (now (places .entry)) (now (names .entry)) (now (work .entry)) (now (names .exit)) (now (work .exit)) r ⌝ }
 {

@@ -36,7 +36,8 @@ use Rattle.timetable.specs.Demand.{run-obeys, run-first}
 use Rattle.timetable.specs.SheetPlan.{sheet-momentary, sheet-activities}
 use Rattle.sched.specs.declared.Answer.{Answer}
 use Rattle.sched.specs.declared.Answer.the-variants.{Accepted}
-use Rattle.sched.specs.Outcome.{Lent, Ended, thenZeros, refusedWith, untouched, accepted, shownWith, ranWith, planned, roomFor, readWith, outcome}
+use Rattle.checks.specs.Names.{thenZeros}
+use Rattle.sched.specs.Outcome.{Lent, Ended, refusedWith, untouched, accepted, shownWith, ranWith, planned, roomFor, readWith, outcome}
 use Rattle.sched.specs.RunRefusals.{PassEight, run-eight, results-eight}
 use Rattle.sched.specs.RowLaws.{start-shown}
 

@@ -1,7 +1,7 @@
 -- The outcome of the scheduling call: its answer, and every lent slice afterwards.
 use mathlib.Core.Bool.{Bool, true, false, _&&_}
 use mathlib.Core.List.{List, [], _∷_, _++_}
-use Prim.Native.Nat.{ℕ, _+_, _-_, _*_, max}
+use Prim.Native.Nat.{ℕ, _+_, _*_, max}
 use lib.Dec.{eqb, leb}
 use lib.IntN.{ℤ, pos}
 use lib.ListN.{length, drop, replicate}
@@ -12,6 +12,7 @@ use Rattle.sheet.specs.Reading.{readSheet}
 use Rattle.order.specs.Plan.{Plan, planOf}
 use Rattle.order.specs.Ties.{ignoredLinks, openEnds}
 use Rattle.order.specs.Checks.{Verdict, checked}
+use Rattle.checks.specs.Names.{thenZeros}
 use Rattle.passes.specs.Dates.{Pass, leaves, refused}
 use Rattle.passes.specs.Run.{Ran, run}
 use Rattle.results.specs.declared.Shown.{Shown}
@@ -31,10 +32,6 @@ pub record Ended : Type 0 where
   pub lent : Lent
 
 -- ---- what a call leaves
--- a row of numbers at the front, and zeros to the end
-abbrev pub thenZeros : List ℕ → List ℕ → List ℕ
-thenZeros xs names = xs ++ replicate (length names - length xs) 0
-
 -- "The others keep results and zero work memory and names, but 12 and 15 first put the loop's ids in names"
 unfoldable pub refusedWith : Lent → ℕ → ℕ → List ℕ → Ended
 refusedWith m number id loop = record {

@@ -1,6 +1,6 @@
 -- `checks::check_ids` meets its contract.
 use borrow.Author.Needs.{needs}
-use mathlib.Core.Path.{_≡_, refl, _∙_}
+use mathlib.Core.Path.{refl, _∙_}
 use native.Mathlib.Omega.{arith}
 use Rattle.order.specs.Plan.{planOf}
 use Rattle.ids.specs.Lent.{stateIn}

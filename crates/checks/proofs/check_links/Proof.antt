@@ -78,8 +78,7 @@ check-order-requires c κs =
     let p = planOf (x .sheet .now) (x .contents) in
     let a = c .before .before .before .before .before .before .before .before .link-all .ensures in
     let l = judged (c .before .before) in
-    let n = a .3 ∙ cleared (c .before .before .before .before .before .before .before .before .before .before .before) in
-    (
+    let n = a .3 ∙ cleared (c .before .before .before .before .before .before .before .before .before .before .before) in (
       record { read = s .pre .0 .read; room = omega (arith, a .2, s .pre .0 .room) },
       links-stored p (l .1) (s .pre .1) (a .1),
       links-fine p .0 (ap (λ (v : Verdict). v .number) (l .0)),

@@ -1,6 +1,7 @@
 -- `checks::check_order` meets its contract.
 use borrow.Author.Needs.{needs}
 use mathlib.Core.Path.{_≡_, sym, ap, subst, _∙_}
+use mathlib.Core.Logic.{_≢_}
 use Prim.Native.Nat.{ℕ, _<_}
 use native.Mathlib.Omega.{arith}
 use lib.IntN.{pos}
@@ -12,7 +13,6 @@ use Rattle.order.specs.Ties.{keptLinks}
 use Rattle.order.specs.Checks.{Verdict, named, judgeOrder}
 use Rattle.order.specs.LoopLaws.{named-length}
 use Rattle.checks.specs.Stages.{Judged}
-use Rattle.checks.specs.ColumnLaws.{loop-length}
 use Rattle.checks.specs.OrderSteps.{ends-are, whole-fine, whole-stands, short-refused, short-stuck, short-loop}
 use Rattle.checks.specs.StageLaws.{loop-refused}
 use Rattle.checks.proofs.check_order.Statement.{statement}
@@ -25,13 +25,20 @@ order-activities-requires c κs =
     let p = planOf (s .args .sheet .now) (s .args .contents) in
     (s .pre .0 .room, s .pre .1 .within, ends-are p (s .pre .1) (s .pre .2))
 
+-- all activities come out, or some still wait
+whole : (c : tie.Then1) → c .before .before .order-activities .result ≡ c .before .before .before .before .before .before .args .contents .activities
+whole c = omega arith
+
+waits : (c : tie.Else1) → c .before .before .order-activities .result ≢ c .before .before .before .before .before .before .args .contents .activities
+waits c e = omega arith
+
 open-ends-requires : tie.Need-open-ends-requires
 unfolding planOf
 open-ends-requires c κs =
     let s = c .before .before .before .before .before .before .before in
     let p = planOf (s .args .sheet .now) (s .args .contents) in
     let o = c .before .before .before .order-activities .ensures in
-    (record { read = s .pre .0 .read; room = omega (arith, o .1, s .pre .0 .room) }, whole-stands p (s .pre .1) (o .0) (c .before .if1 .taken))
+    (record { read = s .pre .0 .read; room = omega (arith, o .1, s .pre .0 .room) }, whole-stands p (s .pre .1) (o .0) (whole (c .before)))
 
 same-length : tie.Need-same-length
 same-length c = search needs
@@ -42,7 +49,7 @@ returns c =
     let s = c .before .before .before .before .before .before .before .before in
     let p = planOf (s .args .sheet .now) (s .args .contents) in
     let o = c .before .before .before .before .order-activities .ensures in
-    let e = c .before .before .if1 .taken in record {
+    let e = whole (c .before .before) in record {
       fine = ap (λ (v : Verdict). v .number) (whole-fine p (s .pre .1) (o .0) e);
       standing = whole-stands p (s .pre .1) (o .0) e;
       named = s .pre .4;
@@ -57,7 +64,7 @@ name-loop-requires c κs =
     let s = c .before .before .before .before .before .before .before in
     let p = planOf (s .args .sheet .now) (s .args .contents) in
     let o = c .before .before .before .order-activities .ensures in
-    (omega (arith, o .1, s .pre .0 .room), s .pre .1 .within, short-stuck p (s .pre .1) (o .0) (c .before .if1 .left) (s .pre .2))
+    (omega (arith, o .1, s .pre .0 .room), s .pre .1 .within, short-stuck p (s .pre .1) (o .0) (waits (c .before)) (s .pre .2))
 
 name-links-requires : tie.Need-name-links-requires
 unfolding planOf
@@ -65,10 +72,9 @@ name-links-requires c κs =
     let s = c .before .before .before .before .before .before .before .before .before .before .before in
     let p = planOf (s .args .sheet .now) (s .args .contents) in
     let o = c .before .before .before .before .before .before .before .order-activities .ensures in
-    let n = c .before .before .before .name-loop .ensures in
-    (
+    let n = c .before .before .before .name-loop .ensures in (
       record { read = s .pre .0 .read; room = omega (arith, n .1, o .1, s .pre .0 .room) },
-      short-loop p (s .pre .1) (o .0) (c .before .before .before .before .before .if1 .left) (n .0),
+      short-loop p (s .pre .1) (o .0) (waits (c .before .before .before .before .before)) (n .0),
       n .0 .within,
       s .pre .5,
     )
@@ -89,7 +95,7 @@ returns-2 c =
     let x = s .args in
     let p = planOf (x .sheet .now) (x .contents) in
     let o = c .before .before .before .before .before .before .before .before .before .before .before .before .before .before .order-activities .ensures in
-    let left = c .before .before .before .before .before .before .before .before .before .before .before .before .if1 .left in
+    let left = waits (c .before .before .before .before .before .before .before .before .before .before .before .before) in
     let n = c .before .before .before .before .before .before .before .before .before .before .name-loop .ensures in
     let r = c .before .refuse-loop .ensures in
     let xs = named (idOf p) (namedLoop (keptLinks p) (x .contents .activities)) in

@@ -1,6 +1,6 @@
 -- `checks::check_plan` meets its contract.
 use borrow.Author.Needs.{needs}
-use mathlib.Core.Path.{_≡_, refl, sym, ap, subst, _∙_}
+use mathlib.Core.Path.{refl, sym, ap, subst, _∙_}
 use Prim.Native.Nat.{ℕ}
 use native.Mathlib.Omega.{arith}
 use lib.IntN.{pos}
@@ -53,8 +53,7 @@ enum-told c = search needs
 check-summaries-requires : tie.Need-check-summaries-requires
 check-summaries-requires c κs =
     let s = c .before .before .before .before .before .before .before .before .before .before .before in
-    let a = c .before .before .before .before .before .check-ids .ensures in
-    (
+    let a = c .before .before .before .before .before .check-ids .ensures in (
       record { read = s .pre .0; room = omega (arith, a .1, s .pre .1) },
       a .0 .holds (c .before .before .enum-told .given .1),
       s .pre .3,

@@ -1,16 +1,15 @@
 -- `checks::name_links` meets its contract: the first k names are written.
 use borrow.Author.Needs.{needs}
-use mathlib.Core.Path.{_≡_, refl, sym, ap, _∙_}
-use mathlib.Core.List.{List, _++_}
+use mathlib.Core.Path.{_≡_, ap, _∙_}
+use mathlib.Core.List.{_++_}
 use Prim.Native.Nat.{ℕ, _+_, _-_, _≤_, _<_}
 use native.Mathlib.Omega.{arith}
-use lib.ListN.{length, replicate, length-set, length-replicate}
+use lib.ListN.{length, replicate}
 use Rattle.network.specs.Kahn.{namedLoop}
 use Rattle.order.specs.Plan.{planOf}
 use Rattle.order.specs.Ids.{idOf}
 use Rattle.order.specs.Ties.{keptLinks}
 use Rattle.order.specs.Checks.{named}
-use Rattle.ids.specs.Lent.{stateIn}
 use Rattle.checks.specs.NameLaws.{Naming, naming-start, naming-more, naming-here, naming-end}
 use Rattle.checks.specs.ColumnLaws.{loop-length, loop-at, loop-again-at}
 use Rattle.checks.proofs.name_links.Statement.{statement}
@@ -41,8 +40,7 @@ loop-holds c =
     let s = c .before .before .before .before .before .before in
     let x = s .args in
     let p = planOf (x .sheet .now) (x .contents) in
-    let N = begun c in
-    (
+    let N = begun c in (
       omega (arith, N .kept, s .pre .2, s .pre .3),
       omega arith,
       naming-here (named (idOf p) (namedLoop (keptLinks p) (x .contents .activities))) (length (x .names .now)) _ 0 N,
@@ -69,8 +67,7 @@ loop-again c =
     let x = s .args in
     let p = planOf (x .sheet .now) (x .contents) in
     let xs = named (idOf p) (namedLoop (keptLinks p) (x .contents .activities)) in
-    let L = c .before .before .before .before .before .before .loop in
-    (
+    let L = c .before .before .before .before .before .before .loop in (
       L .inv .0,
       omega arith,
       naming-more xs _ _ (L .k) (L .inv .2) _ _ (omega (arith, loop-length (idOf p) (s .pre .1))) (omega (arith, L .inv .0))

@@ -1,10 +1,10 @@
 -- `checks::name_parents` meets its contract: after k steps k + 1 names are written, and i is the activity k steps up.
 use borrow.Author.Needs.{needs}
-use mathlib.Core.Path.{_≡_, refl, sym, ap, _∙_}
-use mathlib.Core.List.{List, _++_}
+use mathlib.Core.Path.{_≡_, ap, _∙_}
+use mathlib.Core.List.{_++_}
 use Prim.Native.Nat.{ℕ, _+_, _-_, _≤_, _<_}
 use native.Mathlib.Omega.{arith}
-use lib.ListN.{length, replicate, length-set, length-replicate}
+use lib.ListN.{length, replicate, length-replicate}
 use Rattle.network.specs.Parents.{climb, upward}
 use Rattle.order.specs.Plan.{planOf}
 use Rattle.order.specs.Ids.{idOf, parentOf}
@@ -51,8 +51,7 @@ loop-holds c =
     let s = c .before .before .before .before .before .before .before .before .before .before in
     let x = s .args in
     let p = planOf (x .sheet .now) (x .contents) in
-    let N = begun c in
-    (
+    let N = begun c in (
       omega (arith, N .kept, s .pre .3 .within, s .pre .4),
       omega arith,
       up-first p (s .pre .1) (x .first) (x .steps) (s .pre .3),
@@ -107,8 +106,7 @@ loop-again c =
     let xs = named (idOf p) (upward (parentOf p) (x .steps) (x .first)) in
     let L = c .before .before .before .before .before .before .loop in
     let i = c .before .before .before .before .get-act .result - 1 in
-    let e : i ≡ climb (parentOf p) (L .k + 1) (x .first) - 1 = omega (arith, next (c .before .before .before .before)) in
-    (
+    let e : i ≡ climb (parentOf p) (L .k + 1) (x .first) - 1 = omega (arith, next (c .before .before .before .before)) in (
       L .inv .0,
       omega arith,
       e,

@@ -5,7 +5,7 @@ use Prim.Native.Nat.{_-_, _≤_}
 use native.Mathlib.Omega.{arith}
 use Rattle.order.specs.Plan.{planOf}
 use Rattle.order.specs.Ties.{openBelow}
-use Rattle.order.specs.OpenLaws.{open-none, open-one, open-same, open-le}
+use Rattle.order.specs.OpenLaws.{open-none, open-one, open-same}
 use Rattle.checks.proofs.open_ends.Statement.{statement}
 use Rattle.checks.proofs.open_ends.Tie as tie
 
@@ -35,8 +35,7 @@ loop-again c =
     let x = c .before .before .before .before .before .before .args in
     let p = planOf (x .sheet .now) (x .contents) in
     let L = c .before .before .before .before .loop in
-    let e = c .before .is-open .ensures in
-    (
+    let e = c .before .is-open .ensures in (
       omega arith,
       ⊎-elim (λ w. omega (arith, L .inv .1, open-one p (L .i) (sym e ∙ w .0 .taken), w .1)) (λ w. omega (arith, L .inv .1, open-same p (L .i) (sym e ∙ w .0 .left), w .1)) (c .if2 .came),
       ⊎-elim (λ w. omega (arith, w .1)) (λ w. omega (arith, w .1)) (c .if2 .came),
