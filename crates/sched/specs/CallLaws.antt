@@ -22,9 +22,10 @@ use Rattle.passes.specs.Run.{Ran, run}
 use Rattle.results.specs.declared.Shown.{Shown}
 use Rattle.results.specs.Results.{results, finishDay}
 use Rattle.results.specs.Rows.{signedDayOf, rowsBelow}
+use Rattle.checks.specs.Names.{thenZeros}
 use Rattle.sched.specs.declared.Answer.{Answer}
 use Rattle.sched.specs.declared.Answer.the-variants.{Accepted}
-use Rattle.sched.specs.Outcome.{Lent, Ended, thenZeros, refusedWith, untouched, accepted, shownWith, ranWith, planned, roomFor, readWith, outcome}
+use Rattle.sched.specs.Outcome.{Lent, Ended, refusedWith, untouched, accepted, shownWith, ranWith, planned, roomFor, readWith, outcome}
 
 -- an answer with what is lent afterwards
 abbrev pub endedWith : Answer → List ℤ → List ℕ → List ℤ → Ended
