@@ -1,7 +1,43 @@
 // The scheduling run: the passes one after the other, on the lent memory.
+use dates::Step;
+use sheet::Contents;
+use worktime::Walk;
+ghost use mathlib.Core.Path.{_≡_};
+ghost use Prim.Native.Nat.{ℕ, _^_, _<_};
+ghost use lib.ListN.{length};
+ghost use Rattle.memory.specs.State.{stateOf};
+ghost use Rattle.topology.specs.Frame.{Frame};
+ghost use Rattle.order.specs.Plan.{planOf};
+ghost use Rattle.passes.specs.Backward.{finish};
+ghost use Rattle.dates.specs.declared.Step.the-variants.{Done};
+ghost use Rattle.dates.specs.Columns.{earlyIn, lateIn, ended};
+ghost use Rattle.dates.specs.Standing.{Ready, Recorded};
+ghost use Rattle.run.specs.Stages.{earlyDates, floatDates, floatedIn, LateIn, RunIn};
 
 // The late dates by the end of the project, or the refusal of a walk.
 pub enum Late {
     Refused(u64),
     By(u64),
+}
+
+// The free floats with held late moves, and then the longest path.
+fn float_dates(
+    sheet: &[u8],
+    contents: Contents,
+    places: &[u64],
+    t: usize,
+    work: &mut [i64],
+    finish: u64,
+) -> Step
+    requires { ⌜ Ready (now sheet) contents (now places) t (now work) × Recorded (planOf (now sheet) contents) (stateOf (contents .activities) (contents .links) (now work)) ⌝ }
+    ensures { λ r. ⌜ ((e : ℕ) → ended (floatedIn (planOf (now (sheet .entry)) contents) finish (stateOf (contents .activities) (contents .links) (now (work .exit)))) r ≡ floatDates (planOf (now (sheet .entry)) contents) finish (earlyIn (planOf (now (sheet .entry)) contents) (stateOf (contents .activities) (contents .links) (now (work .entry)))) (lateIn (planOf (now (sheet .entry)) contents) (stateOf (contents .activities) (contents .links) (now (work .entry))) e)) × Frame 12 17 0 0 (stateOf (contents .activities) (contents .links) (now (work .entry))) (stateOf (contents .activities) (contents .links) (now (work .exit))) × (length (now (work .exit)) ≡ length (now (work .entry))) ⌝ }
+{
+    match floats::free_pass(sheet, contents, places, t, work, finish) {
+        Step::Refused(k) => {
+            return Step::Refused(k);
+        }
+        Step::Done => {
+            return longest::path_pass(sheet, contents, places, t, work, finish);
+        }
+    }
 }
