@@ -2,7 +2,7 @@
 use mathlib.Core.Path.{_≡_, refl, sym, ap, _∙_}
 use mathlib.Core.Bool.{Bool, true, false}
 use mathlib.Core.Logic.{⊎-elim}
-use Prim.Native.Nat.{ℕ, zero, suc, _+_, _-_, _^_, _≤_, _<_, max}
+use Prim.Native.Nat.{ℕ, suc, _+_, _-_, _^_, _≤_, _<_, max}
 use native.Mathlib.Omega.{arith}
 use lib.Dec.{eqb, leb}
 use lib.IntN.{ℤ, pos, negsuc}

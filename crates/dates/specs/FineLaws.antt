@@ -1,6 +1,5 @@
 -- What the passes may count on in a plan that the checks accept: its activities' minutes and its kept links' ends, lags and calendars.
 use mathlib.Core.Path.{_≡_}
-use mathlib.Core.Bool.{false}
 use Prim.Native.Nat.{ℕ, _+_, _≤_, _<_}
 use lib.ListN.{length, getD}
 use Rattle.number.specs.Zed.{up, dn}

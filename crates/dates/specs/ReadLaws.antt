@@ -1,6 +1,5 @@
 -- What is recorded of an activity by its three cells, and the plan's start and floor by the days of the sheet.
 use mathlib.Core.Path.{_≡_, refl, sym, ap, ap₂, _∙_}
-use mathlib.Core.Bool.{true, false}
 use mathlib.Core.List.{List}
 use Prim.Native.Nat.{ℕ, _+_, _*_, _≤_, _<_, max}
 use native.Mathlib.Omega.{arith}
@@ -11,7 +10,6 @@ use Rattle.date.specs.declared.Date.{Date}
 use Rattle.project.specs.declared.OptionalDate.{OptionalDate}
 use Rattle.project.specs.declared.OptionalDate.the-variants.{On, Absent}
 use Rattle.project.specs.Records.{dateAt, optionalDateAt, activityAt, projectAt}
-use Rattle.placing.specs.declared.Actual.{Actual}
 use Rattle.placing.specs.declared.Actual.the-variants.{Unstarted, Begun, Completed}
 use Rattle.placing.specs.Placing.{midnightOf}
 use Rattle.sheet.specs.declared.Contents.{Contents}

@@ -6,7 +6,7 @@ use project::RelationshipType;
 use sheet::Contents;
 use worktime::Walk;
 ghost use mathlib.Core.Path.{_≡_};
-ghost use Prim.Native.Nat.{_+_, _^_, _≤_, _<_};
+ghost use Prim.Native.Nat.{_+_, _^_, _<_};
 ghost use Rattle.number.specs.Zed.{dn};
 ghost use Rattle.calendar.specs.Hours.{worked};
 ghost use Rattle.worktime.specs.Walks.{shift};

@@ -35,7 +35,7 @@ ghost use Rattle.dates.specs.Standing.{actualIn, Ready, Recorded};
 ghost use Rattle.floats.specs.Slack.{freedIn, Own, markedLate, startMoved, datesMoved, stored, gapBy, leastSlack, slackOf, From, freeOf};
 
 // Where a held late move puts an activity: its new start and finish.
-pub enum Moved {
+enum Moved {
     To(u64, u64),
     Refused(u64),
 }

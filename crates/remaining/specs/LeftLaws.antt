@@ -1,12 +1,11 @@
 -- One law for each way to what is recorded of an activity and to its work left, and how much that can be.
 use mathlib.Core.Path.{_≡_, refl, sym, ap, _∙_}
 use mathlib.Core.Bool.{Bool, true, false}
-use Prim.Native.Nat.{ℕ, _-_, _^_, _≤_, _<_, max, min}
+use Prim.Native.Nat.{ℕ, _-_, _^_, _<_, max}
 use native.Mathlib.Omega.{arith}
 use lib.IntN.{ℤ}
 use Rattle.number.specs.Zed.{up}
 use Rattle.number.specs.Bit.{bit}
-use Rattle.worktime.specs.declared.Walk.{Walk}
 use Rattle.worktime.specs.declared.Walk.the-variants.{At, Refused}
 use Rattle.worktime.specs.declared.Work.{Work}
 use Rattle.worktime.specs.declared.Work.the-variants.{Minutes}

@@ -26,7 +26,7 @@ use Rattle.passes.specs.Forward.{leftOf, leftBelow}
 use Rattle.passes.specs.Run.{remaining}
 use Rattle.dates.specs.declared.Step.{Step}
 use Rattle.dates.specs.declared.Step.the-variants.{Done}
-use Rattle.dates.specs.Columns.{column, leftIn, ended}
+use Rattle.dates.specs.Columns.{leftIn, ended}
 use Rattle.dates.specs.ColumnLaws.{column-none, column-same, column-more}
 use Rattle.dates.specs.Standing.{actualOf, actualIn, Ready, Recorded}
 use Rattle.dates.specs.StandingLaws.{standing-kept}

@@ -12,7 +12,7 @@ use Rattle.memory.specs.Fields.{workLeft, recordedAs, recordedStart, recordedFi
 use Rattle.topology.specs.Frame.{Frame}
 use Rattle.order.specs.Plan.{Plan}
 use Rattle.passes.specs.Plan.{recorded}
-use Rattle.passes.specs.Dates.{Pass, leaves, refused, put}
+use Rattle.passes.specs.Dates.{leaves, refused, put}
 use Rattle.passes.specs.Forward.{leftOf, leftBelow}
 use Rattle.dates.specs.declared.Step.{Step}
 use Rattle.dates.specs.declared.Step.the-variants.{Done}

@@ -11,7 +11,7 @@ use worktime::Walk;
 use worktime::Work;
 ghost use mathlib.Core.Path.{_≡_};
 ghost use mathlib.Core.Bool.{false};
-ghost use Prim.Native.Nat.{ℕ, _-_, _^_, _≤_, _<_, max, min};
+ghost use Prim.Native.Nat.{_-_, _^_, _<_, max, min};
 ghost use lib.ListN.{length};
 ghost use Rattle.number.specs.Zed.{up};
 ghost use Rattle.sheet.specs.Known.{SheetRead};
@@ -20,7 +20,7 @@ ghost use Rattle.topology.specs.Frame.{Frame};
 ghost use Rattle.order.specs.Plan.{planOf};
 ghost use Rattle.order.specs.Ids.{summary};
 ghost use Rattle.order.specs.Ties.{calendarOf};
-ghost use Rattle.passes.specs.Plan.{recorded, full};
+ghost use Rattle.passes.specs.Plan.{full};
 ghost use Rattle.passes.specs.Forward.{sinceStart, stillLeft, leftBy};
 ghost use Rattle.passes.specs.Run.{remaining};
 ghost use Rattle.calendars.specs.Calendars.{IsCalendar, Places};
@@ -89,21 +89,17 @@ fn since_start(
         OptionalDate::Absent => {
             return Walk::At(whole);
         }
-        OptionalDate::On(day) => match clock::between(
-            week,
-            sheet,
-            at,
-            n,
-            start,
-            later(day.midnight(), start),
-        ) {
-            Work::Minutes(done) => {
-                return Walk::At(less(whole, number::sign::upward(done)));
+        OptionalDate::On(day) => {
+            let by = later(day.midnight(), start);
+            match clock::between(week, sheet, at, n, start, by) {
+                Work::Minutes(done) => {
+                    return Walk::At(less(whole, number::sign::upward(done)));
+                }
+                Work::Refused(k) => {
+                    return Walk::Refused(k);
+                }
             }
-            Work::Refused(k) => {
-                return Walk::Refused(k);
-            }
-        },
+        }
     }
 }
 

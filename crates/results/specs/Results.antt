@@ -43,15 +43,32 @@ statusNumber (Actual.Refused k) = 0
 abbrev pub shownDay : {A : Type 0} → ℕ → (ℕ → Pass A) → Pass A
 shownDay t go = reads refused (t / 1440) (go (t / 1440))
 
+-- past the activities
+abbrev pub nothing : Shown
+nothing = record { es = 0; ef = 0; ls = 0; lf = 0; total = pos 0; free = 0; critical = false; path = false; finish = 0; late = 0 }
+
+-- "A completed activity has no float"
+abbrev pub totalBy : Actual → ℤ → ℤ
+totalBy Unstarted z = z
+totalBy (Begun s) z = z
+totalBy (Completed s f) z = pos 0
+totalBy (Actual.Refused k) z = z
+
+-- ---- the least and the greatest of a row of activities, and whether one has a mark
+abbrev pub leastOf : (ℕ → ℕ) → ℕ → List ℕ → ℕ
+leastOf f least [] = least
+leastOf f least (c ∷ cs) = leastOf f (min least (f c)) cs
+
+abbrev pub greatestOf : (ℕ → ℕ) → ℕ → List ℕ → ℕ
+greatestOf f most [] = most
+greatestOf f most (c ∷ cs) = greatestOf f (max most (f c)) cs
+
+abbrev pub someOf : (ℕ → Bool) → List ℕ → Bool
+someOf f [] = false
+someOf f (c ∷ cs) = f c || someOf f cs
+
 module _ (p : Plan) (r : Ran) where
   -- ---- activities by themselves
-  -- "A completed activity has no float"
-  abbrev pub totalBy : Actual → ℤ → ℤ
-  totalBy Unstarted z = z
-  totalBy (Begun s) z = z
-  totalBy (Completed s f) z = pos 0
-  totalBy (Actual.Refused k) z = z
-
   unfoldable pub totalOf : ℕ → ℤ → ℤ → ℤ
   totalOf i finishFloat startFloat = totalBy (recorded p i) (floatBy p (p .project .«float_kind») finishFloat startFloat)
 
@@ -77,9 +94,6 @@ module _ (p : Plan) (r : Ran) where
         late = r .late .lf i;
       })))))))
 
-  abbrev pub nothing : Shown
-  nothing = record { es = 0; ef = 0; ls = 0; lf = 0; total = pos 0; free = 0; critical = false; path = false; finish = 0; late = 0 }
-
   unfoldable pub shownBelow : ℕ → Pass (ℕ → Shown)
   shownBelow zero = leaves (λ i. nothing)
   shownBelow (suc n) = after (shownBelow n) (λ f. after (shown n) (λ x. leaves (put f n x)))
@@ -100,18 +114,6 @@ module _ (p : Plan) (r : Ran) where
   unfoldable pub childrenBelow : ℕ → ℕ → List ℕ
   childrenBelow s zero = []
   childrenBelow s (suc n) = elim (eqb (parentOf p n) (suc s)) [ true ↦ childrenBelow s n ++ (n ∷ []) | false ↦ childrenBelow s n ]
-
-  abbrev pub leastOf : (ℕ → ℕ) → ℕ → List ℕ → ℕ
-  leastOf f least [] = least
-  leastOf f least (c ∷ cs) = leastOf f (min least (f c)) cs
-
-  abbrev pub greatestOf : (ℕ → ℕ) → ℕ → List ℕ → ℕ
-  greatestOf f most [] = most
-  greatestOf f most (c ∷ cs) = greatestOf f (max most (f c)) cs
-
-  abbrev pub someOf : (ℕ → Bool) → List ℕ → Bool
-  someOf f [] = false
-  someOf f (c ∷ cs) = f c || someOf f cs
 
   -- a summary's dates are its children's, its float counts on its own calendar from their greatest early finish to their greatest late one
   abbrev pub rolledFrom : (ℕ → Shown) → ℕ → List ℕ → Pass (ℕ → Shown)

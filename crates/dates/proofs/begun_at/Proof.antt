@@ -1,6 +1,6 @@
 -- `dates::begun_at` meets its contract, by what is recorded.
 use borrow.Author.Needs.{needs}
-use mathlib.Core.Path.{_≡_, sym, ap}
+use mathlib.Core.Path.{sym, ap}
 use Rattle.placing.specs.declared.Actual.{Actual}
 use Rattle.passes.specs.Plan.{begun}
 use Rattle.dates.proofs.begun_at.Statement.{statement}

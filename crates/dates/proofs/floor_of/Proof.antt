@@ -1,6 +1,6 @@
 -- `dates::floor_of` meets its contract: each way out has its law.
 use borrow.Author.Needs.{needs}
-use mathlib.Core.Path.{_≡_, sym, ap, _∙_}
+use mathlib.Core.Path.{sym, _∙_}
 use Rattle.dates.specs.ReadLaws.{floor-late, floor-early, floor-absent}
 use Rattle.dates.proofs.floor_of.Statement.{statement}
 use Rattle.dates.proofs.floor_of.Tie as tie

@@ -1,7 +1,6 @@
 -- `dates::origin_of` meets its contract.
 use borrow.Author.Needs.{needs}
 use mathlib.Core.Path.{_∙_, ap}
-use Rattle.date.specs.declared.Date.{Date}
 use Rattle.placing.specs.Placing.{midnightOf}
 use Rattle.dates.specs.ReadLaws.{plan-start}
 use Rattle.dates.proofs.origin_of.Statement.{statement}

@@ -1,6 +1,6 @@
 -- `dates::recorded_at` meets its contract: each way out has its law.
 use borrow.Author.Needs.{needs}
-use mathlib.Core.Path.{_≡_, sym, ap, _∙_}
+use mathlib.Core.Path.{sym, ap, _∙_}
 use Rattle.placing.specs.declared.Actual.the-variants.{Begun, Completed}
 use Rattle.dates.specs.ReadLaws.{actual-unstarted, actual-begun, actual-completed}
 use Rattle.dates.proofs.recorded_at.Statement.{statement}

@@ -1,8 +1,6 @@
 -- `dates::shifted` meets its contract: a lag of no minutes reads no calendar, any other counts on calendar `k` of the plan.
 use borrow.Author.Needs.{needs}
-use mathlib.Core.Path.{_≡_, sym, ap, ap₂, _∙_}
-use Prim.Native.Nat.{ℕ}
-use lib.IntN.{ℤ}
+use mathlib.Core.Path.{sym, ap, _∙_}
 use mir.Syntax.{w64}
 use mir.Val.{toZ}
 use mir.Facts.{toZ-ofZ}

@@ -1,10 +1,11 @@
 -- `floats::free_by` meets its contract.
 use borrow.Author.Needs.{needs}
-use mathlib.Core.Path.{sym, ap, _∙_}
+use mathlib.Core.Path.{sym, ap, ap₂, _∙_}
 use native.Mathlib.Omega.{arith}
 use lib.IntN.{ℤ}
 use mir.Facts.{toZ-ofZ}
 use Rattle.number.specs.Zed.{up}
+use Rattle.number.specs.Sign.{minZ}
 use Rattle.placing.specs.declared.Actual.{Actual}
 use Rattle.passes.specs.Floats.{freeBy}
 use Rattle.floats.proofs.free_by.Statement.{statement}
@@ -38,7 +39,7 @@ returns : tie.Need-returns
 returns c =
     let s = c .before .before .before .before in
     let x = s .args in
-    let e = rw (toZ-ofZ (s .fits .slack), toZ-ofZ (s .fits .total)) at (c .before .min .ensures) in
+    let e = c .before .min .ensures ∙ ap₂ minZ (toZ-ofZ (s .fits .slack)) (toZ-ofZ (s .fits .total)) in
     let g = rw (toZ-ofZ (record { sfits = c .before .min .ok })) at (c .upward .ensures .0) in (
       λ p d.
           g ∙ ap (λ (z : ℤ). up z) e ∙ sym (ap (λ (a : Actual). freeBy p d a (x .slack) (x .total)) (c .before .before .enum-told .given .1)),
@@ -49,7 +50,7 @@ returns-2 : tie.Need-returns-2
 returns-2 c =
     let s = c .before .before .before .before in
     let x = s .args in
-    let e = rw (toZ-ofZ (s .fits .slack), toZ-ofZ (s .fits .total)) at (c .before .min2 .ensures) in
+    let e = c .before .min2 .ensures ∙ ap₂ minZ (toZ-ofZ (s .fits .slack)) (toZ-ofZ (s .fits .total)) in
     let g = rw (toZ-ofZ (record { sfits = c .before .min2 .ok })) at (c .upward2 .ensures .0) in (
       λ p d.
           g ∙ ap (λ (z : ℤ). up z) e ∙ sym (ap (λ (a : Actual). freeBy p d a (x .slack) (x .total)) (c .before .before .enum-told2 .given .1)),

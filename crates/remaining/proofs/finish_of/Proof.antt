@@ -1,7 +1,7 @@
 -- `remaining::finish_of` meets its contract: only completed work has a finish.
 use borrow.Author.Needs.{needs}
 use mathlib.Core.Path.{_≡_, refl}
-use mathlib.Core.List.{List, [], _∷_}
+use mathlib.Core.List.{[], _∷_}
 use types.Run.{OneOf, miss}
 use denote.Enum.Declared.{tagOf}
 use Rattle.placing.proofs.Actual.{the-type}

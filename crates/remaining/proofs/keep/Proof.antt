@@ -1,6 +1,6 @@
 -- `remaining::keep` meets its contract: the four puts are `kept`.
 use borrow.Author.Needs.{needs}
-use mathlib.Core.Path.{_≡_, _∙_}
+use mathlib.Core.Path.{_∙_}
 use Rattle.remaining.specs.LeftLaws.{start-below, finish-below}
 use Rattle.remaining.specs.RowLaws.{kept-steps}
 use Rattle.remaining.proofs.keep.Statement.{statement}

@@ -1,7 +1,6 @@
 -- `remaining::record_dated` meets its contract: what is recorded is the definition's, and so is the work left.
 use borrow.Author.Needs.{needs}
 use mathlib.Core.Path.{_≡_, refl, sym, ap, _∙_}
-use Prim.Native.Nat.{ℕ, _^_, _<_}
 use Rattle.project.specs.declared.Activity.{Activity}
 use Rattle.placing.specs.Placing.{actual}
 use Rattle.order.specs.Plan.{Plan, planOf, weekOfCalendar, exceptionPlace, exceptionNumber}

@@ -1,8 +1,8 @@
 -- `remaining::record_one` meets its contract: each way out has its law.
 use borrow.Author.Needs.{needs}
-use mathlib.Core.Path.{_≡_, refl, sym, ap, _∙_}
+use mathlib.Core.Path.{_≡_, sym, ap, _∙_}
 use mathlib.Core.Bool.{true, false}
-use Prim.Native.Nat.{ℕ, _^_, _<_}
+use Prim.Native.Nat.{ℕ}
 use native.Mathlib.Omega.{arith}
 use mir.Facts.{toZ-ofZ}
 use mir.Syntax.{w32}
@@ -17,7 +17,6 @@ use Rattle.order.specs.Plan.{Plan, planOf}
 use Rattle.order.specs.Ids.{summary}
 use Rattle.passes.specs.Plan.{recorded, full}
 use Rattle.worktime.specs.declared.Walk.the-variants.{At}
-use Rattle.passes.specs.Forward.{leftOf}
 use Rattle.placing.specs.PlacingSound.{clash}
 use Rattle.remaining.specs.LeftLaws.{mark-set, mark-unset, recorded-summary, recorded-none, full-summary, full-else, left-unstarted, is-below}
 use Rattle.remaining.specs.RowLaws.{row-kept}

@@ -1,6 +1,6 @@
 -- `remaining::settled` meets its contract, by what is recorded.
 use borrow.Author.Needs.{needs}
-use mathlib.Core.Path.{_≡_, sym, ap}
+use mathlib.Core.Path.{sym, ap}
 use Rattle.placing.specs.declared.Actual.{Actual}
 use Rattle.remaining.specs.Rows.{settledBy}
 use Rattle.remaining.proofs.settled.Statement.{statement}

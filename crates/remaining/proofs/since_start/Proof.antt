@@ -1,6 +1,6 @@
 -- `remaining::since_start` meets its contract: each way out has its law.
 use borrow.Author.Needs.{needs}
-use mathlib.Core.Path.{_≡_, sym, ap, ap₂, _∙_}
+use mathlib.Core.Path.{sym, ap, _∙_}
 use Prim.Native.Nat.{ℕ, _-_, max}
 use mir.Facts.{toZ-ofZ}
 use mir.Syntax.{w64}

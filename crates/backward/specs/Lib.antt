@@ -1,0 +1,6 @@
+-- The backward pass.
+pub mod Finish
+pub mod Stored
+pub mod FinishLaws
+pub mod OrderLaws
+pub mod BackLaws
