@@ -20,6 +20,33 @@ pub enum Late {
     By(u64),
 }
 
+// The late dates, back from the end, where `greatest` is the greatest early finish.
+fn late_dates(
+    sheet: &[u8],
+    contents: Contents,
+    places: &[u64],
+    t: usize,
+    work: &mut [i64],
+    greatest: u64,
+) -> Late
+    requires { ⌜ Ready (now sheet) contents (now places) t (now work) × Recorded (planOf (now sheet) contents) (stateOf (contents .activities) (contents .links) (now work)) × (greatest ≡ finish (planOf (now sheet) contents) (earlyIn (planOf (now sheet) contents) (stateOf (contents .activities) (contents .links) (now work)))) × (greatest < 2 ^ 63) ⌝ }
+    ensures { λ r. ⌜ LateIn (planOf (now (sheet .entry)) contents) (earlyIn (planOf (now (sheet .entry)) contents) (stateOf (contents .activities) (contents .links) (now (work .entry)))) (stateOf (contents .activities) (contents .links) (now (work .exit))) r × Frame 10 12 0 0 (stateOf (contents .activities) (contents .links) (now (work .entry))) (stateOf (contents .activities) (contents .links) (now (work .exit))) × (length (now (work .exit)) ≡ length (now (work .entry))) ⌝ }
+{
+    match backward::end_of(sheet, contents, greatest) {
+        Walk::Refused(k) => {
+            return Late::Refused(k);
+        }
+        Walk::At(last) => match backward::backward_pass(sheet, contents, places, t, work, last) {
+            Step::Refused(k) => {
+                return Late::Refused(k);
+            }
+            Step::Done => {
+                return Late::By(last);
+            }
+        },
+    }
+}
+
 // The free floats with held late moves, and then the longest path.
 fn float_dates(
     sheet: &[u8],
@@ -39,5 +66,32 @@ fn float_dates(
         Step::Done => {
             return longest::path_pass(sheet, contents, places, t, work, finish);
         }
+    }
+}
+
+// The late dates, the floats and the longest path, from the early dates.
+fn late_and_floats(
+    sheet: &[u8],
+    contents: Contents,
+    places: &[u64],
+    t: usize,
+    work: &mut [i64],
+) -> Late
+    requires { ⌜ Ready (now sheet) contents (now places) t (now work) × Recorded (planOf (now sheet) contents) (stateOf (contents .activities) (contents .links) (now work)) × (ended (earlyIn (planOf (now sheet) contents) (stateOf (contents .activities) (contents .links) (now work))) Done ≡ earlyDates (planOf (now sheet) contents)) ⌝ }
+    ensures { λ r. ⌜ RunIn (planOf (now (sheet .entry)) contents) (stateOf (contents .activities) (contents .links) (now (work .exit))) r × Frame 10 17 0 0 (stateOf (contents .activities) (contents .links) (now (work .entry))) (stateOf (contents .activities) (contents .links) (now (work .exit))) × (length (now (work .exit)) ≡ length (now (work .entry))) ⌝ }
+{
+    let finish = backward::greatest_finish(sheet, contents, work);
+    match late_dates(sheet, contents, places, t, work, finish) {
+        Late::Refused(k) => {
+            return Late::Refused(k);
+        }
+        Late::By(last) => match float_dates(sheet, contents, places, t, work, finish) {
+            Step::Refused(k) => {
+                return Late::Refused(k);
+            }
+            Step::Done => {
+                return Late::By(last);
+            }
+        },
     }
 }
