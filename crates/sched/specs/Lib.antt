@@ -1,5 +1,6 @@
 -- The scheduling call.
 pub mod Outcome
+pub mod CallLaws
 pub mod Refusals
 pub mod RunRefusals
 pub mod RowLaws
