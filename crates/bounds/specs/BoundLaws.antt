@@ -1,5 +1,5 @@
 -- One law for each way out of a link's bound and of the start that it leaves.
-use mathlib.Core.Path.{_≡_, refl, sym, ap, ap₂, _∙_}
+use mathlib.Core.Path.{_≡_, sym, ap, ap₂, _∙_}
 use mathlib.Core.Bool.{Bool}
 use Prim.Native.Nat.{ℕ}
 use lib.IntN.{ℤ}
@@ -12,9 +12,8 @@ use Rattle.placing.specs.Placing.{via, bounded, startForFinish}
 use Rattle.placing.specs.PlacingLaws.{via-at, via-refused}
 use Rattle.order.specs.Plan.{Plan}
 use Rattle.order.specs.Ties.{Tie}
-use Rattle.passes.specs.Plan.{own, lagOwn, tie, origin, recorded, begun}
-use Rattle.passes.specs.Dates.{Early}
-use Rattle.passes.specs.Forward.{sourceOf, forwardBound, linkBound, startFor}
+use Rattle.passes.specs.Plan.{own, lagOwn, origin}
+use Rattle.passes.specs.Forward.{sourceOf, forwardBound, startFor}
 
 module _ (p : Plan) where
   -- ---- the start that a bound leaves, by the link's type

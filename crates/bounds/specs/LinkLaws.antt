@@ -1,5 +1,5 @@
 -- A kept link's bound from what stands in the memory: the link itself, its predecessor's dates, and what is recorded of it.
-use mathlib.Core.Path.{_≡_, refl, sym, ap, ap₂, _∙_}
+use mathlib.Core.Path.{_≡_, sym, ap, ap₂, _∙_}
 use mathlib.Core.List.{List}
 use Prim.Native.Nat.{ℕ, _+_, _^_, _≤_, _<_}
 use native.Mathlib.Omega.{arith}
@@ -19,7 +19,7 @@ use Rattle.dates.specs.declared.Tie.{Tie}
 use Rattle.dates.specs.Columns.{earlyIn}
 use Rattle.dates.specs.ColumnLaws.{column-at}
 use Rattle.dates.specs.Standing.{asTie, tieIn, actualIn, Ready, Recorded}
-use Rattle.bounds.specs.ReadyLaws.{activities-are, kept-within, tie-from-below, tie-to-below, tie-lag-fits}
+use Rattle.bounds.specs.ReadyLaws.{activities-are, tie-from-below, tie-to-below, tie-lag-fits}
 
 module _ {s : List ℕ} {c : Contents} {places : List ℕ} {t : ℕ} {xs : List ℤ} (R : Ready s c places t xs) (k : ℕ) (l : k < t) (τ : Tie)
     (e : asTie τ ≡ tieIn (stateOf (c .activities) (c .links) xs) k) where

@@ -6,7 +6,7 @@ use project::RelationshipType;
 use sheet::Contents;
 use worktime::Walk;
 ghost use mathlib.Core.Path.{_≡_};
-ghost use Prim.Native.Nat.{ℕ, _+_, _^_, _<_};
+ghost use Prim.Native.Nat.{ℕ, _^_, _<_};
 ghost use Rattle.number.specs.Zed.{dn};
 ghost use Rattle.calendar.specs.Records.{Valid};
 ghost use Rattle.clock.specs.On.{workedOn};

@@ -1,12 +1,10 @@
 -- One law for each way out of the functions of one activity's early dates.
-use mathlib.Core.Path.{_≡_, refl, sym, ap, ap₂, _∙_}
+use mathlib.Core.Path.{_≡_, sym, ap, ap₂, _∙_}
 use mathlib.Core.Bool.{Bool, true, false}
-use Prim.Native.Nat.{ℕ, _+_, _^_, _≤_, _<_, max}
+use Prim.Native.Nat.{ℕ, _+_, _^_, _<_, max}
 use native.Mathlib.Omega.{arith}
 use Rattle.worktime.specs.declared.Walk.{Walk}
 use Rattle.worktime.specs.declared.Walk.the-variants.{At, Refused}
-use Rattle.worktime.specs.declared.Work.{Work}
-use Rattle.worktime.specs.declared.Work.the-variants.{Minutes}
 use Rattle.worktime.specs.Walks.{previousFinish, between}
 use Rattle.worktime.specs.Reads.{on-true, on-false}
 use Rattle.date.specs.declared.Date.{Date}
@@ -28,11 +26,11 @@ use Rattle.placing.specs.Placing.{via, bounded, midnightOf, placeStart, finishO
 use Rattle.order.specs.Plan.{Plan}
 use Rattle.order.specs.Ids.{summary}
 use Rattle.passes.specs.Plan.{own, origin, floor, kindOf}
-use Rattle.passes.specs.Dates.{Early, Pass, leaves, refused}
+use Rattle.passes.specs.Dates.{Early, leaves, refused}
 use Rattle.passes.specs.Forward.{counted, atEarly, onTime, constrained, levelled, held, resumed, startBy, expectedOn, workTo, minutesFrom, early, placed}
 use Rattle.early.specs.declared.Times.{Times}
 use Rattle.early.specs.declared.Placement.{Placement}
-use Rattle.early.specs.InHand.{IsTimes, InHand, placedAs, finishedAs, afterStart, Fits}
+use Rattle.early.specs.InHand.{IsTimes, InHand, finishedAs, afterStart, Fits}
 
 -- ---- a walk x, which is the definition's y: it answers, or is refused
 module _ {A : Type 0} (f go : ℕ → A) {x y : Walk} (e : x ≡ y) where

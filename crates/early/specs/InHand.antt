@@ -2,8 +2,6 @@
 use mathlib.Core.Path.{_≡_}
 use mathlib.Core.Bool.{Bool}
 use Prim.Native.Nat.{ℕ, _^_, _<_}
-use Rattle.worktime.specs.declared.Walk.{Walk}
-use Rattle.worktime.specs.declared.Walk.the-variants.{At, Refused}
 use Rattle.project.specs.declared.Activity.{Activity}
 use Rattle.placing.specs.declared.Actual.{Actual}
 use Rattle.placing.specs.Placing.{via, bounded, finishOf}

@@ -2,7 +2,7 @@
 use mathlib.Core.Path.{_≡_, refl, sym, ap, ap₂, _∙_}
 use mathlib.Core.Bool.{Bool, true, false}
 use mathlib.Core.List.{List, [], _∷_}
-use Prim.Native.Nat.{ℕ, _+_, _≤_, _<_, max}
+use Prim.Native.Nat.{ℕ, _≤_, _<_, max}
 use native.Mathlib.Omega.{arith}
 use lib.Dec.{ltb}
 use Rattle.number.specs.Bit.{bit}
@@ -10,12 +10,11 @@ use Rattle.worktime.specs.declared.Walk.{Walk}
 use Rattle.worktime.specs.declared.Walk.the-variants.{At, Refused}
 use Rattle.project.specs.declared.RelationshipType.{RelationshipType}
 use Rattle.placing.specs.declared.Actual.{Actual}
-use Rattle.placing.specs.declared.Actual.the-variants.{Unstarted, Begun, Completed}
 use Rattle.placing.specs.Placing.{via}
 use Rattle.cells.specs.Chain.{gather}
 use Rattle.order.specs.Plan.{Plan}
 use Rattle.passes.specs.Plan.{tie, tiesInto, floor}
-use Rattle.passes.specs.Dates.{Early, Pass, refused}
+use Rattle.passes.specs.Dates.{Early, refused}
 use Rattle.passes.specs.Forward.{linkBound, linkStart, startFor, raised}
 use Rattle.early.specs.InHand.{afterStart}
 use Rattle.early.specs.EarlyLaws.{goes-on, stops}

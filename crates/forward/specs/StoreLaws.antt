@@ -2,7 +2,7 @@
 use mathlib.Core.Path.{_≡_, refl, sym, ap, _∙_}
 use mathlib.Core.Bool.{Bool, true, false}
 use mathlib.Core.List.{List}
-use Prim.Native.Nat.{ℕ, _≤_, _<_}
+use Prim.Native.Nat.{ℕ, _<_}
 use native.Mathlib.Omega.{arith}
 use lib.Dec.{eqb}
 use lib.IntN.{ℤ, pos}
@@ -17,7 +17,7 @@ use Rattle.sheet.specs.declared.Contents.{Contents}
 use Rattle.order.specs.Plan.{Plan, planOf}
 use Rattle.order.specs.Checks.{order}
 use Rattle.passes.specs.Plan.{origin, recorded}
-use Rattle.passes.specs.Dates.{Early, Pass, leaves, refused, put, through}
+use Rattle.passes.specs.Dates.{Early, leaves, put, through}
 use Rattle.passes.specs.Forward.{early, forwardBy, forward}
 use Rattle.passes.specs.Run.{early₀, forwardPass}
 use Rattle.dates.specs.declared.Step.{Step}

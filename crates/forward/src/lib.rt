@@ -7,7 +7,7 @@ use project::Activity;
 use sheet::Contents;
 use worktime::Walk;
 ghost use mathlib.Core.Path.{_≡_};
-ghost use Prim.Native.Nat.{ℕ, _+_, _^_, _≤_, _<_, max};
+ghost use Prim.Native.Nat.{ℕ, _^_, _<_, max};
 ghost use lib.ListN.{length};
 ghost use Rattle.calendar.specs.Records.{Valid};
 ghost use Rattle.clock.specs.On.{workedOn};
