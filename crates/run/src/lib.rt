@@ -12,12 +12,34 @@ ghost use Rattle.passes.specs.Backward.{finish};
 ghost use Rattle.dates.specs.declared.Step.the-variants.{Done};
 ghost use Rattle.dates.specs.Columns.{earlyIn, lateIn, ended};
 ghost use Rattle.dates.specs.Standing.{Ready, Recorded};
+ghost use Rattle.run.specs.declared.Late.the-variants.{By};
 ghost use Rattle.run.specs.Stages.{earlyDates, floatDates, floatedIn, LateIn, RunIn};
 
 // The late dates by the end of the project, or the refusal of a walk.
 pub enum Late {
     Refused(u64),
     By(u64),
+}
+
+// The work left, and then the early dates.
+fn early_dates(
+    sheet: &[u8],
+    contents: Contents,
+    places: &[u64],
+    t: usize,
+    work: &mut [i64],
+) -> Step
+    requires { ⌜ Ready (now sheet) contents (now places) t (now work) ⌝ }
+    ensures { λ r. ⌜ (ended (earlyIn (planOf (now (sheet .entry)) contents) (stateOf (contents .activities) (contents .links) (now (work .exit)))) r ≡ earlyDates (planOf (now (sheet .entry)) contents)) × (r ≡ Done → Recorded (planOf (now (sheet .entry)) contents) (stateOf (contents .activities) (contents .links) (now (work .exit)))) × Frame 12 20 0 0 (stateOf (contents .activities) (contents .links) (now (work .entry))) (stateOf (contents .activities) (contents .links) (now (work .exit))) × (length (now (work .exit)) ≡ length (now (work .entry))) ⌝ }
+{
+    match remaining::remaining(sheet, contents, places, t, work) {
+        Step::Refused(k) => {
+            return Step::Refused(k);
+        }
+        Step::Done => {
+            return forward::forward_pass(sheet, contents, places, t, work);
+        }
+    }
 }
 
 // The late dates, back from the end, where `greatest` is the greatest early finish.
@@ -93,5 +115,26 @@ fn late_and_floats(
                 return Late::By(last);
             }
         },
+    }
+}
+
+// The passes, one after the other: the end of the project, or the refusal of a walk.
+pub fn run(
+    sheet: &[u8],
+    contents: Contents,
+    places: &[u64],
+    t: usize,
+    work: &mut [i64],
+) -> Late
+    requires { ⌜ Ready (now sheet) contents (now places) t (now work) ⌝ }
+    ensures { λ r. ⌜ RunIn (planOf (now (sheet .entry)) contents) (stateOf (contents .activities) (contents .links) (now (work .exit))) r × ((e : ℕ) → r ≡ By e → Recorded (planOf (now (sheet .entry)) contents) (stateOf (contents .activities) (contents .links) (now (work .exit)))) × Frame 10 20 0 0 (stateOf (contents .activities) (contents .links) (now (work .entry))) (stateOf (contents .activities) (contents .links) (now (work .exit))) × (length (now (work .exit)) ≡ length (now (work .entry))) ⌝ }
+{
+    match early_dates(sheet, contents, places, t, work) {
+        Step::Refused(k) => {
+            return Late::Refused(k);
+        }
+        Step::Done => {
+            return late_and_floats(sheet, contents, places, t, work);
+        }
     }
 }
