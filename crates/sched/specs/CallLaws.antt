@@ -5,7 +5,7 @@ use mathlib.Core.List.{List, [], _∷_, _++_}
 use mathlib.Core.Logic.{_≢_}
 use Prim.Native.Nat.{ℕ, zero, suc, _+_, _-_, _*_, _≤_, _<_, max}
 use native.Mathlib.Omega.{arith}
-use borrow.Author.Tests.{eq-eqb, ne-eqb}
+use borrow.Author.Tests.{eq-eqb, ne-eqb, le-leb, lt-leb, leb-true}
 use lib.Dec.{eqb, leb}
 use lib.IntN.{ℤ, pos}
 use lib.ListN.{length, drop, replicate, length-append, length-replicate}
@@ -34,6 +34,59 @@ endedWith r results names work = record { answer = r; lent = record { results = 
 abbrev pub zeros : List ℤ → List ℤ
 zeros xs = replicate (length xs) (pos 0)
 
+-- ---- room
+abbrev tag : Bool → ℕ
+tag true = 1
+tag false = 0
+
+clash : _≡_ {A = Bool} false true → ⊥
+clash e = let z = ap tag e in omega (arith, z)
+
+both : (x y : Bool) → x ≡ true → y ≡ true → x && y ≡ true
+both true y e f = f
+both false y e f = e
+
+no-first : (x y : Bool) → x ≡ false → x && y ≡ false
+no-first true y e = absurd (clash (sym e))
+no-first false y e = refl
+
+no-second : (x y : Bool) → y ≡ false → x && y ≡ false
+no-second true y e = e
+no-second false y e = refl
+
+module _ (a l results names work : ℕ) where
+  abbrev pub room : Bool
+  room = leb (15 * a) results && leb (max (a + 1) l) names && leb (64 * a + 16 * l) work
+
+  pub room-results : results < 15 * a → false ≡ room
+  room-results h = sym (no-first (leb (15 * a) results) (leb (max (a + 1) l) names && leb (64 * a + 16 * l) work) (lt-leb (15 * a) results h))
+
+  pub room-names : names < max (a + 1) l → false ≡ room
+  room-names h = sym (no-second (leb (15 * a) results) (leb (max (a + 1) l) names && leb (64 * a + 16 * l) work) (no-first (leb (max (a + 1) l) names) (leb (64 * a + 16 * l) work) (lt-leb (max (a + 1) l) names h)))
+
+  pub room-work : work < 64 * a + 16 * l → false ≡ room
+  room-work h = sym (no-second (leb (15 * a) results) (leb (max (a + 1) l) names && leb (64 * a + 16 * l) work) (no-second (leb (max (a + 1) l) names) (leb (64 * a + 16 * l) work) (lt-leb (64 * a + 16 * l) work h)))
+
+  pub room-all : 15 * a ≤ results → max (a + 1) l ≤ names → 64 * a + 16 * l ≤ work → true ≡ room
+  room-all h k m =
+      sym (both (leb (15 * a) results) (leb (max (a + 1) l) names && leb (64 * a + 16 * l) work) (le-leb (15 * a) results h) (both (leb (max (a + 1) l) names) (leb (64 * a + 16 * l) work) (le-leb (max (a + 1) l) names k) (le-leb (64 * a + 16 * l) work m)))
+
+  -- and back
+  pub room-has : room ≡ true → (15 * a ≤ results) × (max (a + 1) l ≤ names) × (64 * a + 16 * l ≤ work)
+  room-has e = (
+    leb-true (15 * a) results (first (leb (15 * a) results) (leb (max (a + 1) l) names && leb (64 * a + 16 * l) work) e),
+    leb-true (max (a + 1) l) names (first (leb (max (a + 1) l) names) (leb (64 * a + 16 * l) work) (second (leb (15 * a) results) (leb (max (a + 1) l) names && leb (64 * a + 16 * l) work) e)),
+    leb-true (64 * a + 16 * l) work (second (leb (max (a + 1) l) names) (leb (64 * a + 16 * l) work) (second (leb (15 * a) results) (leb (max (a + 1) l) names && leb (64 * a + 16 * l) work) e)),
+  )
+    where
+      first : (x y : Bool) → x && y ≡ true → x ≡ true
+      first true y e = refl
+      first false y e = e
+
+      second : (x y : Bool) → x && y ≡ true → y ≡ true
+      second true y e = e
+      second false y e = absurd (clash e)
+
 -- ---- names
 pub zeros-alone : (names : List ℕ) → thenZeros [] names ≡ replicate (length names) 0
 zeros-alone names = let e : length names - 0 ≡ length names = omega arith in rw e
@@ -45,6 +98,13 @@ then-length xs names h =
 -- only the length of what was lent counts
 pub then-same : (xs names other : List ℕ) → length names ≡ length other → thenZeros xs names ≡ thenZeros xs other
 then-same xs names other e = rw e
+
+-- what was lent to the call, where the names already hold the ignored links
+pub record LentAs (m : Lent) (p : Plan) (results : List ℤ) (names : List ℕ) (work : List ℤ) : Type 0 where
+  pub results-is : results ≡ m .results
+  pub names-is : names ≡ thenZeros (ignoredLinks p) (m .names)
+  pub names-length : length names ≡ length (m .names)
+  pub work-length : length work ≡ length (m .work)
 
 -- ---- the ways of a plan that was read and has room
 module _ (m : Lent) (p : Plan) where
