@@ -167,7 +167,7 @@ fn all_in_years(days: Days) -> bool
     false
 }
 
-// ---- critical
+// ---- critical, by total float or by the longest path
 // So many days of `day_length` minutes.
 fn days_in_minutes(days: i32, day_length: u64) -> i64
     requires { ⌜ «day_length» ≤ 1440 ⌝ }
@@ -176,7 +176,7 @@ fn days_in_minutes(days: i32, day_length: u64) -> i64
     days as i64 * day_length as i64
 }
 
-fn is_critical(by: CriticalBy, day_length: u64, total: i64, path: bool) -> bool
+pub fn is_critical(by: CriticalBy, day_length: u64, total: i64, path: bool) -> bool
     requires { ⌜ «day_length» ≤ 1440 ⌝ }
     ensures { λ r. ⌜ r ≡ criticalIn by «day_length» total path ⌝ }
 {

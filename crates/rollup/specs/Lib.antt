@@ -1,0 +1,7 @@
+-- Summaries rolled up from their children, deepest first.
+pub mod Chained
+pub mod ChainedLaws
+pub mod Depths
+pub mod DepthLaws
+pub mod Roll
+pub mod RollLaws
