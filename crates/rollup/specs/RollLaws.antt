@@ -27,7 +27,7 @@ use Rattle.results.specs.declared.Shown.{Shown}
 use Rattle.results.specs.Results.{leastOf, greatestOf, someOf, childrenBelow, summariesAt, rolledFrom, rolled}
 use Rattle.results.specs.View.{shownTo}
 use Rattle.results.specs.ShowingLaws.{critical-in}
-use Rattle.rollup.specs.Depths.{depthKey}
+use Rattle.rollup.specs.Rolling.{deepOf}
 use Rattle.rollup.specs.Roll.{joined, joinAll, childSum, summed, chosen}
 
 -- ---- lists by a key and by a test
@@ -192,3 +192,17 @@ module _ (p : Plan) (r : Ran) (S : State) (s : ℕ) (parents : (j : ℕ) → j <
       let e = sym (children-are p r (S .act parent) parents s) ∙ T .rest ∙ after-hit (S .act parent) (p .activities) (suc s) c l (T .hits l) in
       let f : ℕ → Shown = shownTo (p .activities) S in
       sym (ap (rolledFrom p r f s) e ∙ sum-is p r f s c (after (S .act parent) (p .activities) (suc s) (c + 1)))
+
+-- ---- the summaries of a depth, where the keys are their depths
+deep-test : (b : Bool) (n k : ℕ) → eqb (elim b [ true ↦ n | false ↦ 0 ]) (suc k) ≡ b && eqb n (suc k)
+deep-test true n k = refl
+deep-test false n k = ne-eqb 0 (suc k) (λ e. omega arith)
+
+pub summaries-are : (p : Plan) (r : Ran) (key : ℕ → ℕ) → ((j : ℕ) → j < p .activities → key j ≡ deepOf p j) → (k : ℕ) → after key (p .activities) (suc k) 0 ≡ summariesAt p r (suc k) (p .activities)
+unfolding deepOf
+summaries-are p r key h k =
+    let e : p .activities - 0 ≡ p .activities = omega arith in
+    ap (λ (n : ℕ). keyed key (suc k) n 0) e ∙ keyed-chosen key (suc k) (p .activities)
+    ∙ chosen-same (λ j. eqb (key j) (suc k)) (λ j. summary p j && eqb (depth (parentOf p) (p .activities) j) (suc k)) (p .activities)
+    (λ j l. ap (λ (x : ℕ). eqb x (suc k)) (h j l) ∙ deep-test (summary p j) (depth (parentOf p) (p .activities) j) k)
+    ∙ sym (summaries-chosen p r (suc k) (p .activities))

@@ -1,5 +1,10 @@
 // Summaries rolled up from their children, deepest first.
+use dates::Step;
+use project::Project;
+use results::Showing;
 use results::Shown;
+use sheet::Contents;
+use worktime::Work;
 ghost use mathlib.Core.Path.{_≡_};
 ghost use mathlib.Core.Bool.{_||_};
 ghost use Prim.Native.Nat.{ℕ, _+_, _^_, _≤_, _<_, min, max};
@@ -9,7 +14,19 @@ ghost use Rattle.memory.specs.Fields.{parent, depthOf, firstChild};
 ghost use Rattle.topology.specs.Frame.{Frame};
 ghost use Rattle.network.specs.ParentLinks.{depth};
 ghost use Rattle.rollup.specs.Chained.{LinkedIn, KeysIn};
-ghost use Rattle.results.specs.Showing.{Holds};
+ghost use Rattle.sheet.specs.Known.{SheetRead};
+ghost use Rattle.order.specs.Plan.{planOf};
+ghost use Rattle.order.specs.Ties.{calendarOf};
+ghost use Rattle.passes.specs.Dates.{through};
+ghost use Rattle.passes.specs.Run.{Ran};
+ghost use Rattle.calendars.specs.Calendars.{Places, Lengths};
+ghost use Rattle.dates.specs.Columns.{ended};
+ghost use Rattle.results.specs.Results.{summariesAt, deepestFirst, rolled, results};
+ghost use Rattle.results.specs.View.{ranIn, shownIn};
+ghost use Rattle.results.specs.Row.{ToShow};
+ghost use Rattle.results.specs.Showing.{Holds, HoldsIf, showing};
+ghost use Rattle.rollup.specs.Prepared.{Prepared};
+ghost use Rattle.rollup.specs.Rolling.{Deep, summedPass};
 ghost use Rattle.rollup.specs.Depths.{depthKey, DepthsTo};
 ghost use Rattle.rollup.specs.Roll.{joined, childSum};
 
@@ -158,4 +175,107 @@ fn sum_children(work: &[i64], a: usize, l: usize, s: usize, first: usize) -> Sho
         k = memory::get_act(work, a, l, k, memory::fields::NEXT_CHILD) as usize;
     }
     x
+}
+
+// ---- one summary
+// The sum of a summary's children with its own float.
+fn summed_of(sheet: &[u8], contents: Contents, places: &[u64], lengths: &[u64], project: Project, s: usize, x: Shown) -> Showing
+    requires { ⌜ SheetRead (now sheet) contents × Places (now sheet) contents (now places) × Lengths (planOf (now sheet) contents) (now lengths) × (s < contents .activities) × (calendarOf (planOf (now sheet) contents) s < contents .calendars) × (project ≡ planOf (now sheet) contents .project) × Holds x ⌝ }
+    ensures { λ r. ⌜ (showing r ≡ summedPass (planOf (now (sheet .entry)) contents) s x) × HoldsIf r ⌝ }
+{
+    let by = project.critical_by;
+    let activity = dates::activity_of(sheet, contents, s);
+    let k = activity.calendar as usize;
+    let week = calendars::week_of(sheet, contents, places, k);
+    let e = calendars::exceptions_of(sheet, contents, places, k);
+    match clock::between(week, sheet, e.at, e.n, x.finish, x.late) {
+        Work::Minutes(total) => {
+            let critical = results::is_critical(by, lengths[k], total, x.path);
+            return Showing::Is(Shown {
+                es: x.es,
+                ef: x.ef,
+                ls: x.ls,
+                lf: x.lf,
+                total,
+                free: 0,
+                critical,
+                path: x.path,
+                finish: x.finish,
+                late: x.late,
+            });
+        }
+        Work::Refused(n) => {
+            return Showing::Refused(n);
+        }
+    }
+}
+
+// Rolls summary `s` up from its children.
+fn roll_one(sheet: &[u8], contents: Contents, places: &[u64], lengths: &[u64], project: Project, work: &mut [i64], s: usize) -> Step
+    requires { ⌜ ToShow (now sheet) contents (now places) (now lengths) (now work) × Deep (planOf (now sheet) contents) (stateOf (contents .activities) (contents .links) (now work)) × (s < contents .activities) × (project ≡ planOf (now sheet) contents .project) ⌝ }
+    ensures { λ r. ⌜ ((q : Ran) → ended (shownIn (planOf (now (sheet .entry)) contents) (stateOf (contents .activities) (contents .links) (now (work .exit)))) r ≡ rolled (planOf (now (sheet .entry)) contents) q (shownIn (planOf (now (sheet .entry)) contents) (stateOf (contents .activities) (contents .links) (now (work .entry)))) s) × Frame 20 30 0 0 (stateOf (contents .activities) (contents .links) (now (work .entry))) (stateOf (contents .activities) (contents .links) (now (work .exit))) × (length (now (work .exit)) ≡ length (now (work .entry))) ⌝ }
+{
+    let first = memory::get_act(work, contents.activities, contents.links, s, memory::fields::FIRST_CHILD) as usize;
+    if first >= contents.activities {
+        return Step::Done;
+    }
+    let x = sum_children(work, contents.activities, contents.links, s, first);
+    let sum = summed_of(sheet, contents, places, lengths, project, s, x);
+    match sum {
+        Showing::Is(y) => {
+            results::put_shown(work, contents.activities, contents.links, s, y);
+            return Step::Done;
+        }
+        Showing::Refused(k) => {
+            return Step::Refused(k);
+        }
+    }
+}
+
+// ---- all summaries, deepest first
+// Rolls up the summaries of depth `d`, in sheet order.
+fn roll_depth(sheet: &[u8], contents: Contents, places: &[u64], lengths: &[u64], project: Project, work: &mut [i64], d: usize) -> Step
+    requires { ⌜ ToShow (now sheet) contents (now places) (now lengths) (now work) × Deep (planOf (now sheet) contents) (stateOf (contents .activities) (contents .links) (now work)) × (0 < d) × (d ≤ contents .activities) × (project ≡ planOf (now sheet) contents .project) ⌝ }
+    ensures { λ r. ⌜ ((q : Ran) → ended (shownIn (planOf (now (sheet .entry)) contents) (stateOf (contents .activities) (contents .links) (now (work .exit)))) r ≡ through (rolled (planOf (now (sheet .entry)) contents) q) (summariesAt (planOf (now (sheet .entry)) contents) q d (contents .activities)) (shownIn (planOf (now (sheet .entry)) contents) (stateOf (contents .activities) (contents .links) (now (work .entry))))) × Frame 20 30 0 0 (stateOf (contents .activities) (contents .links) (now (work .entry))) (stateOf (contents .activities) (contents .links) (now (work .exit))) × (length (now (work .exit)) ≡ length (now (work .entry))) ⌝ }
+{
+    let mut k = memory::get_act(work, contents.activities, contents.links, d - 1, memory::fields::FIRST_DEEP) as usize;
+    while k < contents.activities {
+        let step = roll_one(sheet, contents, places, lengths, project, work, k);
+        match step {
+            Step::Refused(n) => {
+                return Step::Refused(n);
+            }
+            Step::Done => {}
+        }
+        k = memory::get_act(work, contents.activities, contents.links, k, memory::fields::NEXT_DEEP) as usize;
+    }
+    Step::Done
+}
+
+fn roll_all(sheet: &[u8], contents: Contents, places: &[u64], lengths: &[u64], project: Project, work: &mut [i64]) -> Step
+    requires { ⌜ ToShow (now sheet) contents (now places) (now lengths) (now work) × Deep (planOf (now sheet) contents) (stateOf (contents .activities) (contents .links) (now work)) × (project ≡ planOf (now sheet) contents .project) ⌝ }
+    ensures { λ r. ⌜ ((q : Ran) → ended (shownIn (planOf (now (sheet .entry)) contents) (stateOf (contents .activities) (contents .links) (now (work .exit)))) r ≡ through (rolled (planOf (now (sheet .entry)) contents) q) (deepestFirst (planOf (now (sheet .entry)) contents) q (contents .activities)) (shownIn (planOf (now (sheet .entry)) contents) (stateOf (contents .activities) (contents .links) (now (work .entry))))) × Frame 20 30 0 0 (stateOf (contents .activities) (contents .links) (now (work .entry))) (stateOf (contents .activities) (contents .links) (now (work .exit))) × (length (now (work .exit)) ≡ length (now (work .entry))) ⌝ }
+{
+    let mut d = contents.activities;
+    while d > 0 {
+        let step = roll_depth(sheet, contents, places, lengths, project, work, d);
+        match step {
+            Step::Refused(n) => {
+                return Step::Refused(n);
+            }
+            Step::Done => {}
+        }
+        d -= 1;
+    }
+    Step::Done
+}
+
+// Finds depths and chains for the roll-up.
+fn prepare(work: &mut [i64], a: usize, l: usize)
+    requires { ⌜ Room a l (now work) × (a < 2 ^ 63) × KeysIn parent a (stateOf a l (now work)) ⌝ }
+    ensures { λ _. ⌜ Prepared a (stateOf a l (now (work .entry))) (stateOf a l (now (work .exit))) × (length (now (work .exit)) ≡ length (now (work .entry))) ⌝ }
+{
+    mark_depths(work, a, l);
+    chain(work, a, l, memory::fields::DEPTH_OF, memory::fields::FIRST_DEEP);
+    chain(work, a, l, memory::fields::PARENT, memory::fields::FIRST_CHILD);
 }
