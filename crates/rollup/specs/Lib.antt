@@ -8,3 +8,4 @@ pub mod Roll
 pub mod Rolling
 pub mod RollLaws
 pub mod RollingLaws
+pub mod PreparedLaws

@@ -2,11 +2,12 @@
 use mathlib.Core.Path.{_≡_}
 use mathlib.Core.Bool.{Bool, true, false}
 use mathlib.Core.List.{List}
-use Prim.Native.Nat.{ℕ, _<_}
+use Prim.Native.Nat.{ℕ, _≤_, _<_}
 use lib.IntN.{ℤ}
+use Rattle.number.specs.Bit.{bit}
 use Rattle.worktime.specs.Walks.{between}
 use Rattle.memory.specs.State.{State, stateOf}
-use Rattle.memory.specs.Fields.{parent, depthOf, firstDeep, firstChild}
+use Rattle.memory.specs.Fields.{parent, isSummary, depthOf, firstDeep, firstChild}
 use Rattle.network.specs.ParentLinks.{depth}
 use Rattle.sheet.specs.declared.Contents.{Contents}
 use Rattle.order.specs.Plan.{Plan, planOf}
@@ -33,3 +34,9 @@ pub record Deep (p : Plan) (S : State) : Type 0 where
 -- the sum x with the float of summary s
 unfoldable pub summedPass : Plan → ℕ → Shown → Pass Shown
 summedPass p s x = measured refused (between (own p s) (x .finish) (x .late)) (λ total. leaves (summed p s total x))
+
+-- what the checks leave that the roll-up reads
+pub record ToRoll (p : Plan) (S : State) : Type 0 where
+  pub parents : (i : ℕ) → i < p .activities → S .act parent i ≡ parentOf p i
+  pub marks : (i : ℕ) → i < p .activities → S .act isSummary i ≡ bit (summary p i)
+  pub within : (i : ℕ) → i < p .activities → parentOf p i ≤ p .activities

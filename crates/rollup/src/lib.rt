@@ -6,7 +6,7 @@ use results::Shown;
 use sheet::Contents;
 use worktime::Work;
 ghost use mathlib.Core.Path.{_≡_};
-ghost use mathlib.Core.Bool.{_||_};
+ghost use mathlib.Core.Bool.{Bool, _||_};
 ghost use Prim.Native.Nat.{ℕ, _+_, _^_, _≤_, _<_, min, max};
 ghost use lib.ListN.{length};
 ghost use Rattle.memory.specs.State.{Room, stateOf, putAct};
@@ -21,12 +21,13 @@ ghost use Rattle.passes.specs.Dates.{through};
 ghost use Rattle.passes.specs.Run.{Ran};
 ghost use Rattle.calendars.specs.Calendars.{Places, Lengths};
 ghost use Rattle.dates.specs.Columns.{ended};
+ghost use Rattle.dates.specs.Standing.{Ready, Recorded};
 ghost use Rattle.results.specs.Results.{summariesAt, deepestFirst, rolled, results};
 ghost use Rattle.results.specs.View.{ranIn, shownIn};
 ghost use Rattle.results.specs.Row.{ToShow};
 ghost use Rattle.results.specs.Showing.{Holds, HoldsIf, showing};
 ghost use Rattle.rollup.specs.Prepared.{Prepared};
-ghost use Rattle.rollup.specs.Rolling.{Deep, summedPass};
+ghost use Rattle.rollup.specs.Rolling.{Deep, ToRoll, summedPass};
 ghost use Rattle.rollup.specs.Depths.{depthKey, DepthsTo};
 ghost use Rattle.rollup.specs.Roll.{joined, childSum};
 
@@ -278,4 +279,30 @@ fn prepare(work: &mut [i64], a: usize, l: usize)
     mark_depths(work, a, l);
     chain(work, a, l, memory::fields::DEPTH_OF, memory::fields::FIRST_DEEP);
     chain(work, a, l, memory::fields::PARENT, memory::fields::FIRST_CHILD);
+}
+
+// Rolls up all summaries, deepest first.
+fn roll_up(sheet: &[u8], contents: Contents, places: &[u64], lengths: &[u64], work: &mut [i64]) -> Step
+    requires { ⌜ ToShow (now sheet) contents (now places) (now lengths) (now work) × ToRoll (planOf (now sheet) contents) (stateOf (contents .activities) (contents .links) (now work)) ⌝ }
+    ensures { λ r. ⌜ ((q : Ran) → ended (shownIn (planOf (now (sheet .entry)) contents) (stateOf (contents .activities) (contents .links) (now (work .exit)))) r ≡ through (rolled (planOf (now (sheet .entry)) contents) q) (deepestFirst (planOf (now (sheet .entry)) contents) q (contents .activities)) (shownIn (planOf (now (sheet .entry)) contents) (stateOf (contents .activities) (contents .links) (now (work .entry))))) × Frame 20 35 0 0 (stateOf (contents .activities) (contents .links) (now (work .entry))) (stateOf (contents .activities) (contents .links) (now (work .exit))) × (length (now (work .exit)) ≡ length (now (work .entry))) ⌝ }
+{
+    let project = project::records::read_project(sheet, 0);
+    prepare(work, contents.activities, contents.links);
+    roll_all(sheet, contents, places, lengths, project, work)
+}
+
+// The results: what is shown of each activity, and summaries rolled up from their children. `t` links are kept.
+pub fn results(sheet: &[u8], contents: Contents, places: &[u64], lengths: &[u64], t: usize, work: &mut [i64]) -> Step
+    requires { ⌜ Ready (now sheet) contents (now places) t (now work) × Recorded (planOf (now sheet) contents) (stateOf (contents .activities) (contents .links) (now work)) × Lengths (planOf (now sheet) contents) (now lengths) ⌝ }
+    ensures { λ r. ⌜ ((e : ℕ) (other : ℕ → Bool) → ended (shownIn (planOf (now (sheet .entry)) contents) (stateOf (contents .activities) (contents .links) (now (work .exit)))) r ≡ results (planOf (now (sheet .entry)) contents) (ranIn (planOf (now (sheet .entry)) contents) (stateOf (contents .activities) (contents .links) (now (work .entry))) e other)) × Frame 20 35 0 0 (stateOf (contents .activities) (contents .links) (now (work .entry))) (stateOf (contents .activities) (contents .links) (now (work .exit))) × (length (now (work .exit)) ≡ length (now (work .entry))) ⌝ }
+{
+    let step = results::show_all(sheet, contents, places, lengths, work);
+    match step {
+        Step::Refused(k) => {
+            return Step::Refused(k);
+        }
+        Step::Done => {
+            return roll_up(sheet, contents, places, lengths, work);
+        }
+    }
 }
