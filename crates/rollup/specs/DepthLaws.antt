@@ -48,7 +48,7 @@ module _ (up : ℕ → ℕ) (a i : ℕ) where
 
     pub climbs-end : a ≤ k → k ≡ depth up a i
     unfolding stepsOut
-    climbs-end l = let e : a - k ≡ 0 = omega arith in omega (arith, ap (λ (f : ℕ) . k + stepsOut up f y) (sym e) ∙ C .left)
+    climbs-end l = let e : a - k ≡ 0 = omega arith in omega (arith, ap (λ (f : ℕ). k + stepsOut up f y) (sym e) ∙ C .left)
 
 -- ---- the depths of the rows
 module _ (S : State) (a i : ℕ) where

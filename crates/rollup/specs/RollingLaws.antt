@@ -6,7 +6,7 @@ use Prim.Native.Nat.{ℕ, zero, suc, _+_, _-_, _≤_, _<_}
 use native.Mathlib.Omega.{arith}
 use lib.Dec.{eqb}
 use lib.IntN.{ℤ}
-use Rattle.cells.specs.Chain.{keyed, after, Stands}
+use Rattle.cells.specs.Chain.{after, Stands}
 use Rattle.cells.specs.ChainLaws.{after-hit, after-end}
 use Rattle.worktime.specs.declared.Work.{Work}
 use Rattle.worktime.specs.declared.Work.the-variants.{Minutes}
@@ -14,12 +14,11 @@ use Rattle.worktime.specs.Walks.{between}
 use Rattle.memory.specs.State.{State}
 use Rattle.memory.specs.Fields.{parent, depthOf, firstDeep, nextDeep, firstChild, nextChild}
 use Rattle.topology.specs.Frame.{Frame}
-use Rattle.topology.specs.FrameLaws.{outside-below, outside-above}
 use Rattle.network.specs.ParentLinks.{depth}
 use Rattle.order.specs.Plan.{Plan}
 use Rattle.order.specs.Ids.{parentOf, summary}
 use Rattle.passes.specs.Plan.{own}
-use Rattle.passes.specs.Dates.{Pass, leaves, refused, put, through} 
+use Rattle.passes.specs.Dates.{Pass, leaves, refused, put, through}
 use Rattle.passes.specs.Dates as pass
 use Rattle.passes.specs.Floats.{measured, dayOf}
 use Rattle.passes.specs.Run.{Ran}
@@ -33,8 +32,7 @@ use Rattle.results.specs.Results.{summariesAt, deepestFirst, rolled}
 use Rattle.results.specs.View.{shownTo, shownIn, putShown}
 use Rattle.results.specs.ViewLaws.{to-put}
 use Rattle.results.specs.Showing.{showing, criticalIn}
-use Rattle.rollup.specs.Chained.{Linked, LinkedIn}
-use Rattle.rollup.specs.Roll.{childSum, summed, chosen}
+use Rattle.rollup.specs.Roll.{childSum, summed}
 use Rattle.rollup.specs.RollLaws.{roll-none, roll-some, summaries-are}
 use Rattle.rollup.specs.Rolling.{deepOf, Deep, summedPass}
 
@@ -68,10 +66,6 @@ module _ (p : Plan) (S : State) (D : Deep p S) (s : ℕ) (b : s < p .activities)
     one-refused k g d q = ap (λ (z : Showing). putPass (showing z) (shownIn p S) s) (sym d) ∙ by-sum q
 
 -- ---- the roll-up's fields stay while days and floats are put
-linked-kept : (S T : State) (F : Frame 20 30 0 0 S T) (key head a k : ℕ) → key < 20 → 30 ≤ head → LinkedIn key head a k S → LinkedIn key head a k T
-linked-kept S T F key head a k l g L =
-    rw (F .acts key (outside-below 20 30 key l), F .acts head (outside-above 20 30 head g), F .acts (head + 1) (outside-above 20 30 (head + 1) (omega arith))) L
-
 pub deep-kept : (p : Plan) (S T : State) → Frame 20 30 0 0 S T → Deep p S → Deep p T
 deep-kept p S T F D = record {
   parents = λ j b. ap (λ (f : ℕ → ℕ). f j) (F .acts parent refl) ∙ D .parents j b;

@@ -180,7 +180,15 @@ fn sum_children(work: &[i64], a: usize, l: usize, s: usize, first: usize) -> Sho
 
 // ---- one summary
 // The sum of a summary's children with its own float.
-fn summed_of(sheet: &[u8], contents: Contents, places: &[u64], lengths: &[u64], project: Project, s: usize, x: Shown) -> Showing
+fn summed_of(
+    sheet: &[u8],
+    contents: Contents,
+    places: &[u64],
+    lengths: &[u64],
+    project: Project,
+    s: usize,
+    x: Shown,
+) -> Showing
     requires { ⌜ SheetRead (now sheet) contents × Places (now sheet) contents (now places) × Lengths (planOf (now sheet) contents) (now lengths) × (s < contents .activities) × (calendarOf (planOf (now sheet) contents) s < contents .calendars) × (project ≡ planOf (now sheet) contents .project) × Holds x ⌝ }
     ensures { λ r. ⌜ (showing r ≡ summedPass (planOf (now (sheet .entry)) contents) s x) × HoldsIf r ⌝ }
 {
@@ -212,11 +220,25 @@ fn summed_of(sheet: &[u8], contents: Contents, places: &[u64], lengths: &[u64], 
 }
 
 // Rolls summary `s` up from its children.
-fn roll_one(sheet: &[u8], contents: Contents, places: &[u64], lengths: &[u64], project: Project, work: &mut [i64], s: usize) -> Step
+fn roll_one(
+    sheet: &[u8],
+    contents: Contents,
+    places: &[u64],
+    lengths: &[u64],
+    project: Project,
+    work: &mut [i64],
+    s: usize,
+) -> Step
     requires { ⌜ ToShow (now sheet) contents (now places) (now lengths) (now work) × Deep (planOf (now sheet) contents) (stateOf (contents .activities) (contents .links) (now work)) × (s < contents .activities) × (project ≡ planOf (now sheet) contents .project) ⌝ }
     ensures { λ r. ⌜ ((q : Ran) → ended (shownIn (planOf (now (sheet .entry)) contents) (stateOf (contents .activities) (contents .links) (now (work .exit)))) r ≡ rolled (planOf (now (sheet .entry)) contents) q (shownIn (planOf (now (sheet .entry)) contents) (stateOf (contents .activities) (contents .links) (now (work .entry)))) s) × Frame 20 30 0 0 (stateOf (contents .activities) (contents .links) (now (work .entry))) (stateOf (contents .activities) (contents .links) (now (work .exit))) × (length (now (work .exit)) ≡ length (now (work .entry))) ⌝ }
 {
-    let first = memory::get_act(work, contents.activities, contents.links, s, memory::fields::FIRST_CHILD) as usize;
+    let first = memory::get_act(
+        work,
+        contents.activities,
+        contents.links,
+        s,
+        memory::fields::FIRST_CHILD,
+    ) as usize;
     if first >= contents.activities {
         return Step::Done;
     }
@@ -235,11 +257,25 @@ fn roll_one(sheet: &[u8], contents: Contents, places: &[u64], lengths: &[u64], p
 
 // ---- all summaries, deepest first
 // Rolls up the summaries of depth `d`, in sheet order.
-fn roll_depth(sheet: &[u8], contents: Contents, places: &[u64], lengths: &[u64], project: Project, work: &mut [i64], d: usize) -> Step
+fn roll_depth(
+    sheet: &[u8],
+    contents: Contents,
+    places: &[u64],
+    lengths: &[u64],
+    project: Project,
+    work: &mut [i64],
+    d: usize,
+) -> Step
     requires { ⌜ ToShow (now sheet) contents (now places) (now lengths) (now work) × Deep (planOf (now sheet) contents) (stateOf (contents .activities) (contents .links) (now work)) × (0 < d) × (d ≤ contents .activities) × (project ≡ planOf (now sheet) contents .project) ⌝ }
     ensures { λ r. ⌜ ((q : Ran) → ended (shownIn (planOf (now (sheet .entry)) contents) (stateOf (contents .activities) (contents .links) (now (work .exit)))) r ≡ through (rolled (planOf (now (sheet .entry)) contents) q) (summariesAt (planOf (now (sheet .entry)) contents) q d (contents .activities)) (shownIn (planOf (now (sheet .entry)) contents) (stateOf (contents .activities) (contents .links) (now (work .entry))))) × Frame 20 30 0 0 (stateOf (contents .activities) (contents .links) (now (work .entry))) (stateOf (contents .activities) (contents .links) (now (work .exit))) × (length (now (work .exit)) ≡ length (now (work .entry))) ⌝ }
 {
-    let mut k = memory::get_act(work, contents.activities, contents.links, d - 1, memory::fields::FIRST_DEEP) as usize;
+    let mut k = memory::get_act(
+        work,
+        contents.activities,
+        contents.links,
+        d - 1,
+        memory::fields::FIRST_DEEP,
+    ) as usize;
     while k < contents.activities {
         let step = roll_one(sheet, contents, places, lengths, project, work, k);
         match step {
@@ -248,12 +284,25 @@ fn roll_depth(sheet: &[u8], contents: Contents, places: &[u64], lengths: &[u64],
             }
             Step::Done => {}
         }
-        k = memory::get_act(work, contents.activities, contents.links, k, memory::fields::NEXT_DEEP) as usize;
+        k = memory::get_act(
+            work,
+            contents.activities,
+            contents.links,
+            k,
+            memory::fields::NEXT_DEEP,
+        ) as usize;
     }
     Step::Done
 }
 
-fn roll_all(sheet: &[u8], contents: Contents, places: &[u64], lengths: &[u64], project: Project, work: &mut [i64]) -> Step
+fn roll_all(
+    sheet: &[u8],
+    contents: Contents,
+    places: &[u64],
+    lengths: &[u64],
+    project: Project,
+    work: &mut [i64],
+) -> Step
     requires { ⌜ ToShow (now sheet) contents (now places) (now lengths) (now work) × Deep (planOf (now sheet) contents) (stateOf (contents .activities) (contents .links) (now work)) × (project ≡ planOf (now sheet) contents .project) ⌝ }
     ensures { λ r. ⌜ ((q : Ran) → ended (shownIn (planOf (now (sheet .entry)) contents) (stateOf (contents .activities) (contents .links) (now (work .exit)))) r ≡ through (rolled (planOf (now (sheet .entry)) contents) q) (deepestFirst (planOf (now (sheet .entry)) contents) q (contents .activities)) (shownIn (planOf (now (sheet .entry)) contents) (stateOf (contents .activities) (contents .links) (now (work .entry))))) × Frame 20 30 0 0 (stateOf (contents .activities) (contents .links) (now (work .entry))) (stateOf (contents .activities) (contents .links) (now (work .exit))) × (length (now (work .exit)) ≡ length (now (work .entry))) ⌝ }
 {
@@ -277,12 +326,30 @@ fn prepare(work: &mut [i64], a: usize, l: usize)
     ensures { λ _. ⌜ Prepared a (stateOf a l (now (work .entry))) (stateOf a l (now (work .exit))) × (length (now (work .exit)) ≡ length (now (work .entry))) ⌝ }
 {
     mark_depths(work, a, l);
-    chain(work, a, l, memory::fields::DEPTH_OF, memory::fields::FIRST_DEEP);
-    chain(work, a, l, memory::fields::PARENT, memory::fields::FIRST_CHILD);
+    chain(
+        work,
+        a,
+        l,
+        memory::fields::DEPTH_OF,
+        memory::fields::FIRST_DEEP,
+    );
+    chain(
+        work,
+        a,
+        l,
+        memory::fields::PARENT,
+        memory::fields::FIRST_CHILD,
+    );
 }
 
 // Rolls up all summaries, deepest first.
-fn roll_up(sheet: &[u8], contents: Contents, places: &[u64], lengths: &[u64], work: &mut [i64]) -> Step
+fn roll_up(
+    sheet: &[u8],
+    contents: Contents,
+    places: &[u64],
+    lengths: &[u64],
+    work: &mut [i64],
+) -> Step
     requires { ⌜ ToShow (now sheet) contents (now places) (now lengths) (now work) × ToRoll (planOf (now sheet) contents) (stateOf (contents .activities) (contents .links) (now work)) ⌝ }
     ensures { λ r. ⌜ ((q : Ran) → ended (shownIn (planOf (now (sheet .entry)) contents) (stateOf (contents .activities) (contents .links) (now (work .exit)))) r ≡ through (rolled (planOf (now (sheet .entry)) contents) q) (deepestFirst (planOf (now (sheet .entry)) contents) q (contents .activities)) (shownIn (planOf (now (sheet .entry)) contents) (stateOf (contents .activities) (contents .links) (now (work .entry))))) × Frame 20 35 0 0 (stateOf (contents .activities) (contents .links) (now (work .entry))) (stateOf (contents .activities) (contents .links) (now (work .exit))) × (length (now (work .exit)) ≡ length (now (work .entry))) ⌝ }
 {
@@ -292,7 +359,14 @@ fn roll_up(sheet: &[u8], contents: Contents, places: &[u64], lengths: &[u64], wo
 }
 
 // The results: what is shown of each activity, and summaries rolled up from their children. `t` links are kept.
-pub fn results(sheet: &[u8], contents: Contents, places: &[u64], lengths: &[u64], t: usize, work: &mut [i64]) -> Step
+pub fn results(
+    sheet: &[u8],
+    contents: Contents,
+    places: &[u64],
+    lengths: &[u64],
+    t: usize,
+    work: &mut [i64],
+) -> Step
     requires { ⌜ Ready (now sheet) contents (now places) t (now work) × Recorded (planOf (now sheet) contents) (stateOf (contents .activities) (contents .links) (now work)) × Lengths (planOf (now sheet) contents) (now lengths) ⌝ }
     ensures { λ r. ⌜ ((e : ℕ) (other : ℕ → Bool) → ended (shownIn (planOf (now (sheet .entry)) contents) (stateOf (contents .activities) (contents .links) (now (work .exit)))) r ≡ results (planOf (now (sheet .entry)) contents) (ranIn (planOf (now (sheet .entry)) contents) (stateOf (contents .activities) (contents .links) (now (work .entry))) e other)) × Frame 20 35 0 0 (stateOf (contents .activities) (contents .links) (now (work .entry))) (stateOf (contents .activities) (contents .links) (now (work .exit))) × (length (now (work .exit)) ≡ length (now (work .entry))) ⌝ }
 {

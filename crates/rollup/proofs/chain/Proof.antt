@@ -21,9 +21,13 @@ chain-down-requires c κs =
     let h = b .pre in
     let S = stateOf (x .a) (x .l) (x .work .now) in
     let F = frame-fill (x .head) (x .head + 2) 0 0 (x .head) (omega arith) (omega arith) S (x .a) (x .a) in
-    let e = c .before .before .fill-act .ensures in
-    (omega (arith, e .1, h .0), h .2, h .3, subst (KeysIn (x .key) (x .a)) (sym (e .0)) (keys-kept (x .key) (x .head) (x .a) (h .2) S (fillAct S (x .head) (x .a) (x .a)) F (h .4)),
-    subst (LinkedIn (x .key) (x .head) (x .a) (x .a)) (sym (e .0)) (chain-none (x .key) (x .head) (x .a) (h .2) S))
+    let e = c .before .before .fill-act .ensures in (
+      omega (arith, e .1, h .0),
+      h .2,
+      h .3,
+      subst (KeysIn (x .key) (x .a)) (sym (e .0)) (keys-kept (x .key) (x .head) (x .a) (h .2) S (fillAct S (x .head) (x .a) (x .a)) F (h .4)),
+      subst (LinkedIn (x .key) (x .head) (x .a) (x .a)) (sym (e .0)) (chain-none (x .key) (x .head) (x .a) (h .2) S),
+    )
 
 same-length : tie.Need-same-length
 same-length c = search needs

@@ -31,9 +31,14 @@ chain-one-requires c κs =
     let x = b .args in
     let h = b .pre in
     let L = c .before .before .loop in
-    let e : L .c ≡ (L .c - 1) + 1 = omega arith in
-    (omega (arith, L .inv .1, h .0), omega arith, h .1, h .2, keys-kept (x .key) (x .head) (x .a) (h .1) (stateOf (x .a) (x .l) (x .work .now)) _ (L .inv .2) (h .3),
-    subst (λ (k : ℕ). LinkedIn (x .key) (x .head) (x .a) k (stateOf (x .a) (x .l) (L .work))) e (L .inv .3))
+    let e : L .c ≡ (L .c - 1) + 1 = omega arith in (
+      omega (arith, L .inv .1, h .0),
+      omega arith,
+      h .1,
+      h .2,
+      keys-kept (x .key) (x .head) (x .a) (h .1) (stateOf (x .a) (x .l) (x .work .now)) _ (L .inv .2) (h .3),
+      subst (λ (k : ℕ). LinkedIn (x .key) (x .head) (x .a) k (stateOf (x .a) (x .l) (L .work))) e (L .inv .3),
+    )
 
 loop-less : tie.Need-loop-less Inv-loop μ-loop
 loop-less c = search needs

@@ -75,10 +75,12 @@ returns-2 c =
     let l : i < x .a = omega (arith, e, h .4 (x .c) (h .1), n) in
     let d : S .act (x .key) (x .c) ≡ suc i = omega (arith, e, n) in
     let f = c .before .put-act2 .ensures .0
-        ∙ ap (λ (T : State). putAct T (x .head) i (x .c)) (c .before .before .before .before .put-act .ensures .0 ∙ ap (putAct S (x .head + 1) (x .c)) (c .before .before .before .before .before .before .get-act2 .ensures .0))
-    in
-    (subst (LinkedIn (x .key) (x .head) (x .a) (x .c)) (sym f) (chain-more (x .key) (x .head) (x .a) (h .2) S (x .c) i (h .1) d l (h .5)),
-    subst (Frame (x .head) (x .head + 2) 0 0 S) (sym f) (chain-frame (x .key) (x .head) (x .a) (h .2) S (x .c) i (h .1) d l (h .5)), omega arith)
+    ∙ ap (λ (T : State). putAct T (x .head) i (x .c)) (c .before .before .before .before .put-act .ensures .0 ∙ ap (putAct S (x .head + 1) (x .c)) (c .before .before .before .before .before .before .get-act2 .ensures .0))
+    in (
+      subst (LinkedIn (x .key) (x .head) (x .a) (x .c)) (sym f) (chain-more (x .key) (x .head) (x .a) (h .2) S (x .c) i (h .1) d l (h .5)),
+      subst (Frame (x .head) (x .head + 2) 0 0 S) (sym f) (chain-frame (x .key) (x .head) (x .a) (h .2) S (x .c) i (h .1) d l (h .5)),
+      omega arith,
+    )
 
 pub chain-one-spec : {M : Type 1} → statement M
 chain-one-spec =

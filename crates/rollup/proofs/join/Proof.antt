@@ -38,28 +38,29 @@ returns c =
     let lf = c .before .before .before .before .greatest2 .ensures in
     let finish = c .before .before .greatest3 .ensures in
     let late = c .before .greatest4 .ensures in
-    let t = toZ-ofZ {w = w64} {z = b .args .x .total} (record { sfits = c .struct-told .given .1 .1 .1 .1 .0 .1 }) in
-    ((λ z. record {
-      es = es z;
-      ef = ef z;
-      ls = ls z;
-      lf = lf z;
-      total = t z;
-      free = b .args .x .free;
-      critical = b .args .x .critical;
-      path = c .before .before .before .either .ensures z;
-      finish = finish z;
-      late = late z;
-    }),
-    record {
-      es = omega (arith, es, h .0 .es, h .1 .es);
-      ef = omega (arith, ef, h .0 .ef, h .1 .ef);
-      ls = omega (arith, ls, h .0 .ls, h .1 .ls);
-      lf = omega (arith, lf, h .0 .lf, h .1 .lf);
-      free = h .0 .free;
-      finish = omega (arith, finish, h .0 .finish, h .1 .finish);
-      late = omega (arith, late, h .0 .late, h .1 .late);
-    })
+    let t = toZ-ofZ {w = w64} {z = b .args .x .total} (record { sfits = c .struct-told .given .1 .1 .1 .1 .0 .1 }) in (
+      (λ z. record {
+        es = es z;
+        ef = ef z;
+        ls = ls z;
+        lf = lf z;
+        total = t z;
+        free = b .args .x .free;
+        critical = b .args .x .critical;
+        path = c .before .before .before .either .ensures z;
+        finish = finish z;
+        late = late z;
+      }),
+      record {
+        es = omega (arith, es, h .0 .es, h .1 .es);
+        ef = omega (arith, ef, h .0 .ef, h .1 .ef);
+        ls = omega (arith, ls, h .0 .ls, h .1 .ls);
+        lf = omega (arith, lf, h .0 .lf, h .1 .lf);
+        free = h .0 .free;
+        finish = omega (arith, finish, h .0 .finish, h .1 .finish);
+        late = omega (arith, late, h .0 .late, h .1 .late);
+      },
+    )
 
 pub join-spec : {M : Type 1} → statement M
 join-spec =

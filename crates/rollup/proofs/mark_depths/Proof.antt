@@ -47,10 +47,13 @@ loop-again c =
     let S : List ℤ → State = λ ys. stateOf (x .a) (x .l) ys in
     let L = c .before .before .before .before .loop in
     let e = c .before .mark-one .ensures in
-    let v = depthKey (S (L .work)) (x .a) (L .i) in
-    (omega arith, omega arith, subst (Frame 30 31 0 0 (S (x .work .now))) (sym (e .0)) (frame-then 30 31 0 0 (L .inv .2) (depth-frame (S (L .work)) (L .i) v)),
-    subst (λ (T : State). DepthsTo (S (x .work .now)) T (x .a) (L .i + 1)) (sym (e .0))
-    (depths-more (S (x .work .now)) (S (L .work)) (x .a) (L .i) v (key-kept (S (x .work .now)) (S (L .work)) (x .a) (L .i) (L .inv .2)) (L .inv .3)))
+    let v = depthKey (S (L .work)) (x .a) (L .i) in (
+      omega arith,
+      omega arith,
+      subst (Frame 30 31 0 0 (S (x .work .now))) (sym (e .0)) (frame-then 30 31 0 0 (L .inv .2) (depth-frame (S (L .work)) (L .i) v)),
+      subst (λ (T : State). DepthsTo (S (x .work .now)) T (x .a) (L .i + 1)) (sym (e .0))
+          (depths-more (S (x .work .now)) (S (L .work)) (x .a) (L .i) v (key-kept (S (x .work .now)) (S (L .work)) (x .a) (L .i) (L .inv .2)) (L .inv .3)),
+    )
 
 same-length : tie.Need-same-length Inv-loop μ-loop
 same-length c = search needs

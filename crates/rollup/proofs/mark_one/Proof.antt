@@ -35,9 +35,11 @@ same-length-2 c = search needs
 returns-2 : tie.Need-returns-2
 returns-2 c =
     let x = c .before .before .before .before .before .before .before .before .args in
-    let S = stateOf (x .a) (x .l) (x .work .now) in
-    (c .before .put-act2 .ensures .0
-    ∙ ap (putAct S depthOf (x .i)) (c .before .before .before .depth-of .ensures .0 ∙ key-some S (x .a) (x .i) (λ e. c .before .before .before .before .before .if1 .left (c .before .before .before .before .before .before .get-act .ensures .0 ∙ e))), c .before .put-act2 .ensures .1)
+    let S = stateOf (x .a) (x .l) (x .work .now) in (
+      c .before .put-act2 .ensures .0
+          ∙ ap (putAct S depthOf (x .i)) (c .before .before .before .depth-of .ensures .0 ∙ key-some S (x .a) (x .i) (λ e. c .before .before .before .before .before .if1 .left (c .before .before .before .before .before .before .get-act .ensures .0 ∙ e))),
+      c .before .put-act2 .ensures .1,
+    )
 
 pub mark-one-spec : {M : Type 1} → statement M
 mark-one-spec =

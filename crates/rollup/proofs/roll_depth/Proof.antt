@@ -77,10 +77,12 @@ returns c =
     let L = c .before .before .before .before .before .before .before .before .loop in
     let W = L .inv .1 in
     let e = c .before .before .before .before .roll-one .ensures in
-    let T = S (c .before .before .before .before .roll-one .last .1 .1 .1 .1 .1 .0) in
-    ((λ q. rolls-stop p S₀ (x .d) (S (L .work)) T (L .k) W (omega (arith, c .before .before .before .before .before .before .if1 .taken)) _ (e .0) _ (shownIn p T) (c .before .step .given .1) q
-    ∙ ap (λ (ks : List ℕ). through (rolled p q) ks (shownIn p S₀)) (depth-is p S₀ (h .1) (x .d) (h .2) q)),
-    frame-then 20 30 0 0 (W .frame) (e .1), omega (arith, e .2, L .inv .0))
+    let T = S (c .before .before .before .before .roll-one .last .1 .1 .1 .1 .1 .0) in (
+      (λ q. rolls-stop p S₀ (x .d) (S (L .work)) T (L .k) W (omega (arith, c .before .before .before .before .before .before .if1 .taken)) _ (e .0) _ (shownIn p T) (c .before .step .given .1) q
+          ∙ ap (λ (ks : List ℕ). through (rolled p q) ks (shownIn p S₀)) (depth-is p S₀ (h .1) (x .d) (h .2) q)),
+      frame-then 20 30 0 0 (W .frame) (e .1),
+      omega (arith, e .2, L .inv .0),
+    )
 
 enum-told : tie.Need-enum-told Inv-loop μ-loop
 enum-told c = search needs
@@ -137,9 +139,11 @@ returns-2 c =
     let p = planOf (x .sheet .now) (x .contents) in
     let S : List ℤ → State = λ ys. stateOf (x .contents .activities) (x .contents .links) ys in
     let S₀ = S (x .work .now) in
-    let L = c .before .before .loop in
-    ((λ q. rolls-end p S₀ (x .d) (S (L .work)) (L .k) (L .inv .1) (omega (arith, c .if1 .left)) q ∙ ap (λ (ks : List ℕ). through (rolled p q) ks (shownIn p S₀)) (depth-is p S₀ (h .1) (x .d) (h .2) q)),
-    L .inv .1 .frame, L .inv .0)
+    let L = c .before .before .loop in (
+      (λ q. rolls-end p S₀ (x .d) (S (L .work)) (L .k) (L .inv .1) (omega (arith, c .if1 .left)) q ∙ ap (λ (ks : List ℕ). through (rolled p q) ks (shownIn p S₀)) (depth-is p S₀ (h .1) (x .d) (h .2) q)),
+      L .inv .1 .frame,
+      L .inv .0,
+    )
 
 pub roll-depth-spec : {M : Type 1} → statement M
 roll-depth-spec =

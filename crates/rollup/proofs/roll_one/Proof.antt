@@ -75,9 +75,11 @@ returns-2 c =
     let S = stateOf (x .contents .activities) (x .contents .links) (x .work .now) in
     let l : S .act firstChild (x .s) < x .contents .activities = omega (arith, c .before .before .before .before .before .before .before .before .before .before .before .get-act .ensures .0, c .before .before .before .before .before .before .before .before .before .if1 .left) in
     let y = c .before .before .before .before .sum .given .0 .0 in
-    let e = c .before .put-shown .ensures in
-    ((λ q. one-done p S (h .1) (x .s) (h .2) l _ _ (c .before .before .before .before .before .before .before .sum-children .ensures .0) (c .before .before .before .before .before .before .summed-of .ensures .0) y _ (c .before .before .before .before .sum .given .1) (e .0) q),
-    subst (Frame 20 30 0 0 S) (sym (e .0)) (shown-frame S (x .s) y), e .1)
+    let e = c .before .put-shown .ensures in (
+      (λ q. one-done p S (h .1) (x .s) (h .2) l _ _ (c .before .before .before .before .before .before .before .sum-children .ensures .0) (c .before .before .before .before .before .before .summed-of .ensures .0) y _ (c .before .before .before .before .sum .given .1) (e .0) q),
+      subst (Frame 20 30 0 0 S) (sym (e .0)) (shown-frame S (x .s) y),
+      e .1,
+    )
 
 enum-known-sum-2 : tie.Need-enum-known-sum-2
 enum-known-sum-2 c = search needs
@@ -93,9 +95,11 @@ returns-3 c =
     let h = b .pre in
     let p = planOf (x .sheet .now) (x .contents) in
     let S = stateOf (x .contents .activities) (x .contents .links) (x .work .now) in
-    let l : S .act firstChild (x .s) < x .contents .activities = omega (arith, c .before .before .before .before .before .before .before .before .get-act .ensures .0, c .before .before .before .before .before .before .if1 .left) in
-    ((λ q. one-refused p S (h .1) (x .s) (h .2) l _ _ (c .before .before .before .before .sum-children .ensures .0) (c .before .before .before .summed-of .ensures .0) _ (shownIn p S) (c .before .sum2 .given .1) q),
-    frame-refl 20 30 0 0 S, refl)
+    let l : S .act firstChild (x .s) < x .contents .activities = omega (arith, c .before .before .before .before .before .before .before .before .get-act .ensures .0, c .before .before .before .before .before .before .if1 .left) in (
+      (λ q. one-refused p S (h .1) (x .s) (h .2) l _ _ (c .before .before .before .before .sum-children .ensures .0) (c .before .before .before .summed-of .ensures .0) _ (shownIn p S) (c .before .sum2 .given .1) q),
+      frame-refl 20 30 0 0 S,
+      refl,
+    )
 
 pub roll-one-spec : {M : Type 1} → statement M
 roll-one-spec =

@@ -76,9 +76,11 @@ loop-again c =
     let W = L .inv .0 in
     let y = c .before .before .shown-at2 .ensures .0 ∙ sym (to-at (x .a) S (L .k) (omega arith)) in
     let e = W .hits (omega arith) in
-    let T = subst (Stands key (x .a) (key (L .k)) (L .k + 1)) (sym (c .get-act2 .ensures .0)) (h .2 .nexts (L .k) (omega arith) (omega arith) (omega (arith, e))) in
-    (subst (λ (v : Shown). Sums F key (x .a) (suc (x .s)) (childSum S (x .a) (x .s)) v (c .get-act2 .result)) (sym (c .before .join .ensures .0))
-    (sums-turn F key (x .a) (suc (x .s)) (childSum S (x .a) (x .s)) (L .x) (L .k) W _ _ (omega arith) y T), c .before .join .ensures .1)
+    let T = subst (Stands key (x .a) (key (L .k)) (L .k + 1)) (sym (c .get-act2 .ensures .0)) (h .2 .nexts (L .k) (omega arith) (omega arith) (omega (arith, e))) in (
+      subst (λ (v : Shown). Sums F key (x .a) (suc (x .s)) (childSum S (x .a) (x .s)) v (c .get-act2 .result)) (sym (c .before .join .ensures .0))
+          (sums-turn F key (x .a) (suc (x .s)) (childSum S (x .a) (x .s)) (L .x) (L .k) W _ _ (omega arith) y T),
+      c .before .join .ensures .1,
+    )
 
 returns : tie.Need-returns Inv-loop μ-loop
 returns c =

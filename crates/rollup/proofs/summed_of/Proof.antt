@@ -74,9 +74,10 @@ returns c =
     let z = c .before .before .before .total .given in
     let f : SFits w64 (z .0 .0) = record { sfits = c .before .before .known-told .given .0 .1 } in
     let g = rw (toZ-ofZ f) at (c .is-critical .ensures) in
-    let l = h .2 .is k n ∙ ap (p .dayLength) e in
-    (summed-at p (x .s) (x .x) (z .0 .0) _ _ (sym (c .before .before .before .before .before .between .ensures ∙ ap (λ (v : ℕ → Bool). between v (x .x .finish) (x .x .late)) (calendar-worked (record { week-is = c .before .before .before .before .before .before .before .week-of .ensures; at-is = c .before .before .before .before .before .before .exceptions-of .ensures .0; n-is = c .before .before .before .before .before .before .exceptions-of .ensures .1 }) ∙ ap (λ (j : ℕ). worked (p .hours j)) e)) ∙ z .1) (toZ-ofZ f) (g ∙ (λ t. criticalIn (h .5 t .«critical_by») (l t) (z .0 .0) (x .x .path))),
-    record { es = h .6 .es; ef = h .6 .ef; ls = h .6 .ls; lf = h .6 .lf; free = omega arith; finish = h .6 .finish; late = h .6 .late })
+    let l = h .2 .is k n ∙ ap (p .dayLength) e in (
+      summed-at p (x .s) (x .x) (z .0 .0) _ _ (sym (c .before .before .before .before .before .between .ensures ∙ ap (λ (v : ℕ → Bool). between v (x .x .finish) (x .x .late)) (calendar-worked (record { week-is = c .before .before .before .before .before .before .before .week-of .ensures; at-is = c .before .before .before .before .before .before .exceptions-of .ensures .0; n-is = c .before .before .before .before .before .before .exceptions-of .ensures .1 }) ∙ ap (λ (j : ℕ). worked (p .hours j)) e)) ∙ z .1) (toZ-ofZ f) (g ∙ (λ t. criticalIn (h .5 t .«critical_by») (l t) (z .0 .0) (x .x .path))),
+      record { es = h .6 .es; ef = h .6 .ef; ls = h .6 .ls; lf = h .6 .lf; free = omega arith; finish = h .6 .finish; late = h .6 .late },
+    )
 
 enum-known-n : tie.Need-enum-known-n
 enum-known-n c = search needs
