@@ -1,12 +1,12 @@
 // What is shown of each activity.
 use calendar::Period;
+use dates::Step;
 use placing::Actual;
 use project::ActivityKind;
 use project::CriticalBy;
 use project::FloatKind;
 use project::Project;
 use sheet::Contents;
-use dates::Step;
 use worktime::Work;
 ghost use mathlib.Core.Path.{_≡_};
 ghost use mathlib.Core.Bool.{Bool};
@@ -90,7 +90,15 @@ fn total_by(actual: Actual, total: i64) -> i64
     }
 }
 
-fn total_of(kind: FloatKind, actual: Actual, t: Times, week: [[Period; 8]; 7], sheet: &[u8], at: usize, n: usize) -> Work
+fn total_of(
+    kind: FloatKind,
+    actual: Actual,
+    t: Times,
+    week: [[Period; 8]; 7],
+    sheet: &[u8],
+    at: usize,
+    n: usize,
+) -> Work
     requires { ⌜ Valid week (now sheet) at n ⌝ }
     ensures { λ r. ⌜ ((p : Plan) → r ≡ totalWork p (workedOn week (now (sheet .entry)) at n) kind actual t) ⌝ }
 {
@@ -167,7 +175,7 @@ fn all_in_years(days: Days) -> bool
     false
 }
 
-// ---- critical
+// ---- critical, by total float or by the longest path
 // So many days of `day_length` minutes.
 fn days_in_minutes(days: i32, day_length: u64) -> i64
     requires { ⌜ «day_length» ≤ 1440 ⌝ }
@@ -176,7 +184,7 @@ fn days_in_minutes(days: i32, day_length: u64) -> i64
     days as i64 * day_length as i64
 }
 
-fn is_critical(by: CriticalBy, day_length: u64, total: i64, path: bool) -> bool
+pub fn is_critical(by: CriticalBy, day_length: u64, total: i64, path: bool) -> bool
     requires { ⌜ «day_length» ≤ 1440 ⌝ }
     ensures { λ r. ⌜ r ≡ criticalIn by «day_length» total path ⌝ }
 {
@@ -327,7 +335,14 @@ fn put_floats(work: &mut [i64], a: usize, l: usize, i: usize, x: Shown)
 {
     memory::put_act_signed(work, a, l, i, memory::fields::TOTAL_FLOAT, x.total);
     memory::put_act(work, a, l, i, memory::fields::SHOWN_FREE, x.free);
-    memory::put_act(work, a, l, i, memory::fields::IS_CRITICAL, number_of(x.critical));
+    memory::put_act(
+        work,
+        a,
+        l,
+        i,
+        memory::fields::IS_CRITICAL,
+        number_of(x.critical),
+    );
     memory::put_act(work, a, l, i, memory::fields::IS_LONGEST, number_of(x.path));
 }
 
@@ -351,7 +366,15 @@ pub fn put_shown(work: &mut [i64], a: usize, l: usize, i: usize, x: Shown)
 
 // ---- all activities
 // What is shown of activity `i`, on its own calendar.
-fn row_of(sheet: &[u8], contents: Contents, places: &[u64], lengths: &[u64], project: Project, work: &[i64], i: usize) -> Showing
+fn row_of(
+    sheet: &[u8],
+    contents: Contents,
+    places: &[u64],
+    lengths: &[u64],
+    project: Project,
+    work: &[i64],
+    i: usize,
+) -> Showing
     requires { ⌜ ToShow (now sheet) contents (now places) (now lengths) (now work) × (i < contents .activities) × (project ≡ planOf (now sheet) contents .project) ⌝ }
     ensures { λ r. ⌜ (showing r ≡ rowShown (planOf (now (sheet .entry)) contents) (stateOf (contents .activities) (contents .links) (now (work .entry))) i) × HoldsIf r ⌝ }
 {
@@ -366,7 +389,15 @@ fn row_of(sheet: &[u8], contents: Contents, places: &[u64], lengths: &[u64], pro
 }
 
 // Puts what is shown of activity `i` into its row.
-fn show_one(sheet: &[u8], contents: Contents, places: &[u64], lengths: &[u64], project: Project, work: &mut [i64], i: usize) -> Step
+fn show_one(
+    sheet: &[u8],
+    contents: Contents,
+    places: &[u64],
+    lengths: &[u64],
+    project: Project,
+    work: &mut [i64],
+    i: usize,
+) -> Step
     requires { ⌜ ToShow (now sheet) contents (now places) (now lengths) (now work) × (i < contents .activities) × (project ≡ planOf (now sheet) contents .project) ⌝ }
     ensures { λ r. ⌜ (ended (shownTo (i + 1) (stateOf (contents .activities) (contents .links) (now (work .exit)))) r ≡ shownNext (rowShown (planOf (now (sheet .entry)) contents) (stateOf (contents .activities) (contents .links) (now (work .entry))) i) (shownTo i (stateOf (contents .activities) (contents .links) (now (work .entry)))) i) × Frame 20 30 0 0 (stateOf (contents .activities) (contents .links) (now (work .entry))) (stateOf (contents .activities) (contents .links) (now (work .exit))) × (length (now (work .exit)) ≡ length (now (work .entry))) ⌝ }
 {
@@ -383,7 +414,13 @@ fn show_one(sheet: &[u8], contents: Contents, places: &[u64], lengths: &[u64], p
 }
 
 // Puts what is shown of each activity into its row, in sheet order.
-pub fn show_all(sheet: &[u8], contents: Contents, places: &[u64], lengths: &[u64], work: &mut [i64]) -> Step
+pub fn show_all(
+    sheet: &[u8],
+    contents: Contents,
+    places: &[u64],
+    lengths: &[u64],
+    work: &mut [i64],
+) -> Step
     requires { ⌜ ToShow (now sheet) contents (now places) (now lengths) (now work) ⌝ }
     ensures { λ r. ⌜ ((e : ℕ) (other : ℕ → Bool) → ended (shownTo (contents .activities) (stateOf (contents .activities) (contents .links) (now (work .exit)))) r ≡ shownBelow (planOf (now (sheet .entry)) contents) (ranIn (planOf (now (sheet .entry)) contents) (stateOf (contents .activities) (contents .links) (now (work .entry))) e other) (contents .activities)) × Frame 20 30 0 0 (stateOf (contents .activities) (contents .links) (now (work .entry))) (stateOf (contents .activities) (contents .links) (now (work .exit))) × (length (now (work .exit)) ≡ length (now (work .entry))) ⌝ }
 {

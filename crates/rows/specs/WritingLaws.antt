@@ -87,7 +87,7 @@ module _ (p : Plan) (S : State) (xs ys : List ℤ) (i : ℕ) (e : ys ≡ rowsIn 
       let n : 15 * i + length (rowIn p S i) ≡ length (rowsIn p S i) + 15 = omega (arith, rows-length p S i, row-length p S i) in
       let m : 15 * i + 15 ≡ 15 * (i + 1) = omega arith in
       let past : drop (15 * i + length (rowIn p S i)) ys ≡ drop (15 * (i + 1)) xs =
-          ap (λ (k : ℕ). drop k ys) n ∙ ap (drop (length (rowsIn p S i) + 15)) e ∙ drop-append-add (rowsIn p S i) (drop (15 * i) xs) 15 ∙ drop-drop 15 (15 * i) xs ∙ ap (λ (k : ℕ). drop k xs) m
+      ap (λ (k : ℕ). drop k ys) n ∙ ap (drop (length (rowsIn p S i) + 15)) e ∙ drop-append-add (rowsIn p S i) (drop (15 * i) xs) 15 ∙ drop-drop 15 (15 * i) xs ∙ ap (λ (k : ℕ). drop k xs) m
       in
       let one : rowsIn p S (i + 1) ≡ rowsIn p S i ++ rowIn p S i = ap (rowsIn p S) (add-one i) in
       stored-is (rowIn p S i) ys (15 * i) (omega (arith, rows-room, row-length p S i))

@@ -95,7 +95,15 @@ fn write_floats(results: &mut [i64], at: usize, day_length: u64, x: Shown)
     results[at + 10] = path;
 }
 
-fn write_work(results: &mut [i64], at: usize, is_summary: bool, actual: Actual, left: u64, es: u64, ef: u64)
+fn write_work(
+    results: &mut [i64],
+    at: usize,
+    is_summary: bool,
+    actual: Actual,
+    left: u64,
+    es: u64,
+    ef: u64,
+)
     requires { ⌜ (at + 15 ≤ length (now results)) × (left < 2 ^ 63) × (es < 2 ^ 63) × (ef < 2 ^ 63) ⌝ }
     ensures { λ _. ⌜ now (results .exit) ≡ storedFrom (now (results .entry)) at 11 (workFields «is_summary» actual left es ef) ⌝ }
 {
@@ -132,7 +140,14 @@ fn write_fields(
 }
 
 // Writes the row of activity `i`.
-fn write_row(sheet: &[u8], contents: Contents, lengths: &[u64], work: &[i64], results: &mut [i64], i: usize)
+fn write_row(
+    sheet: &[u8],
+    contents: Contents,
+    lengths: &[u64],
+    work: &[i64],
+    results: &mut [i64],
+    i: usize,
+)
     requires { ⌜ ToWrite (now sheet) contents (now lengths) (now work) × (i < contents .activities) × (15 * i + 15 ≤ length (now results)) ⌝ }
     ensures { λ _. ⌜ now (results .exit) ≡ storedFrom (now (results .entry)) (15 * i) 0 (rowIn (planOf (now (sheet .entry)) contents) (stateOf (contents .activities) (contents .links) (now (work .entry))) i) ⌝ }
 {
@@ -147,11 +162,28 @@ fn write_row(sheet: &[u8], contents: Contents, lengths: &[u64], work: &[i64], re
     let left = memory::get_act(work, a, l, i, memory::fields::WORK_LEFT);
     let es = memory::get_act(work, a, l, i, memory::fields::EARLY_START);
     let ef = memory::get_act(work, a, l, i, memory::fields::EARLY_FINISH);
-    write_fields(results, 15 * i, id, lengths[k], x, is_summary, actual, left, es, ef);
+    write_fields(
+        results,
+        15 * i,
+        id,
+        lengths[k],
+        x,
+        is_summary,
+        actual,
+        left,
+        es,
+        ef,
+    );
 }
 
 // Writes the rows of all activities at the front of the results.
-pub fn write_rows(sheet: &[u8], contents: Contents, lengths: &[u64], work: &[i64], results: &mut [i64])
+pub fn write_rows(
+    sheet: &[u8],
+    contents: Contents,
+    lengths: &[u64],
+    work: &[i64],
+    results: &mut [i64],
+)
     requires { ⌜ ToWrite (now sheet) contents (now lengths) (now work) × (15 * contents .activities ≤ length (now results)) ⌝ }
     ensures { λ _. ⌜ ((e : ℕ) (other : ℕ → Bool) → now (results .exit) ≡ rowsBelow (planOf (now (sheet .entry)) contents) (ranIn (planOf (now (sheet .entry)) contents) (stateOf (contents .activities) (contents .links) (now (work .entry))) e other) (shownIn (planOf (now (sheet .entry)) contents) (stateOf (contents .activities) (contents .links) (now (work .entry)))) (contents .activities) ++ drop (15 * contents .activities) (now (results .entry))) ⌝ }
 {
@@ -172,7 +204,13 @@ pub fn finish_day(sheet: &[u8], contents: Contents, work: &[i64]) -> i64
     while i < contents.activities {
         d = later(
             d,
-            memory::get_act(work, contents.activities, contents.links, i, memory::fields::SHOWN_FINISH),
+            memory::get_act(
+                work,
+                contents.activities,
+                contents.links,
+                i,
+                memory::fields::SHOWN_FINISH,
+            ),
         );
         i += 1;
     }

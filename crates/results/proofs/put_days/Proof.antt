@@ -26,11 +26,13 @@ returns : tie.Need-returns
 returns c =
     let a = c .before .before .before .before .before .before .before .before .before .before .before .before .args in
     let i = a .i in
-    let x = a .x in
-    (c .before .put-act4 .ensures .0
-    ∙ ap (λ (T : State). putAct T shownLateFinish i (x .lf)) (c .before .before .before .before .put-act3 .ensures .0
-    ∙ ap (λ (T : State). putAct T shownLateStart i (x .ls)) (c .before .before .before .before .before .before .before .put-act2 .ensures .0
-    ∙ ap (λ (T : State). putAct T shownFinish i (x .ef)) (c .before .before .before .before .before .before .before .before .before .before .put-act .ensures .0))), omega arith)
+    let x = a .x in (
+      c .before .put-act4 .ensures .0
+          ∙ ap (λ (T : State). putAct T shownLateFinish i (x .lf)) (c .before .before .before .before .put-act3 .ensures .0
+          ∙ ap (λ (T : State). putAct T shownLateStart i (x .ls)) (c .before .before .before .before .before .before .before .put-act2 .ensures .0
+          ∙ ap (λ (T : State). putAct T shownFinish i (x .ef)) (c .before .before .before .before .before .before .before .before .before .before .put-act .ensures .0))),
+      omega arith,
+    )
 
 pub put-days-spec : {M : Type 1} → statement M
 put-days-spec =

@@ -41,11 +41,13 @@ returns c =
     let i = b .args .i in
     let x = b .args .x in
     let S = stateOf (b .args .a) (b .args .l) (b .args .work .now) in
-    let f = toZ-ofZ {w = w64} {z = x .total} (record { sfits = c .before .before .before .before .before .before .before .before .before .before .before .before .before .struct-told .given .1 .1 .1 .1 .0 .1 }) in
-    (c .before .put-act3 .ensures .0
-    ∙ (λ z. putAct ((c .before .before .before .before .before .put-act2 .ensures .0
-    ∙ (λ z. putAct ((c .before .before .before .before .before .before .before .before .before .put-act .ensures .0
-    ∙ ap (λ (T : State). putAct T shownFree i (x .free)) (c .before .before .before .before .before .before .before .before .before .before .before .before .put-act-signed .ensures .0 ∙ ap (putActZ S totalFloat i) f)) z) isCritical i (c .before .before .before .before .before .before .number-of .ensures z))) z) isLongest i (c .before .before .number-of2 .ensures z)), omega arith)
+    let f = toZ-ofZ {w = w64} {z = x .total} (record { sfits = c .before .before .before .before .before .before .before .before .before .before .before .before .before .struct-told .given .1 .1 .1 .1 .0 .1 }) in (
+      c .before .put-act3 .ensures .0
+          ∙ (λ z. putAct ((c .before .before .before .before .before .put-act2 .ensures .0
+          ∙ (λ z. putAct ((c .before .before .before .before .before .before .before .before .before .put-act .ensures .0
+          ∙ ap (λ (T : State). putAct T shownFree i (x .free)) (c .before .before .before .before .before .before .before .before .before .before .before .before .put-act-signed .ensures .0 ∙ ap (putActZ S totalFloat i) f)) z) isCritical i (c .before .before .before .before .before .before .number-of .ensures z))) z) isLongest i (c .before .before .number-of2 .ensures z)),
+      omega arith,
+    )
 
 pub put-floats-spec : {M : Type 1} → statement M
 put-floats-spec =

@@ -21,10 +21,12 @@ same-length c = search needs
 
 returns : tie.Need-returns
 returns c =
-    let a = c .before .before .before .before .before .before .before .before .before .args in
-    (c .before .put-bounds .ensures .0
-    ∙ ap (λ (T : State). putBounds T (a .i) (a .x)) (c .before .before .before .before .put-floats .ensures .0
-    ∙ ap (λ (T : State). putFloats T (a .i) (a .x)) (c .before .before .before .before .before .before .before .put-days .ensures .0)), omega arith)
+    let a = c .before .before .before .before .before .before .before .before .before .args in (
+      c .before .put-bounds .ensures .0
+          ∙ ap (λ (T : State). putBounds T (a .i) (a .x)) (c .before .before .before .before .put-floats .ensures .0
+          ∙ ap (λ (T : State). putFloats T (a .i) (a .x)) (c .before .before .before .before .before .before .before .put-days .ensures .0)),
+      omega arith,
+    )
 
 pub put-shown-spec : {M : Type 1} → statement M
 put-shown-spec =

@@ -48,9 +48,13 @@ shown-of-requires c κs =
     let k = c .before .before .before .before .before .before .activity-of .result .calendar in
     let e = ap (λ (a : Activity). a .calendar) (c .before .before .before .before .before .before .activity-of .ensures) in
     let n : k ≤ b .args .contents .calendars = omega (arith, e, h .0 .named (b .args .i) (h .1)) in
-    let t = c .before .times-at .ensures in
-    (calendar-valid (record { week-is = c .before .before .before .before .week-of .ensures; at-is = c .before .before .before .exceptions-of .ensures .0; n-is = c .before .before .before .exceptions-of .ensures .1 }) (h .0 .read),
-    omega (arith, h .0 .days .is k n, h .0 .days .low k n), t .1, t .2, t .3)
+    let t = c .before .times-at .ensures in (
+      calendar-valid (record { week-is = c .before .before .before .before .week-of .ensures; at-is = c .before .before .before .exceptions-of .ensures .0; n-is = c .before .before .before .exceptions-of .ensures .1 }) (h .0 .read),
+      omega (arith, h .0 .days .is k n, h .0 .days .low k n),
+      t .1,
+      t .2,
+      t .3,
+    )
 
 returns : tie.Need-returns
 unfolding planOf
@@ -62,13 +66,15 @@ returns c =
     let a = c .before .before .before .before .before .before .before .activity-of .ensures in
     let k = c .before .before .before .before .before .before .before .activity-of .result .calendar in
     let e : k ≡ p .activity (x .i) .calendar = ap (λ (a : Activity). a .calendar) a in
-    let n : k ≤ x .contents .calendars = omega (arith, e, h .0 .named (x .i) (h .1)) in
-    (c .shown-of .ensures .0 p
-    ∙ row-is p (stateOf (x .contents .activities) (x .contents .links) (x .work .now)) (x .i) _ _ _ _ _ _ (h .2) (ap (λ (a : Activity). a .kind) a)
-    (h .0 .days .is k n ∙ ap (p .dayLength) e)
-    (calendar-worked (record { week-is = c .before .before .before .before .before .week-of .ensures; at-is = c .before .before .before .before .exceptions-of .ensures .0; n-is = c .before .before .before .before .exceptions-of .ensures .1 })
-    ∙ ap (λ (j : ℕ). worked (p .hours j)) e)
-    (c .before .before .before .recorded-at .ensures ∙ h .0 .recorded (x .i) (h .1)) (c .before .before .times-at .ensures .0), c .shown-of .ensures .1)
+    let n : k ≤ x .contents .calendars = omega (arith, e, h .0 .named (x .i) (h .1)) in (
+      c .shown-of .ensures .0 p
+          ∙ row-is p (stateOf (x .contents .activities) (x .contents .links) (x .work .now)) (x .i) _ _ _ _ _ _ (h .2) (ap (λ (a : Activity). a .kind) a)
+          (h .0 .days .is k n ∙ ap (p .dayLength) e)
+          (calendar-worked (record { week-is = c .before .before .before .before .before .week-of .ensures; at-is = c .before .before .before .before .exceptions-of .ensures .0; n-is = c .before .before .before .before .exceptions-of .ensures .1 })
+          ∙ ap (λ (j : ℕ). worked (p .hours j)) e)
+          (c .before .before .before .recorded-at .ensures ∙ h .0 .recorded (x .i) (h .1)) (c .before .before .times-at .ensures .0),
+      c .shown-of .ensures .1,
+    )
 
 pub row-of-spec : {M : Type 1} → statement M
 row-of-spec =

@@ -55,9 +55,11 @@ returns c =
     let p = planOf (x .sheet .now) (x .contents) in
     let L = c .before .before .before .before .before .before .before .before .loop in
     let e = c .before .before .before .before .show-one .ensures in
-    let T = S (c .before .before .before .before .show-one .last .1 .1 .1 .1 .1 .0) in
-    ((λ f other. shows-stop p (S (x .work .now)) (S (L .work)) T (L .i) (L .inv .3) (omega arith) _ (e .0) _ (c .before .step .given .1) (shownTo (p .activities) T) f other),
-    frame-then 20 30 0 0 (L .inv .3 .frame) (e .1), omega arith)
+    let T = S (c .before .before .before .before .show-one .last .1 .1 .1 .1 .1 .0) in (
+      (λ f other. shows-stop p (S (x .work .now)) (S (L .work)) T (L .i) (L .inv .3) (omega arith) _ (e .0) _ (c .before .step .given .1) (shownTo (p .activities) T) f other),
+      frame-then 20 30 0 0 (L .inv .3 .frame) (e .1),
+      omega arith,
+    )
 
 enum-told : tie.Need-enum-told Inv-loop μ-loop
 enum-told c = search needs

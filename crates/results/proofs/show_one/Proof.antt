@@ -27,9 +27,11 @@ returns : tie.Need-returns
 returns c =
     let x = c .before .before .before .before .before .before .before .before .before .before .before .args in
     let S = stateOf (x .contents .activities) (x .contents .links) (x .work .now) in
-    let e = c .before .put-shown .ensures in
-    (next-done S (x .i) _ (c .before .before .before .before .row .given .0 .0) _ (c .before .before .before .before .row .given .1) (e .0) ∙ ap (λ (y : Pass Shown). shownNext y (shownTo (x .i) S) (x .i)) (c .before .before .before .before .before .before .row-of .ensures .0),
-    rw (e .0) (shown-frame S (x .i) (c .before .before .before .before .row .given .0 .0)), omega arith)
+    let e = c .before .put-shown .ensures in (
+      next-done S (x .i) _ (c .before .before .before .before .row .given .0 .0) _ (c .before .before .before .before .row .given .1) (e .0) ∙ ap (λ (y : Pass Shown). shownNext y (shownTo (x .i) S) (x .i)) (c .before .before .before .before .before .before .row-of .ensures .0),
+      rw (e .0) (shown-frame S (x .i) (c .before .before .before .before .row .given .0 .0)),
+      omega arith,
+    )
 
 enum-known-row-2 : tie.Need-enum-known-row-2
 enum-known-row-2 c = search needs
@@ -40,9 +42,11 @@ same-length-2 c = search needs
 returns-2 : tie.Need-returns-2
 returns-2 c =
     let x = c .before .before .before .before .before .before .before .before .args in
-    let S = stateOf (x .contents .activities) (x .contents .links) (x .work .now) in
-    (next-refused S (x .i) _ _ S (c .before .row2 .given .1) ∙ ap (λ (y : Pass Shown). shownNext y (shownTo (x .i) S) (x .i)) (c .before .before .before .row-of .ensures .0),
-    frame-refl 20 30 0 0 S, omega arith)
+    let S = stateOf (x .contents .activities) (x .contents .links) (x .work .now) in (
+      next-refused S (x .i) _ _ S (c .before .row2 .given .1) ∙ ap (λ (y : Pass Shown). shownNext y (shownTo (x .i) S) (x .i)) (c .before .before .before .row-of .ensures .0),
+      frame-refl 20 30 0 0 S,
+      omega arith,
+    )
 
 pub show-one-spec : {M : Type 1} → statement M
 show-one-spec =

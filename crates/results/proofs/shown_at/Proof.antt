@@ -34,19 +34,21 @@ returns c =
     let t = c .before .before .before .before .before .get-act-signed in
     let e = c .before .before .before .before .get-act .ensures in
     let f = c .before .get-act4 .ensures in
-    let g = c .get-act5 .ensures in
-    ((λ z. record {
-      es = d .0 z .es;
-      ef = d .0 z .ef;
-      ls = d .0 z .ls;
-      lf = d .0 z .lf;
-      total = (toZ-ofZ {w = w64} (record { sfits = t .ok }) ∙ t .ensures) z;
-      free = e .0 z;
-      critical = ltb 0 (c .before .before .before .get-act2 .ensures .0 z);
-      path = ltb 0 (c .before .before .get-act3 .ensures .0 z);
-      finish = f .0 z;
-      late = g .0 z;
-    }), record { es = d .1 .es; ef = d .1 .ef; ls = d .1 .ls; lf = d .1 .lf; free = e .1; finish = f .1; late = g .1 })
+    let g = c .get-act5 .ensures in (
+      (λ z. record {
+        es = d .0 z .es;
+        ef = d .0 z .ef;
+        ls = d .0 z .ls;
+        lf = d .0 z .lf;
+        total = (toZ-ofZ {w = w64} (record { sfits = t .ok }) ∙ t .ensures) z;
+        free = e .0 z;
+        critical = ltb 0 (c .before .before .before .get-act2 .ensures .0 z);
+        path = ltb 0 (c .before .before .get-act3 .ensures .0 z);
+        finish = f .0 z;
+        late = g .0 z;
+      }),
+      record { es = d .1 .es; ef = d .1 .ef; ls = d .1 .ls; lf = d .1 .lf; free = e .1; finish = f .1; late = g .1 },
+    )
 
 pub shown-at-spec : {M : Type 1} → statement M
 shown-at-spec =

@@ -32,16 +32,20 @@ returns c =
     let g = c .before .before .before .before .get-act3 in
     let h = c .before .before .before .get-act4 in
     let j = c .before .before .get-act5 in
-    let k = c .before .get-act6 in
-    ((λ z. record {
-      es = e .ensures .0 z;
-      ef = f .ensures .0 z;
-      left = g .ensures .0 z;
-      ls = h .ensures .0 z;
-      lf = j .ensures .0 z;
-      free = k .ensures .0 z;
-      path = ltb 0 (c .get-act7 .ensures .0 z);
-    }), f .ensures .1, j .ensures .1, k .ensures .1)
+    let k = c .before .get-act6 in (
+      (λ z. record {
+        es = e .ensures .0 z;
+        ef = f .ensures .0 z;
+        left = g .ensures .0 z;
+        ls = h .ensures .0 z;
+        lf = j .ensures .0 z;
+        free = k .ensures .0 z;
+        path = ltb 0 (c .get-act7 .ensures .0 z);
+      }),
+      f .ensures .1,
+      j .ensures .1,
+      k .ensures .1,
+    )
 
 pub times-at-spec : {M : Type 1} → statement M
 times-at-spec =

@@ -54,9 +54,11 @@ loop-again c =
     let S = stateOf (x .contents .activities) (x .contents .links) (x .work .now) in
     let p = planOf (x .sheet .now) (x .contents) in
     let L = c .before .before .before .before .loop in
-    let g = c .before .get-act .ensures in
-    (omega arith, omega (arith, c .later .ensures, g .1, L .inv .1),
-    λ q. c .later .ensures ∙ ap (max (L .d)) (g .0) ∙ day-more p q S (L .i) (L .d) (omega (arith, c .before .before .if1 .taken)) (L .inv .2 q))
+    let g = c .before .get-act .ensures in (
+      omega arith,
+      omega (arith, c .later .ensures, g .1, L .inv .1),
+      λ q. c .later .ensures ∙ ap (max (L .d)) (g .0) ∙ day-more p q S (L .i) (L .d) (omega (arith, c .before .before .if1 .taken)) (L .inv .2 q),
+    )
 
 signed-day-of-requires : tie.Need-signed-day-of-requires Inv-loop μ-loop
 signed-day-of-requires c κs = c .before .before .loop .inv .1

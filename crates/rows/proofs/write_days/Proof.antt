@@ -65,11 +65,11 @@ returns : tie.Need-returns
 returns c =
     let s = c .before .before .before .before .args in
     λ z. storedFrom (s .results .now) (s .at) 1 (
-      (toZ-ofZ {w = w64} (record { sfits = c .before .before .before .signed-day-of .ok }) ∙ c .before .before .before .signed-day-of .ensures) z
-      ∷ (toZ-ofZ {w = w64} (record { sfits = c .before .before .signed-day-of2 .ok }) ∙ c .before .before .signed-day-of2 .ensures) z
-      ∷ (toZ-ofZ {w = w64} (record { sfits = c .before .signed-day-of3 .ok }) ∙ c .before .signed-day-of3 .ensures) z
-      ∷ (toZ-ofZ {w = w64} (record { sfits = c .signed-day-of4 .ok }) ∙ c .signed-day-of4 .ensures) z
-      ∷ []
+    (toZ-ofZ {w = w64} (record { sfits = c .before .before .before .signed-day-of .ok }) ∙ c .before .before .before .signed-day-of .ensures) z
+    ∷ (toZ-ofZ {w = w64} (record { sfits = c .before .before .signed-day-of2 .ok }) ∙ c .before .before .signed-day-of2 .ensures) z
+    ∷ (toZ-ofZ {w = w64} (record { sfits = c .before .signed-day-of3 .ok }) ∙ c .before .signed-day-of3 .ensures) z
+    ∷ (toZ-ofZ {w = w64} (record { sfits = c .signed-day-of4 .ok }) ∙ c .signed-day-of4 .ensures) z
+    ∷ []
     )
 
 pub write-days-spec : {M : Type 1} → statement M

@@ -101,13 +101,13 @@ returns c =
     let e = ap (λ (t : ℤ). wholeDays t (b .args .day-length)) (toZ-ofZ f) in
     let h = ap (λ (t : ℤ). wholeDays t (b .args .day-length)) g in
     λ z. storedFrom (b .args .results .now) (b .args .at) 5 (
-      (toZ-ofZ {w = w64} (record { sfits = c .before .before .before .in-days .ok }) ∙ c .before .before .before .in-days .ensures ∙ e) z
-      ∷ (toZ-ofZ {w = w64} (record { sfits = c .before .before .in-days2 .ok }) ∙ c .before .before .in-days2 .ensures ∙ h) z
-      ∷ toZ-ofZ f z
-      ∷ g z
-      ∷ (toZ-pos w64 (omega (arith, c .before .number-of .ensures, bit-low (x .critical))) ∙ ap pos (c .before .number-of .ensures)) z
-      ∷ (toZ-pos w64 (omega (arith, c .number-of2 .ensures, bit-low (x .path))) ∙ ap pos (c .number-of2 .ensures)) z
-      ∷ []
+    (toZ-ofZ {w = w64} (record { sfits = c .before .before .before .in-days .ok }) ∙ c .before .before .before .in-days .ensures ∙ e) z
+    ∷ (toZ-ofZ {w = w64} (record { sfits = c .before .before .in-days2 .ok }) ∙ c .before .before .in-days2 .ensures ∙ h) z
+    ∷ toZ-ofZ f z
+    ∷ g z
+    ∷ (toZ-pos w64 (omega (arith, c .before .number-of .ensures, bit-low (x .critical))) ∙ ap pos (c .before .number-of .ensures)) z
+    ∷ (toZ-pos w64 (omega (arith, c .number-of2 .ensures, bit-low (x .path))) ∙ ap pos (c .number-of2 .ensures)) z
+    ∷ []
     )
 
 pub write-floats-spec : {M : Type 1} → statement M

@@ -45,9 +45,11 @@ loop-again c =
     let S = stateOf (x .contents .activities) (x .contents .links) (x .work .now) in
     let p = planOf (x .sheet .now) (x .contents) in
     let L = c .before .before .before .before .before .loop in
-    let e = c .before .write-row .ensures in
-    (omega arith, ap length e ∙ stored-length (rowIn p S (L .i)) (L .results) (15 * L .i) 0 ∙ L .inv .1,
-    e ∙ rows-more p S (x .results .now) (L .results) (L .i) (L .inv .2) (omega (arith, b .pre .1)))
+    let e = c .before .write-row .ensures in (
+      omega arith,
+      ap length e ∙ stored-length (rowIn p S (L .i)) (L .results) (15 * L .i) 0 ∙ L .inv .1,
+      e ∙ rows-more p S (x .results .now) (L .results) (L .i) (L .inv .2) (omega (arith, b .pre .1)),
+    )
 
 same-length : tie.Need-same-length Inv-loop μ-loop
 same-length c = c .before .before .loop .inv .1

@@ -69,11 +69,11 @@ returns : tie.Need-returns
 returns c =
     let b = c .before .before .before in
     λ z. storedFrom (b .args .results .now) (b .args .at) 11 (
-      (toZ-pos w64 (omega (arith, c .before .before .status-number .ensures .1)) ∙ ap pos (c .before .before .status-number .ensures .0)) z
-      ∷ toZ-pos w64 (b .pre .1) z
-      ∷ (toZ-ofZ {w = w64} (record { sfits = c .before .minute-of .ok }) ∙ c .before .minute-of .ensures) z
-      ∷ (toZ-ofZ {w = w64} (record { sfits = c .minute-of2 .ok }) ∙ c .minute-of2 .ensures) z
-      ∷ []
+    (toZ-pos w64 (omega (arith, c .before .before .status-number .ensures .1)) ∙ ap pos (c .before .before .status-number .ensures .0)) z
+    ∷ toZ-pos w64 (b .pre .1) z
+    ∷ (toZ-ofZ {w = w64} (record { sfits = c .before .minute-of .ok }) ∙ c .before .minute-of .ensures) z
+    ∷ (toZ-ofZ {w = w64} (record { sfits = c .minute-of2 .ok }) ∙ c .minute-of2 .ensures) z
+    ∷ []
     )
 
 pub write-work-spec : {M : Type 1} → statement M
