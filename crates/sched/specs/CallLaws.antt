@@ -16,6 +16,7 @@ use Rattle.sheet.specs.declared.Sheet.the-variants.{Read}
 use Rattle.sheet.specs.Reading.{readSheet}
 use Rattle.order.specs.Plan.{Plan, planOf}
 use Rattle.order.specs.Ties.{ignoredLinks, openEnds}
+use Rattle.order.specs.TieLaws.{ignored-le}
 use Rattle.order.specs.Checks.{checked}
 use Rattle.passes.specs.Dates.{Pass, leaves, refused}
 use Rattle.passes.specs.Run.{Ran, run}
@@ -55,28 +56,37 @@ no-second true y e = e
 no-second false y e = refl
 
 module _ (a l results names work : ℕ) where
+  abbrev enough : Bool
+  enough = leb (15 * a) results
+
+  abbrev named : Bool
+  named = leb (max (a + 1) l) names
+
+  abbrev fits : Bool
+  fits = leb (64 * a + 16 * l) work
+
   abbrev pub room : Bool
   room = leb (15 * a) results && leb (max (a + 1) l) names && leb (64 * a + 16 * l) work
 
   pub room-results : results < 15 * a → false ≡ room
-  room-results h = sym (no-first (leb (15 * a) results) (leb (max (a + 1) l) names && leb (64 * a + 16 * l) work) (lt-leb (15 * a) results h))
+  room-results h = sym (no-first (enough && named) fits (no-first enough named (lt-leb (15 * a) results h)))
 
   pub room-names : names < max (a + 1) l → false ≡ room
-  room-names h = sym (no-second (leb (15 * a) results) (leb (max (a + 1) l) names && leb (64 * a + 16 * l) work) (no-first (leb (max (a + 1) l) names) (leb (64 * a + 16 * l) work) (lt-leb (max (a + 1) l) names h)))
+  room-names h = sym (no-first (enough && named) fits (no-second enough named (lt-leb (max (a + 1) l) names h)))
 
   pub room-work : work < 64 * a + 16 * l → false ≡ room
-  room-work h = sym (no-second (leb (15 * a) results) (leb (max (a + 1) l) names && leb (64 * a + 16 * l) work) (no-second (leb (max (a + 1) l) names) (leb (64 * a + 16 * l) work) (lt-leb (64 * a + 16 * l) work h)))
+  room-work h = sym (no-second (enough && named) fits (lt-leb (64 * a + 16 * l) work h))
 
   pub room-all : 15 * a ≤ results → max (a + 1) l ≤ names → 64 * a + 16 * l ≤ work → true ≡ room
   room-all h k m =
-      sym (both (leb (15 * a) results) (leb (max (a + 1) l) names && leb (64 * a + 16 * l) work) (le-leb (15 * a) results h) (both (leb (max (a + 1) l) names) (leb (64 * a + 16 * l) work) (le-leb (max (a + 1) l) names k) (le-leb (64 * a + 16 * l) work m)))
+      sym (both (enough && named) fits (both enough named (le-leb (15 * a) results h) (le-leb (max (a + 1) l) names k)) (le-leb (64 * a + 16 * l) work m))
 
   -- and back
   pub room-has : room ≡ true → (15 * a ≤ results) × (max (a + 1) l ≤ names) × (64 * a + 16 * l ≤ work)
   room-has e = (
-    leb-true (15 * a) results (first (leb (15 * a) results) (leb (max (a + 1) l) names && leb (64 * a + 16 * l) work) e),
-    leb-true (max (a + 1) l) names (first (leb (max (a + 1) l) names) (leb (64 * a + 16 * l) work) (second (leb (15 * a) results) (leb (max (a + 1) l) names && leb (64 * a + 16 * l) work) e)),
-    leb-true (64 * a + 16 * l) work (second (leb (max (a + 1) l) names) (leb (64 * a + 16 * l) work) (second (leb (15 * a) results) (leb (max (a + 1) l) names && leb (64 * a + 16 * l) work) e)),
+    leb-true (15 * a) results (first enough named (first (enough && named) fits e)),
+    leb-true (max (a + 1) l) names (second enough named (first (enough && named) fits e)),
+    leb-true (64 * a + 16 * l) work (second (enough && named) fits e),
   )
     where
       first : (x y : Bool) → x && y ≡ true → x ≡ true
@@ -105,6 +115,13 @@ pub record LentAs (m : Lent) (p : Plan) (results : List ℤ) (names : List ℕ) 
   pub names-is : names ≡ thenZeros (ignoredLinks p) (m .names)
   pub names-length : length names ≡ length (m .names)
   pub work-length : length work ≡ length (m .work)
+
+-- the answer of an accepted plan and the rows that are written
+pub record AcceptedAs (p : Plan) (ran : Ran) (f : ℕ → Shown) (n o : ℕ) (results rows : List ℤ) (r : Answer) : Type 0 where
+  pub day : ℤ
+  pub day-is : day ≡ signedDayOf (finishDay p ran f (p .activities))
+  pub is : r ≡ Accepted day (p .activities) n o
+  pub rows-is : rows ≡ rowsBelow p ran f (p .activities) ++ drop (15 * p .activities) results
 
 -- ---- the ways of a plan that was read and has room
 module _ (m : Lent) (p : Plan) where
@@ -168,3 +185,55 @@ module _ (s : List ℕ) (m : Lent) where
     pub planned-is : roomFor m c ≡ true → planned m (planOf s c) ≡ outcome s m
     unfolding outcome
     planned-is e = sym (on-true (roomFor m c) (planned m (planOf s c)) (untouched m 1) e) ∙ sym (ap (readWith s m) read)
+
+-- ---- the ways after the checks: what was lent to the call is m
+module _ (m : Lent) (p : Plan) {results₀ : List ℤ} {names₀ : List ℕ} {work₀ : List ℤ} (L : LentAs m p results₀ names₀ work₀) (fine : checked p .number ≡ 0) where
+  cleared-names : (names : List ℕ) → names ≡ replicate (length names₀) 0 → names ≡ replicate (length (m .names)) 0
+  cleared-names names e = e ∙ ap (λ (k : ℕ). replicate k 0) (L .names-length)
+
+  cleared-work : (work₁ work : List ℤ) → length work₁ ≡ length work₀ → work ≡ zeros work₁ → work ≡ zeros (m .work)
+  cleared-work work₁ work k e = e ∙ ap (λ (k : ℕ). replicate k (pos 0)) (k ∙ L .work-length)
+
+  answered-as : (r r′ : Answer) (names : List ℕ) (work : List ℤ) → r ≡ r′ → endedWith r results₀ names work ≡ endedWith r′ (m .results) names work
+  answered-as r r′ names work e = λ z. endedWith (e z) (L .results-is z) names work
+
+  -- a walk of the passes is refused; work₁ is what the passes leave
+  pub run-refuses : (r : Answer) (k : ℕ) (names : List ℕ) (work₁ work : List ℤ) → run p ≡ refused k → r ≡ Answer.Refused k 0 → names ≡ replicate (length names₀) 0
+      → length work₁ ≡ length work₀ → work ≡ zeros work₁ → endedWith r results₀ names work ≡ planned m p
+  run-refuses r k names work₁ work q e f g h =
+      answered-as r (Answer.Refused k 0) names work e ∙ planned-passes m p fine k names work q (cleared-names names f) (cleared-work work₁ work g h)
+
+  module _ (ran : Ran) (runs : run p ≡ leaves ran) where
+    -- a walk of the results is refused
+    pub show-refuses : (r : Answer) (k : ℕ) (names : List ℕ) (work₁ work : List ℤ) → results p ran ≡ refused k → r ≡ Answer.Refused k 0 → names ≡ replicate (length names₀) 0
+        → length work₁ ≡ length work₀ → work ≡ zeros work₁ → endedWith r results₀ names work ≡ planned m p
+    show-refuses r k names work₁ work q e f g h =
+        answered-as r (Answer.Refused k 0) names work e ∙ planned-results m p fine ran runs k names work q (cleared-names names f) (cleared-work work₁ work g h)
+
+    -- nothing is refused
+    pub show-accepts : (f : ℕ → Shown) → results p ran ≡ leaves f → (r : Answer) (day : ℤ) (a n o : ℕ) (rows : List ℤ) (work₁ work : List ℤ) → r ≡ Accepted day a n o
+        → day ≡ signedDayOf (finishDay p ran f (p .activities)) → a ≡ p .activities → n ≡ length (ignoredLinks p) → o ≡ openEnds p
+        → rows ≡ rowsBelow p ran f (p .activities) ++ drop (15 * p .activities) results₀ → length work₁ ≡ length work₀ → work ≡ zeros work₁
+        → endedWith r rows names₀ work ≡ planned m p
+    show-accepts f q r day a n o rows work₁ work e e1 e2 e3 e4 e5 g h =
+        (λ z. endedWith (e z) rows names₀ work)
+        ∙ planned-accepted m p fine ran runs f q day a n o rows names₀ work e1 e2 e3 e4
+        (e5 ∙ ap (λ (xs : List ℤ). rowsBelow p ran f (p .activities) ++ drop (15 * p .activities) xs) (L .results-is)) (L .names-is) (cleared-work work₁ work g h)
+
+-- ---- a plan of the sheet: its counts are the contents'
+module _ (s : List ℕ) (c : Contents) where
+  pub accepted-as : {ran : Ran} {f : ℕ → Shown} {n o : ℕ} {results rows : List ℤ} {r : Answer} (day : ℤ) → day ≡ signedDayOf (finishDay (planOf s c) ran f (c .activities))
+      → r ≡ Accepted day (c .activities) n o → rows ≡ rowsBelow (planOf s c) ran f (c .activities) ++ drop (15 * c .activities) results
+      → AcceptedAs (planOf s c) ran f n o results rows r
+  unfolding planOf
+  accepted-as day e g h = record { day = day; day-is = e; is = g; rows-is = h }
+
+  -- the ignored links fit into the names
+  pub names-kept : (names after : List ℕ) → max (c .activities + 1) (c .links) ≤ length names → after ≡ thenZeros (ignoredLinks (planOf s c)) names → length after ≡ length names
+  unfolding planOf
+  names-kept names after l e =
+      ap length e ∙ then-length (ignoredLinks (planOf s c)) names (omega (arith, ignored-le (planOf s c) (c .links)))
+
+  pub room-for : (m : Lent) → room (c .activities) (c .links) (length (m .results)) (length (m .names)) (length (m .work)) ≡ roomFor m c
+  unfolding roomFor
+  room-for m = refl

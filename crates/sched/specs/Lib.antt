@@ -1,6 +1,7 @@
 -- The scheduling call.
 pub mod Outcome
 pub mod CallLaws
+pub mod ShownLaws
 pub mod Refusals
 pub mod RunRefusals
 pub mod RowLaws
