@@ -71,7 +71,6 @@ pub const FIRST_CHILD: usize = 33;
 
 pub const NEXT_CHILD: usize = 34;
 
-
 // ---- kept links
 pub const FROM: usize = 0;
 

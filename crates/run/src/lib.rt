@@ -22,13 +22,7 @@ pub enum Late {
 }
 
 // The work left, and then the early dates.
-fn early_dates(
-    sheet: &[u8],
-    contents: Contents,
-    places: &[u64],
-    t: usize,
-    work: &mut [i64],
-) -> Step
+fn early_dates(sheet: &[u8], contents: Contents, places: &[u64], t: usize, work: &mut [i64]) -> Step
     requires { ⌜ Ready (now sheet) contents (now places) t (now work) ⌝ }
     ensures { λ r. ⌜ (ended (earlyIn (planOf (now (sheet .entry)) contents) (stateOf (contents .activities) (contents .links) (now (work .exit)))) r ≡ earlyDates (planOf (now (sheet .entry)) contents)) × (r ≡ Done → Recorded (planOf (now (sheet .entry)) contents) (stateOf (contents .activities) (contents .links) (now (work .exit)))) × Frame 12 20 0 0 (stateOf (contents .activities) (contents .links) (now (work .entry))) (stateOf (contents .activities) (contents .links) (now (work .exit))) × (length (now (work .exit)) ≡ length (now (work .entry))) ⌝ }
 {
@@ -119,13 +113,7 @@ fn late_and_floats(
 }
 
 // The passes, one after the other: the end of the project, or the refusal of a walk.
-pub fn run(
-    sheet: &[u8],
-    contents: Contents,
-    places: &[u64],
-    t: usize,
-    work: &mut [i64],
-) -> Late
+pub fn run(sheet: &[u8], contents: Contents, places: &[u64], t: usize, work: &mut [i64]) -> Late
     requires { ⌜ Ready (now sheet) contents (now places) t (now work) ⌝ }
     ensures { λ r. ⌜ RunIn (planOf (now (sheet .entry)) contents) (stateOf (contents .activities) (contents .links) (now (work .exit))) r × ((e : ℕ) → r ≡ By e → Recorded (planOf (now (sheet .entry)) contents) (stateOf (contents .activities) (contents .links) (now (work .exit)))) × Frame 10 20 0 0 (stateOf (contents .activities) (contents .links) (now (work .entry))) (stateOf (contents .activities) (contents .links) (now (work .exit))) × (length (now (work .exit)) ≡ length (now (work .entry))) ⌝ }
 {

@@ -2,6 +2,8 @@
 pub mod Outcome
 pub mod CallLaws
 pub mod ShownLaws
+pub mod InC
+pub mod InCLaws
 pub mod Refusals
 pub mod RunRefusals
 pub mod RowLaws

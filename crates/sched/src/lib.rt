@@ -23,6 +23,8 @@ ghost use Rattle.checks.specs.Names.{thenZeros};
 ghost use Rattle.sched.specs.Outcome.{Lent, planned, outcome};
 ghost use Rattle.sched.specs.CallLaws.{endedWith, zeros, LentAs, AcceptedAs};
 
+pub mod c;
+
 // What a call answers: the finish day, and how many activities, ignored links and open ends there are; or the number and the id of a refusal.
 pub enum Answer {
     Accepted(i64, u64, u64, u64),
@@ -127,7 +129,19 @@ fn run_plan(
             return refuse(names, work, k);
         }
         Late::By(last) => {
-            return show_plan(sheet, contents, places, lengths, t, last, ignored, ends, results, names, work);
+            return show_plan(
+                sheet,
+                contents,
+                places,
+                lengths,
+                t,
+                last,
+                ignored,
+                ends,
+                results,
+                names,
+                work,
+            );
         }
     }
 }
@@ -150,7 +164,18 @@ fn plan_at(
             return Answer::Refused(number, id);
         }
         Checked::Fine(t, ignored, ends) => {
-            return run_plan(sheet, contents, places, lengths, t, ignored, ends, results, names, work);
+            return run_plan(
+                sheet,
+                contents,
+                places,
+                lengths,
+                t,
+                ignored,
+                ends,
+                results,
+                names,
+                work,
+            );
         }
     }
 }
@@ -173,12 +198,7 @@ fn plan_sheet(
 }
 
 // The scheduling call.
-pub fn schedule(
-    sheet: &[u8],
-    results: &mut [i64],
-    names: &mut [u32],
-    work: &mut [i64],
-) -> Answer
+pub fn schedule(sheet: &[u8], results: &mut [i64], names: &mut [u32], work: &mut [i64]) -> Answer
     ensures { λ r. ⌜ endedWith r (now (results .exit)) (now (names .exit)) (now (work .exit)) ≡ outcome (now (sheet .entry)) (record { results = now (results .entry); names = now (names .entry); work = now (work .entry) }) ⌝ }
 {
     match sheet::read(sheet) {

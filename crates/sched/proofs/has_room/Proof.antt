@@ -35,7 +35,7 @@ returns-4 : tie.Need-returns-4
 returns-4 c = let x = c .before .before .before .before .args in room-work (x .contents .activities) (x .contents .links) (x .results) (x .names) (x .work) (omega (arith, c .if4 .taken))
 
 returns-5 : tie.Need-returns-5
-returns-5 c = 
+returns-5 c =
     let x = c .before .before .before .before .args in
     room-all (x .contents .activities) (x .contents .links) (x .results) (x .names) (x .work) (omega (arith, c .before .before .before .if1 .left)) (omega (arith, c .before .before .if2 .left, c .before .if3 .left)) (omega (arith, c .if4 .left))
 

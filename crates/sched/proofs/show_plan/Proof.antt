@@ -53,8 +53,8 @@ accept-requires c κs =
     let x = s .args in
     let shown = c .before .before .before .before .before .results in (
       to-write
-      (ready-after (x .sheet .now) (x .contents) (x .places .now) (x .t) (x .work .now) (shown .last .1 .1 .1 .1 .1 .0) (omega arith) (s .pre .0) (shown .ensures .2) (shown .ensures .1))
-      (s .pre .2) (recorded-after (planOf (x .sheet .now) (x .contents)) (shown .ensures .1) refl refl refl (s .pre .1)),
+          (ready-after (x .sheet .now) (x .contents) (x .places .now) (x .t) (x .work .now) (shown .last .1 .1 .1 .1 .1 .0) (omega arith) (s .pre .0) (shown .ensures .2) (shown .ensures .1))
+          (s .pre .2) (recorded-after (planOf (x .sheet .now) (x .contents)) (shown .ensures .1) refl refl refl (s .pre .1)),
       s .pre .3,
     )
 
