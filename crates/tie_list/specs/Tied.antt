@@ -1,4 +1,4 @@
--- The ties of a slice as links, and what it is to count them.
+-- The ties of a slice as links, and what it is that the first of them are counted.
 use mathlib.Core.Path.{_≡_}
 use mathlib.Core.List.{List, map}
 use Prim.Native.Nat.{ℕ, _+_, _<_}
@@ -11,8 +11,8 @@ abbrev pub noTie : Tie
 noTie = record { from = 0; to = 0 }
 
 -- where tie k leads
-abbrev pub toAt : List Tie → ℕ → ℕ
-toAt ts k = getD ts k noTie .to
+abbrev pub leadsTo : List Tie → ℕ → ℕ
+leadsTo ts k = getD ts k noTie .to
 
 abbrev pub linkOf : Tie → Link
 linkOf t = record { from = t .from; to = t .to }
@@ -26,4 +26,4 @@ oneMore cs to = set cs to (getD cs to 0 + 1)
 
 -- the first k ties are counted
 abbrev pub Counted : List Tie → ℕ → List ℕ → Type 0
-Counted ts k cs = (i : ℕ) → i < length cs → getD cs i 0 ≡ into (linksOf (take k ts)) i
+Counted ts k cs = (i : ℕ) → i < length cs → getD cs i 0 ≡ into (take k (linksOf ts)) i
