@@ -1,6 +1,7 @@
 //! The scheduling call's C form, and the memory that is lent to it before and after.
 
 use crate::oracle::{Answer, Lent, answer};
+use crate::read::read;
 
 /// The call in C; each slice is a pointer with its count of elements:
 ///
@@ -108,6 +109,14 @@ pub fn invoke(
             answer.len(),
         );
     }
+}
+
+/// Calls so many times and does nothing else that takes time, for a profiler; gives the last call's answer.
+pub fn repeat(schedule: Schedule, sheet: &[u8], rounds: usize) -> Vec<i64> {
+    let need = read(sheet).map_or(Lent::need(0, 0), |s| Lent::need(s.activities.len(), s.links.len()));
+    let mut memory = Memory::zeros(&need);
+    (0..rounds).for_each(|_| memory.call(schedule, sheet));
+    memory.answer
 }
 
 /// The oracle behind the C form.

@@ -1,9 +1,9 @@
 //! Sheets by seed and number: every theme comes round at fixed numbers, its details are random.
 
-mod calendars;
+pub(crate) mod calendars;
 mod edges;
-mod plans;
-mod random;
+pub(crate) mod plans;
+pub(crate) mod random;
 mod refusals;
 mod sheet_faults;
 

@@ -1,5 +1,6 @@
 //! Compares the scheduler with the Rust that it is a port of, over plan sheets.
 
+pub mod bench;
 pub mod call;
 pub mod cases;
 pub mod corpus;
@@ -16,3 +17,4 @@ pub mod record;
 pub mod recorded;
 pub mod statistics;
 pub mod text;
+pub mod timing;

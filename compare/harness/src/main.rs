@@ -3,9 +3,9 @@
 use std::io::{Read, Write};
 use std::process::ExitCode;
 
-use compare::call::OURS;
+use compare::call::{self, OURS};
 use compare::corpus::Corpus;
-use compare::{faults, in_process, minimise, oracle, program, ratio, recorded, statistics, text};
+use compare::{bench, faults, in_process, minimise, oracle, program, ratio, recorded, statistics, text};
 
 const USAGE: &str = "\
 compare answer [--names | --plan] [SHEET]  the oracle's answer as `plan` prints it, with enough memory lent;
@@ -19,7 +19,12 @@ compare program PROGRAM CORPUS             compares a program like `plan`
 compare library CORPUS                     compares the linked library in process, all memory before and after
 compare faults CORPUS                      how many sheets see each deliberate fault
 compare minimise (PROGRAM | --library | --fault NAME) [SHEET]   a smaller sheet that still differs, as text
-compare ratio ROUNDS [SHEET]               times of `schedule` and of the linked library
+compare ratio ROUNDS [SHEET]               times of `schedule` and of the linked library, and ours/Rust
+compare bench [SECONDS [PART]]             tables of such ratios over plans of many sizes and spans: SECONDS (0.3) for
+                                           each call on each sheet, only sheets whose names hold PART
+compare bench --sheets FOLDER              writes the benchmark's sheets, named PLAN-ACTIVITIES-LINKS-EXCEPTIONS
+compare call ROUNDS [SHEET]                only calls the linked library, to be profiled, say by
+                                           `valgrind --tool=callgrind --toggle-collect=neakspuoy_schedule`
 compare record FILE                        writes the recorded answers
 A CORPUS is a file, SEED:COUNT, or `bytes`: a small plan cut everywhere and with every byte at every value.
 A SHEET or TEXT that isn't named is read from standard input.
@@ -106,6 +111,16 @@ fn run(words: &[&str]) -> Outcome {
         ["ratio", rounds, sheet @ ..] => {
             let rounds = rounds.parse().map_err(|_| USAGE)?;
             ratio::print(OURS, &input(sheet)?, rounds).map(|()| ExitCode::SUCCESS)
+        }
+        ["bench", "--sheets", folder] => done(bench::write(folder)),
+        ["bench", words @ ..] if words.len() <= 2 => {
+            let seconds = words.first().map_or(Ok(bench::SECONDS), |w| w.parse().map_err(|_| USAGE))?;
+            let part = words.get(1).copied().unwrap_or_default();
+            bench::print(OURS, seconds, part).map(|()| ExitCode::SUCCESS)
+        }
+        ["call", rounds, sheet @ ..] => {
+            let rounds = rounds.parse().map_err(|_| USAGE)?;
+            print(format!("{:?}\n", call::repeat(OURS, &input(sheet)?, rounds)).as_bytes())
         }
         ["record", file] => {
             let (list, count) = recorded::list();

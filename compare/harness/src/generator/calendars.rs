@@ -34,7 +34,7 @@ fn periods(r: &mut Random, count: usize) -> Vec<(u16, u16)> {
     made
 }
 
-fn week(days: impl Iterator<Item = i32>, hours: &[(u16, u16)]) -> Vec<Hours> {
+pub fn week(days: impl Iterator<Item = i32>, hours: &[(u16, u16)]) -> Vec<Hours> {
     days.flat_map(|day| hours.iter().map(move |&(from, to)| Hours { day, from, to })).collect()
 }
 

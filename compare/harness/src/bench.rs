@@ -1,0 +1,110 @@
+//! The benchmark: the Rust and the compared call on plans of every size and span, as tables in Markdown.
+
+pub mod sheets;
+
+use std::path::Path;
+
+use crate::call::Schedule;
+use crate::in_process::differs;
+use crate::oracle::{Answer, answer};
+use crate::read::MAX_EXCEPTIONS;
+use crate::timing::{Rounds, Time, Times, shown, times};
+use sheets::{Case, GROWTH, Kind, SPANS, START, cases};
+
+/// Seconds for each call on each sheet, where the command line names none.
+pub const SECONDS: f64 = 0.3;
+
+/// Writes the sheets, each in a file of its name.
+pub fn write(folder: &str) -> std::io::Result<()> {
+    std::fs::create_dir_all(folder)?;
+    cases().iter().try_for_each(|c| std::fs::write(Path::new(folder).join(c.name() + ".sheet"), c.bytes()))
+}
+
+/// How busy the machine is, where it says so.
+fn print_load(when: &str) {
+    if let Ok(load) = std::fs::read_to_string("/proc/loadavg") {
+        println!("Load {when}: {}.", load.split_whitespace().take(3).collect::<Vec<_>>().join(" "));
+    }
+}
+
+fn thousands(number: usize) -> String {
+    if number < 1_000 { number.to_string() } else { format!("{},{:03}", number / 1_000, number % 1_000) }
+}
+
+fn size((activities, links): (usize, usize)) -> String {
+    format!("{}/{}", thousands(activities), thousands(links))
+}
+
+/// Least and median.
+fn cell(time: Time) -> String {
+    format!("{} ({})", shown(time.least), shown(time.median))
+}
+
+/// Ours to the Rust's, by the least and by the median.
+fn ratio(ours: Time, rust: Time) -> String {
+    format!("{:.2} ({:.2})", ours.least / rust.least, ours.median / rust.median)
+}
+
+/// Times the sheets whose names hold `part`, after comparing the answers and all memory with the oracle.
+pub fn print(schedule: Schedule, seconds: f64, part: &str) -> Result<(), String> {
+    if !cfg!(feature = "sched") {
+        println!("Built without the feature `sched`: ours is the oracle.\n");
+    }
+    print_load("before");
+    println!("Times are the least (the median) of many rounds; ratios are ours/Rust, so 1 or less isn't slower.\n");
+    println!(
+        "| plan | activities/links | E | days | Rust `schedule` | Rust with reading | ours | ours/`schedule` | ours/with reading |"
+    );
+    println!("|---|--:|--:|--:|--:|--:|--:|--:|--:|");
+    let mut timed: Vec<(Case, Times)> = Vec::new();
+    for case in cases().into_iter().filter(|c| c.name().contains(part)) {
+        let bytes = case.bytes();
+        let verdict = answer(&bytes);
+        let Answer::Accepted { finish, .. } = verdict.answer else {
+            return Err(format!("{}: the oracle refuses it", case.name()));
+        };
+        if let Some(what) = differs(schedule, &bytes, &verdict) {
+            return Err(format!("{}: {what}", case.name()));
+        }
+        let t = times(schedule, &bytes, Rounds::Seconds(seconds))?;
+        println!(
+            "| {} | {} | {} | {} | {} | {} | {} | {} | {} |",
+            case.plan(),
+            size(case.size),
+            case.exceptions,
+            finish - i64::from(START),
+            cell(t.rust),
+            cell(t.with_reading),
+            cell(t.ours),
+            ratio(t.ours, t.rust),
+            ratio(t.ours, t.with_reading),
+        );
+        timed.push((case, t));
+    }
+    print_growth(&timed);
+    print_load("after");
+    Ok(())
+}
+
+/// Prints how many times as long 8 times the activities and links take.
+fn print_growth(timed: &[(Case, Times)]) {
+    let find = |case: Case| timed.iter().find(|(c, _)| *c == case).map(|(_, t)| t);
+    let row = |kind: Kind, exceptions: usize, from: (usize, usize), to: (usize, usize)| {
+        let [a, b] = [from, to].map(|size| Case { kind, size, exceptions });
+        let (less, more) = (find(a)?, find(b)?);
+        let times = |of: fn(&Times) -> Time| format!("{:.1}", of(more).least / of(less).least);
+        let (ours, rust, reading) = (times(|t| t.ours), times(|t| t.rust), times(|t| t.with_reading));
+        let (from, to) = (size(from), size(to));
+        Some(format!("| {} | {exceptions} | {from} | {to} | {ours} | {rust} | {reading} |", a.plan()))
+    };
+    let sorts = SPANS.into_iter().flat_map(|kind| [(kind, 0), (kind, MAX_EXCEPTIONS)]);
+    let rows: Vec<String> =
+        sorts.flat_map(|(kind, e)| GROWTH.windows(2).filter_map(move |w| row(kind, e, w[0], w[1]))).collect();
+    if !rows.is_empty() {
+        println!("\nHow many times as long 8 times the activities and links take, by the least times:\n");
+        println!("| plan | E | from | to | ours | Rust `schedule` | Rust with reading |");
+        println!("|---|--:|--:|--:|--:|--:|--:|");
+        rows.iter().for_each(|r| println!("{r}"));
+    }
+    println!();
+}
