@@ -125,8 +125,8 @@ fn run_plan(
     ensures { λ r. ⌜ ((m : Lent) → LentAs m (planOf (now (sheet .entry)) contents) (now (results .entry)) (now (names .entry)) (now (work .entry)) → endedWith r (now (results .exit)) (now (names .exit)) (now (work .exit)) ≡ planned m (planOf (now (sheet .entry)) contents)) ⌝ }
 {
     match run::run(sheet, contents, places, t, work) {
-        Late::Refused(k) => {
-            return refuse(names, work, k);
+        Late::Refused(number) => {
+            return refuse(names, work, number);
         }
         Late::By(last) => {
             return show_plan(

@@ -13,8 +13,8 @@ use Rattle.sched.proofs.run_plan.Tie as tie
 run-requires : tie.Need-run-requires
 run-requires c κs = search needs
 
-enum-known-k : tie.Need-enum-known-k
-enum-known-k c = search needs
+enum-known-number : tie.Need-enum-known-number
+enum-known-number c = search needs
 
 refuse-requires : tie.Need-refuse-requires
 refuse-requires c κs = search needs
@@ -32,7 +32,7 @@ returns c =
     let p = planOf (x .sheet .now) (x .contents) in
     let ran = c .before .before .before .before .before .before .before .before .before .before .run in
     let call = c .before .before .before .refuse in
-    let g = c .before .before .before .before .before .before .before .k .given in
+    let g = c .before .before .before .before .before .before .before .number .given in
     λ m L.
     run-refuses m p L (s .pre .0 .fine) (call .result) (g .0 .0) (call .last .0) (ran .last .1 .1 .1 .1 .0) (call .last .1 .0) (subst (RunIn p (stateOf (x .contents .activities) (x .contents .links) (ran .last .1 .1 .1 .1 .0))) (g .1) (ran .ensures .0)) (call .ensures .0) (call .ensures .1)
     (ran .ensures .3) (call .ensures .2)
@@ -78,7 +78,7 @@ run-plan-spec =
     tie.close
     (tie.spec
     run-requires
-    enum-known-k
+    enum-known-number
     refuse-requires
     same-length
     same-length-2

@@ -28,7 +28,7 @@ use Rattle.order.specs.Ids.{known, indexFrom, indexOf, parentOf, parentAmong, s
 use Rattle.order.specs.Lags.{workingCalendar, lagCalendar, lagMinutes, lagBefore, lagTooLong}
 use Rattle.order.specs.Ties.{ignored, tieCalendar, tieTooLong, endsBelow}
 use Rattle.order.specs.Checks.{orElse, firstOf, judgeCalendar, judgeActivity, judgeParent, judgeSummary, judgeLink, judgeOrder, beforeOrdering, checked}
-use Rattle.sched.specs.Example.{workday, exampleWeek, task, tasks, example}
+use Rattle.demands.specs.Example.{workday, exampleWeek, task, tasks, example}
 
 -- what an instance is about
 pub data Value : Type 0 where

@@ -34,12 +34,12 @@ use Rattle.timetable.specs.Rules.{Obeys}
 use Rattle.timetable.specs.Fit.{Fit}
 use Rattle.timetable.specs.Demand.{run-obeys, run-first}
 use Rattle.timetable.specs.SheetPlan.{sheet-momentary, sheet-activities}
 use Rattle.sched.specs.declared.Answer.{Answer}
 use Rattle.sched.specs.declared.Answer.the-variants.{Accepted}
 use Rattle.checks.specs.Names.{thenZeros}
 use Rattle.sched.specs.Outcome.{Lent, Ended, refusedWith, untouched, accepted, shownWith, ranWith, planned, roomFor, readWith, outcome}
-use Rattle.sched.specs.RunRefusals.{PassEight, run-eight, results-eight}
-use Rattle.sched.specs.RowLaws.{start-shown}
+use Rattle.demands.specs.RunRefusals.{PassEight, run-eight, results-eight}
+use Rattle.demands.specs.RowLaws.{start-shown}
 
 -- 01's number of an answer: 0 for an accepted plan
 abbrev pub numberOf : Answer → ℕ

@@ -39,7 +39,7 @@ use Rattle.passes.specs.Floats as flo
 use Rattle.passes.specs.Run.{Ran, remaining, early₀, forwardPass, backwardPass, freePass, pathPass, run}
 use Rattle.results.specs.declared.Shown.{Shown}
 use Rattle.results.specs.Results.{shownDay, startMinute, finishMinute, totalOf, shown, shownBelow, deepestFirst, childrenBelow, leastOf, greatestOf, someOf, rolledFrom, rolled, results}
-use Rattle.sched.specs.Refusals.{WalkEight, WorkEight, ActualEight, MomentEight, either, follows, then-walk, read-day, next-start-eight, previous-finish-eight, advance-eight, retreat-eight, shift-eight, between-eight, place-start-eight, start-for-finish-eight, place-finish-eight, finish-for-start-eight, finish-for-start-by-eight, constraint-eight, actual-eight, bounded-eight}
+use Rattle.demands.specs.Refusals.{WalkEight, WorkEight, ActualEight, MomentEight, either, follows, then-walk, read-day, next-start-eight, previous-finish-eight, advance-eight, retreat-eight, shift-eight, between-eight, place-start-eight, start-for-finish-eight, place-finish-eight, finish-for-start-eight, finish-for-start-by-eight, constraint-eight, actual-eight, bounded-eight}
 
 -- the refusal's number, and 8 where there is none
 abbrev pub rowOr8 : {A : Type 0} → Pass A → ℕ

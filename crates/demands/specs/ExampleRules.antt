@@ -15,7 +15,7 @@ use Rattle.timetable.specs.Rules.{Obeys}
 use Rattle.timetable.specs.Fit.{Fit, Marks}
 use Rattle.timetable.specs.Earliest.{Momentary}
 use Rattle.timetable.specs.Demand.{run-obeys, earlier-disobeys}
-use Rattle.sched.specs.Example.{workday, exampleWeek, task, tasks, example}
+use Rattle.demands.specs.Example.{workday, exampleWeek, task, tasks, example}
 use Rattle.worktime.specs.Walks.{reads, least, nextStart, greatest, previousFinish, nextFinish, workingAt, previousStart, startBy, forward, advance, backward, retreat, shift, spanned, workFrom, between, dayWork, workedBefore}
 use Rattle.worktime.specs.Worked.{count, closing}
 use Rattle.date.specs.Years.{inYears}
