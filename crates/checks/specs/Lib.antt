@@ -2,12 +2,14 @@
 pub mod Names
 pub mod Column
 pub mod StoredLinks
+pub mod Elsewhere
 pub mod Stages
 pub mod NameLaws
 pub mod ColumnLaws
 pub mod ClimbLaws
 pub mod OpenSteps
 pub mod OrderSteps
+pub mod RestSteps
 pub mod StageLaws
 pub mod IdsSteps
 pub mod LinksSteps

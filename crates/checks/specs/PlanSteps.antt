@@ -22,6 +22,7 @@ module _ (s : List ℕ) (c : Contents) (places names : List ℕ) (work : List �
   whole (Fine t n o) h = record {
     fine = h .fine;
     ready = record { read = read; room = room (h .kept); located = located; fine = h .fine; standing = h .standing };
+    elsewhere = h .elsewhere;
     named = h .named;
     ignored = h .ignored;
     ends = h .ends;

@@ -21,6 +21,7 @@ use Rattle.dates.specs.Standing.{Standing, Ready}
 use Rattle.checks.specs.declared.Checked.{Checked}
 use Rattle.checks.specs.declared.Checked.the-variants.{Fine, Refused}
 use Rattle.checks.specs.Names.{thenZeros}
+use Rattle.checks.specs.Elsewhere.{Elsewhere}
 
 -- ---- the verdicts of the parts
 module _ (p : Plan) where
@@ -53,6 +54,7 @@ module _ (p : Plan) (v : Verdict) (size room : ℕ) (names : List ℕ) (work : L
   pub record FineAs (t n o : ℕ) : Type 0 where
     pub fine : v .number ≡ 0
     pub standing : Standing p t (stateOf (p .activities) (p .links) work)
+    pub elsewhere : Elsewhere (p .activities) (p .links) t work
     pub named : names ≡ ignoredLinks p ++ replicate (size - length (ignoredLinks p)) 0
     pub ignored : n ≡ length (ignoredLinks p)
     pub ends : o ≡ openEnds p
@@ -75,6 +77,7 @@ module _ (s : List ℕ) (c : Contents) (places names : List ℕ) (work : List �
   pub record PlanFine (t n o : ℕ) : Type 0 where
     pub fine : checked (planOf s c) .number ≡ 0
     pub ready : Ready s c places t work′
+    pub elsewhere : Elsewhere (c .activities) (c .links) t work′
     pub named : names′ ≡ thenZeros (ignoredLinks (planOf s c)) names
     pub ignored : n ≡ length (ignoredLinks (planOf s c))
     pub ends : o ≡ openEnds (planOf s c)

@@ -128,7 +128,8 @@ fn refuse_loop(names: &[u32], work: &mut [i64], number: u64) -> Checked
     Checked::Refused(number, names[0] as u64)
 }
 
-// Row 15: the order by the `t` kept links, which are stored; then the plan is ready, or the loop is named. The names hold the `n` ignored links.
+// Row 15: the order by the `t` kept links, which are stored; then the plan is ready and the rest of the memory cleared, or the loop is named. The names hold the
+// `n` ignored links.
 fn check_order(
     sheet: &[u8],
     contents: Contents,
@@ -143,6 +144,7 @@ fn check_order(
     let a = contents.activities;
     let l = contents.links;
     if topology::order_activities(work, a, l, t) == a {
+        rest::clear_rest(work, a, l, t);
         return Checked::Fine(t, n, open_ends(sheet, contents, work, t));
     }
     let m = topology::name_loop(work, a, l, t);
@@ -227,8 +229,8 @@ fn check_summaries(
     }
 }
 
-// Rows 5 to 15: where none refuses, the memory is ready for the passes and the names hold the ignored links' positions; else the names hold
-// the loop's ids, if there is one, and the memory is cleared.
+// Rows 5 to 15: where none refuses, the memory is ready for the passes and 0 elsewhere, and the names hold the ignored links' positions; else
+// the names hold the loop's ids, if there is one, and the memory is cleared.
 pub fn check_plan(
     sheet: &[u8],
     contents: Contents,

@@ -6,14 +6,17 @@ use Prim.Native.Nat.{ℕ, _<_}
 use native.Mathlib.Omega.{arith}
 use lib.IntN.{pos}
 use lib.ListN.{length, replicate}
+use Rattle.memory.specs.State.{stateOf}
 use Rattle.network.specs.Kahn.{namedLoop}
 use Rattle.order.specs.Plan.{planOf}
 use Rattle.order.specs.Ids.{idOf}
 use Rattle.order.specs.Ties.{keptLinks}
 use Rattle.order.specs.Checks.{Verdict, named, judgeOrder}
 use Rattle.order.specs.LoopLaws.{named-length}
+use Rattle.dates.specs.Standing.{Standing}
 use Rattle.checks.specs.Stages.{Judged}
 use Rattle.checks.specs.OrderSteps.{ends-are, whole-fine, whole-stands, short-refused, short-stuck, short-loop}
+use Rattle.checks.specs.RestSteps.{rest-stands, rest-elsewhere}
 use Rattle.checks.specs.StageLaws.{loop-refused}
 use Rattle.checks.proofs.check_order.Statement.{statement}
 use Rattle.checks.proofs.check_order.Tie as tie
@@ -32,13 +35,29 @@ whole c = omega arith
 waits : (c : tie.Else1) → c .before .before .order-activities .result ≢ c .before .before .before .before .before .before .args .contents .activities
 waits c e = omega arith
 
-open-ends-requires : tie.Need-open-ends-requires
+clear-rest-requires : tie.Need-clear-rest-requires
 unfolding planOf
-open-ends-requires c κs =
+clear-rest-requires c κs =
     let s = c .before .before .before .before .before .before .before in
-    let p = planOf (s .args .sheet .now) (s .args .contents) in
-    let o = c .before .before .before .order-activities .ensures in
-    (record { read = s .pre .0 .read; room = omega (arith, o .1, s .pre .0 .room) }, whole-stands p (s .pre .1) (o .0) (whole (c .before)))
+    (omega (arith, c .before .before .before .order-activities .ensures .1, s .pre .0 .room), s .pre .1 .within)
+
+-- the order stands after the rest is cleared
+stood : (c : tie.After-work2) → let x = c .before .before .before .before .before .before .before .before .before .args in let p = planOf (x .sheet .now) (x .contents) in
+    Standing p (x .t) (stateOf (x .contents .activities) (x .contents .links) (c .before .clear-rest .last .0))
+unfolding planOf
+stood c =
+    let s = c .before .before .before .before .before .before .before .before .before in
+    let x = s .args in
+    let p = planOf (x .sheet .now) (x .contents) in
+    let o = c .before .before .before .before .before .order-activities in
+    rest-stands (x .contents .activities) (x .contents .links) (x .t) (o .last .0) _ (c .before .clear-rest .ensures .0) p
+    (whole-stands p (s .pre .1) (o .ensures .0) (whole (c .before .before .before)))
+
+open-ends-requires : tie.Need-open-ends-requires
+open-ends-requires c κs =
+    let s = c .before .before .before .before .before .before .before .before .before .before in
+    let o = c .before .before .before .before .before .before .order-activities .ensures in
+    (record { read = s .pre .0 .read; room = omega (arith, c .before .before .clear-rest .ensures .2, o .1, s .pre .0 .room) }, stood (c .before))
 
 same-length : tie.Need-same-length
 same-length c = search needs
@@ -46,16 +65,18 @@ same-length c = search needs
 returns : tie.Need-returns
 unfolding planOf
 returns c =
-    let s = c .before .before .before .before .before .before .before .before in
-    let p = planOf (s .args .sheet .now) (s .args .contents) in
-    let o = c .before .before .before .before .order-activities .ensures in
-    let e = whole (c .before .before) in record {
-      fine = ap (λ (v : Verdict). v .number) (whole-fine p (s .pre .1) (o .0) e);
-      standing = whole-stands p (s .pre .1) (o .0) e;
+    let s = c .before .before .before .before .before .before .before .before .before .before .before in
+    let x = s .args in
+    let p = planOf (x .sheet .now) (x .contents) in
+    let o = c .before .before .before .before .before .before .before .order-activities in
+    let r = c .before .before .before .clear-rest .ensures in record {
+      fine = ap (λ (v : Verdict). v .number) (whole-fine p (s .pre .1) (o .ensures .0) (whole (c .before .before .before .before .before)));
+      standing = stood (c .before .before);
+      elsewhere = rest-elsewhere (x .contents .activities) (x .contents .links) (x .t) (o .last .0) _ (r .0) (r .1);
       named = s .pre .4;
       ignored = s .pre .3;
       ends = c .open-ends .ensures .0;
-      kept = o .1;
+      kept = r .2 ∙ o .ensures .1;
     }
 
 name-loop-requires : tie.Need-name-loop-requires
@@ -109,6 +130,7 @@ check-order-spec =
     tie.close
     (tie.spec
     order-activities-requires
+    clear-rest-requires
     open-ends-requires
     same-length
     returns

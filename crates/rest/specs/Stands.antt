@@ -1,0 +1,45 @@
+-- Which fields stand for the passes, and the memory with all other cells at 0.
+use mathlib.Core.Path.{_≡_}
+use mathlib.Core.Bool.{Bool, false, cond, _||_}
+use mathlib.Core.List.{List}
+use Prim.Native.Nat.{ℕ, _*_, _-_, _%_, _≤_, _<_}
+use lib.Dec.{eqb, leb, ltb}
+use lib.IntN.{ℤ, pos}
+use lib.ListN.{length}
+use Rattle.cells.specs.Cell.{cellZ}
+use Rattle.memory.specs.State.{State}
+use Rattle.memory.specs.Fields.{parent, isSummary, firstIn, firstOut, orderAt, nextOut}
+
+-- the fields of an activity that stand
+abbrev pub actStands : ℕ → Bool
+actStands f = eqb f parent || eqb f isSummary || eqb f firstIn || eqb f firstOut || eqb f orderAt
+
+-- and those of a kept link: its ends, kind, lag, lag calendar and chains
+abbrev pub linkStands : ℕ → Bool
+linkStands f = leb f nextOut
+
+-- t links are kept
+abbrev pub restCleared : ℕ → State → State
+restCleared t S = record {
+  act = λ f i. cond (actStands f) (S .act f i) 0;
+  link = λ f k. cond (linkStands f) (cond (ltb k t) (S .link f k) 0) 0;
+  actZ = λ f i. cond (actStands f) (S .actZ f i) (pos 0);
+  linkZ = λ f k. cond (linkStands f) (cond (ltb k t) (S .linkZ f k) (pos 0)) (pos 0);
+}
+
+-- ---- by cells: those that stand among none, among the rows of activities, and among the rows of links after a activities
+abbrev pub none : ℕ → Bool
+none j = false
+
+unfoldable pub ofActivity : ℕ → Bool
+ofActivity j = actStands (j % 64)
+
+unfoldable pub ofLink : ℕ → ℕ → Bool
+ofLink a j = linkStands ((j - 64 * a) % 16)
+
+-- from xs to ys the cells from lo up to hi are 0 but for those that stand; all others are as they were
+pub record Cleared (standing : ℕ → Bool) (lo hi : ℕ) (xs ys : List ℤ) : Type 0 where
+  pub size : length ys ≡ length xs
+  pub inside : (j : ℕ) → lo ≤ j → j < hi → cellZ ys j ≡ cond (standing j) (cellZ xs j) (pos 0)
+  pub below : (j : ℕ) → j < lo → cellZ ys j ≡ cellZ xs j
+  pub above : (j : ℕ) → hi ≤ j → cellZ ys j ≡ cellZ xs j
