@@ -146,7 +146,7 @@ pub fn first_from(sheet: &[u8], at: usize, n: usize, d: u64) -> usize
 }
 
 // The first of the `n` E records from `at` on whose day is after `d`, where `from` is the first whose day is `d` or later.
-fn first_after(sheet: &[u8], at: usize, n: usize, d: u64, from: usize) -> usize
+pub fn first_after(sheet: &[u8], at: usize, n: usize, d: u64, from: usize) -> usize
     requires { ⌜ (at + 9 * n ≤ length (now sheet)) × ((i j : ℕ) → i ≤ j → j < n → exceptionDay (now sheet) at i ≤ exceptionDay (now sheet) at j) × FirstFrom (now sheet) at n d from ⌝ }
     ensures { λ r. ⌜ FirstFrom (now (sheet .entry)) at n (d + 1) r ⌝ }
 {
@@ -241,7 +241,7 @@ pub fn is_working(week: [[Period; 8]; 7], sheet: &[u8], at: usize, n: usize, d: 
 }
 
 // How many minutes of the period stand before minute `m` of the day.
-fn period_rank(p: Period, m: u64) -> u64
+pub fn period_rank(p: Period, m: u64) -> u64
     ensures { λ r. ⌜ r ≡ min m (p .to) - p .from ⌝ }
 {
     let from = p.from as u64;

@@ -4,3 +4,5 @@ pub mod On
 pub mod Days
 pub mod Ways
 pub mod Weeks
+pub mod Regular
+pub mod RegularLaws

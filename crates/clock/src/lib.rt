@@ -1,6 +1,7 @@
 // Time on one calendar, in minutes from the first day that an i32 can name. An activity starts at a worked minute and finishes at a closing one.
 // A calendar is its week, and its `n` E records from the byte `at` of the sheet on.
 use calendar::Found;
+use calendar::Hours;
 use calendar::Period;
 use worktime::Walk;
 use worktime::Work;
@@ -12,6 +13,8 @@ ghost use Rattle.calendar.specs.Records.{Valid};
 ghost use Rattle.clock.specs.On.{workedOn};
 ghost use Rattle.worktime.specs.Worked.{count};
 ghost use Rattle.worktime.specs.Walks.{endMinute, nextStart, previousFinish, nextFinish, workingAt, previousStart, startBy, advance, retreat, shift, between, dayWork, workedBefore};
+
+mod weeks;
 
 // Row 8 of 01's table: too long.
 pub const TOO_LONG: u64 = 8;
@@ -253,12 +256,29 @@ fn days_work(week: [[Period; 8]; 7], sheet: &[u8], at: usize, n: usize, d: u64, 
     requires { ⌜ Valid week (now sheet) at n × (d ≤ e) × (e < 4294967296) ⌝ }
     ensures { λ r. ⌜ (count (workedOn week (now (sheet .entry)) at n) (d * 1440) + r ≡ count (workedOn week (now (sheet .entry)) at n) (e * 1440)) × (r ≤ 6184752906240) ⌝ }
 {
+    if d == e {
+        return 0;
+    }
+    let totals = weeks::totals_of(week);
     let mut sum: u64 = 0;
     let mut i = d;
+    let mut j = calendar::first_from(sheet, at, n, d);
     while i < e {
-        let hours = calendar::periods_on(week, sheet, at, n, i);
+        let next = weeks::next_own(sheet, at, n, i, e, j);
+        sum += weeks::regular_work(totals, i, next);
+        if next == e {
+            return sum;
+        }
+        let to = calendar::first_after(sheet, at, n, next, j);
+        let row = week[((next + 1) % 7) as usize];
+        let hours = Hours {
+            row: row,
+            at: at + 9 * j,
+            n: to - j,
+        };
         sum += calendar::day_rank(hours, sheet, 1440);
-        i += 1;
+        i = next + 1;
+        j = to;
     }
     sum
 }

@@ -1,63 +1,191 @@
--- `clock::days_work` meets its contract. The loop's invariant: the sum is what is worked from day `d` up to day `i`.
-use mathlib.Core.Path.{_≡_, sym, ap, _∙_}
+-- `clock::days_work` meets its contract. The sum is what is worked from day `d` up to day `i`, and `j` is the first E record from day `i` on.
+use mathlib.Core.Path.{_≡_, refl, sym, ap, _∙_}
+use mathlib.Core.List.{List}
 use native.Mathlib.Omega.{arith}
 use borrow.Author.Needs.{needs}
 use Prim.Native.Nat.{ℕ, _+_, _-_, _*_, _/_, _%_, _≤_, _<_}
+use Rattle.calendar.specs.declared.Period.{Period}
 use Rattle.calendar.specs.Hours.{worked}
-use Rattle.calendar.specs.Records.{hoursOn}
+use Rattle.calendar.specs.Records.{hoursOn, FirstFrom}
+use Rattle.calendar.specs.DayLaws.{from-to, hours-in-hand}
 use Rattle.calendar.specs.ValidLaws.{hand-ordered}
 use Rattle.worktime.specs.Worked.{count}
+use Rattle.worktime.specs.Count.{count-le}
 use Rattle.clock.specs.On.{workedOn}
 use Rattle.clock.specs.Days.{hand-rank}
+use Rattle.clock.specs.Weeks.{row-ordered}
+use Rattle.clock.specs.Regular.{Totals, regular}
+use Rattle.clock.specs.RegularLaws.{count-regular}
 use Rattle.clock.proofs.days_work.Statement.{statement}
 use Rattle.clock.proofs.days_work.Tie as tie
 
 abbrev Inv-loop : tie.InvT-loop
-Inv-loop week sheet at n d e sum₀ i₀ sum i =
-    (d ≤ i) × (i ≤ e) × (sum ≤ i * 1440)
+Inv-loop sheet at n d e week totals sum₀ i₀ j₀ sum i j =
+    (d ≤ i) × (i ≤ e) × FirstFrom sheet at n i j × Totals week totals
     × (count (workedOn week sheet at n) (d * 1440) + sum ≡ count (workedOn week sheet at n) (i * 1440))
 
 abbrev μ-loop : tie.MeasureT-loop
-μ-loop week sheet at n d e sum₀ i₀ sum i = e - i
+μ-loop sheet at n d e week totals sum₀ i₀ j₀ sum i j = e - i
+
+returns : tie.Need-returns Inv-loop μ-loop
+returns c =
+    let a = c .before .before .args in
+    let e : count (workedOn (a .t1) (a .sheet .now) (a .at) (a .n)) (a .d * 1440) ≡ count (workedOn (a .t1) (a .sheet .now) (a .at) (a .n)) (a .e * 1440) = ap (λ k. count (workedOn (a .t1) (a .sheet .now) (a .at) (a .n)) (k * 1440)) (omega arith) in
+    (omega (arith, e), omega arith)
+
+totals-of-requires : tie.Need-totals-of-requires Inv-loop μ-loop
+totals-of-requires c κs = row-ordered (c .before .before .pre .0)
+
+first-from-requires : tie.Need-first-from-requires Inv-loop μ-loop
+first-from-requires c κs = let p = c .before .before .before .pre .0 in (p .long, p .sorted)
 
 loop-holds : tie.Need-loop-holds Inv-loop μ-loop
-loop-holds c = (omega arith, omega arith, omega arith, omega arith)
+loop-holds c = let p = c .before .before .before .before .pre in (omega arith, p .1, c .first-from .ensures, c .before .totals-of .ensures, omega arith)
 
-periods-on-requires : tie.Need-periods-on-requires Inv-loop μ-loop
-periods-on-requires c κs = (omega arith, c .before .before .before .pre .0)
+next-own-requires : tie.Need-next-own-requires Inv-loop μ-loop
+next-own-requires c κs =
+    let l = c .before in
+    let p = l .before .before .before .before .before .pre .0 in
+    (p .long, p .sorted, l .loop .inv .2, l .loop .inv .1)
+
+regular-work-requires : tie.Need-regular-work-requires Inv-loop μ-loop
+regular-work-requires c κs =
+    let l = c .before .before in
+    (l .loop .inv .3 .daily, c .next-own .ensures .from, omega (arith, c .next-own .ensures .to, l .before .before .before .before .before .pre .2))
+
+-- what the days without E records before the next add
+passed : (c : tie.After-regular-work Inv-loop μ-loop) →
+    let l = c .before .before .before in
+    let s = l .before .before .before .before .before in
+    let a = s .args in
+    let w = workedOn (a .t1) (a .sheet .now) (a .at) (a .n) in
+    (count w (a .d * 1440) + (l .loop .sum + c .regular-work .result) ≡ count w (c .before .next-own .result * 1440)) × (c .before .next-own .result < 4294967296)
+passed c =
+    let l = c .before .before .before in
+    let s = l .before .before .before .before .before in
+    let a = s .args in
+    let w = workedOn (a .t1) (a .sheet .now) (a .at) (a .n) in
+    let i = l .loop .i in
+    let o = c .before .next-own .ensures in
+    let x = c .before .next-own .result in
+    let g : i + (x - i) ≡ x = omega (arith, o .from) in
+    let r = count-regular (s .pre .0) (l .loop .inv .3) i (x - i) (λ j y z. o .none-own j y (omega (arith, g))) in
+    let e : count w ((i + (x - i)) * 1440) ≡ count w (x * 1440) = ap (λ k. count w (k * 1440)) g in
+    (omega (arith, r, e, c .regular-work .ensures .0, l .loop .inv .4), omega (arith, o .to, s .pre .2))
+
+add-sum : tie.Need-add-sum Inv-loop μ-loop
+add-sum c =
+    let a = c .before .before .before .before .before .before .before .before .args in
+    let p = passed c in
+    omega (arith, p .0, p .1, count-le (workedOn (a .t1) (a .sheet .now) (a .at) (a .n)) (c .before .next-own .result * 1440))
+
+returns-2 : tie.Need-returns-2 Inv-loop μ-loop
+returns-2 c =
+    let p = passed (c .before) in
+    let a = c .before .before .before .before .before .before .before .before .before .args in
+    let w = workedOn (a .t1) (a .sheet .now) (a .at) (a .n) in
+    let e : count w (c .before .before .next-own .result * 1440) ≡ count w (a .e * 1440) = ap (λ k. count w (k * 1440)) (omega (arith, c .if2 .taken)) in
+    (omega (arith, p .0, e), omega (arith, p .0, p .1, count-le w (c .before .before .next-own .result * 1440)))
+
+first-after-requires : tie.Need-first-after-requires Inv-loop μ-loop
+first-after-requires c κs =
+    let p = c .before .before .before .before .before .before .before .before .before .pre .0 in
+    (p .long, p .sorted, c .before .before .next-own .ensures .first)
+
+add-row : tie.Need-add-row Inv-loop μ-loop
+add-row c = search needs
+
+mul-row : tie.Need-mul-row Inv-loop μ-loop
+mul-row c = search needs
+
+array-copy-out-row : tie.Need-array-copy-out-row Inv-loop μ-loop
+array-copy-out-row c = search needs
+
+mul-t21 : tie.Need-mul-t21 Inv-loop μ-loop
+mul-t21 c = search needs
+
+add-t22 : tie.Need-add-t22 Inv-loop μ-loop
+add-t22 c = search needs
+
+sub-t26 : tie.Need-sub-t26 Inv-loop μ-loop
+sub-t26 c = from-to _ _ _ _ _ _ (c .before .before .before .before .next-own .ensures .first) (c .before .first-after .ensures)
 
 day-rank-requires : tie.Need-day-rank-requires Inv-loop μ-loop
 day-rank-requires c κs =
-    (c .periods-on .ensures .1, hand-ordered (c .before .before .before .before .pre .0) _ _ (c .periods-on .ensures .0))
+    let lo = c .before .before .before .before .next-own .ensures .first in
+    let hi = c .before .first-after .ensures in
+    let v = c .before .before .before .before .before .before .before .before .before .before .before .pre .0 in
+    (omega (arith, v .long, hi .within, from-to _ _ _ _ _ _ lo hi), hand-ordered v _ _ (hours-in-hand _ _ _ _ _ _ lo hi _ _ refl refl refl))
 
-add-sum : tie.Need-add-sum Inv-loop μ-loop
-add-sum c = search needs
+-- what the day with E records adds
+added : (c : tie.After-day-rank Inv-loop μ-loop) →
+    let l = c .before .before .before .before .before .before .before in
+    let a = l .before .before .before .before .before .args in
+    let w = workedOn (a .t1) (a .sheet .now) (a .at) (a .n) in
+    count w (a .d * 1440) + (l .loop .sum + c .before .before .before .before .regular-work .result + c .day-rank .result)
+    ≡ count w ((c .before .before .before .before .before .next-own .result + 1) * 1440)
+added c =
+    let l = c .before .before .before .before .before .before .before in
+    let s = l .before .before .before .before .before in
+    let a = s .args in
+    let h = hoursOn (a .t1) (a .sheet .now) (a .at) (a .n) in
+    let lo = c .before .before .before .before .before .next-own .ensures .first in
+    let hi = c .before .before .first-after .ensures in
+    let x = c .before .before .before .before .before .next-own .result in
+    let r = hand-rank h x (s .pre .0 .ordered x) _ (hours-in-hand _ _ _ _ _ _ lo hi _ _ refl refl refl) 1440 _ (omega arith) (c .day-rank .ensures .0) in
+    let e : count (worked h) (x * 1440 + 1440) ≡ count (worked h) ((x + 1) * 1440) = ap (count (worked h)) (omega arith) in
+    omega (arith, r, e, passed (c .before .before .before .before) .0)
+
+add-sum-2 : tie.Need-add-sum-2 Inv-loop μ-loop
+add-sum-2 c =
+    let a = c .before .before .before .before .before .before .before .before .before .before .before .before .args in
+    let x = c .before .before .before .before .before .next-own .result in
+    omega (arith, added c, passed (c .before .before .before .before) .1, count-le (workedOn (a .t1) (a .sheet .now) (a .at) (a .n)) ((x + 1) * 1440))
 
 add-i : tie.Need-add-i Inv-loop μ-loop
 add-i c = search needs
 
 loop-less : tie.Need-loop-less Inv-loop μ-loop
-loop-less c = search needs
+loop-less c = omega (arith, c .before .before .before .before .before .next-own .ensures .from, c .before .before .before .before .before .next-own .ensures .to)
 
 loop-again : tie.Need-loop-again Inv-loop μ-loop
 loop-again c =
-    let l = c .before .before .before in
-    let s = l .before .before in
-    let a = s .args in
-    let h = hoursOn (a .week) (a .sheet .now) (a .at) (a .n) in
-    let i = l .loop .i in
-    let r = hand-rank h i (s .pre .0 .ordered i) _ (c .before .periods-on .ensures .0) 1440 _ (omega arith) (c .day-rank .ensures .0) in
-    let e : count (worked h) (i * 1440 + 1440) ≡ count (worked h) ((i + 1) * 1440) = ap (count (worked h)) (omega arith) in
-    (omega arith, omega arith, omega (arith, c .day-rank .ensures .1), omega (arith, r, e, l .loop .inv .3))
+    let l = c .before .before .before .before .before .before .before in
+    let o = c .before .before .before .before .before .next-own .ensures in
+    (omega (arith, o .from, l .loop .inv .0), omega (arith, o .to, c .before .before .before .if2 .left), c .before .before .first-after .ensures, l .loop .inv .3, added c)
 
-returns : tie.Need-returns Inv-loop μ-loop
-returns c =
+returns-3 : tie.Need-returns-3 Inv-loop μ-loop
+returns-3 c =
     let l = c .before in
-    let a = l .before .before .args in
-    let w = workedOn (a .week) (a .sheet .now) (a .at) (a .n) in
-    let i : l .loop .i ≡ a .e = omega arith in
-    (l .loop .inv .3 ∙ ap (λ k. count w (k * 1440)) i, omega arith)
+    let a = l .before .before .before .before .before .args in
+    let w = workedOn (a .t1) (a .sheet .now) (a .at) (a .n) in
+    let e : count w (l .loop .i * 1440) ≡ count w (a .e * 1440) = ap (λ k. count w (k * 1440)) (omega arith) in
+    (omega (arith, e, l .loop .inv .4), omega (arith, l .loop .inv .4, count-le w (l .loop .i * 1440)))
 
 pub days-work-spec : {M : Type 1} → statement M
 days-work-spec =
-    tie.close (tie.spec Inv-loop μ-loop loop-holds periods-on-requires day-rank-requires add-sum add-i loop-less loop-again returns)
+    tie.close
+    (tie.spec
+    Inv-loop
+    μ-loop
+    returns
+    totals-of-requires
+    first-from-requires
+    loop-holds
+    next-own-requires
+    regular-work-requires
+    add-sum
+    returns-2
+    first-after-requires
+    add-row
+    mul-row
+    array-copy-out-row
+    mul-t21
+    add-t22
+    sub-t26
+    day-rank-requires
+    add-sum-2
+    add-i
+    loop-less
+    loop-again
+    returns-3)

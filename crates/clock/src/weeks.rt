@@ -1,0 +1,79 @@
+// Work counted by the week: the minutes of each weekday, and of days that have no E records.
+use calendar::Period;
+ghost use mathlib.Core.Path.{_≡_};
+ghost use mathlib.Core.List.{[]};
+ghost use Prim.Native.Nat.{ℕ, _+_, _-_, _*_, min, _≤_, _<_};
+ghost use lib.ListN.{length, getD};
+ghost use Rattle.calendar.specs.Hours.{rank, Ordered};
+ghost use Rattle.calendar.specs.Records.{exceptionDay, FirstFrom};
+ghost use Rattle.clock.specs.Regular.{Totals, Daily, regular, NextOwn};
+
+// The minutes of a row.
+fn row_work(row: [Period; 8]) -> u64
+    requires { ⌜ Ordered 0 row ⌝ }
+    ensures { λ r. ⌜ (r ≡ rank row 1440) × (r ≤ 1440) ⌝ }
+{
+    let mut sum: u64 = 0;
+    let mut i: usize = 0;
+    while i < 8 {
+        let p = row[i];
+        sum += calendar::period_rank(p, 1440);
+        i += 1;
+    }
+    sum
+}
+
+// The minutes of each weekday.
+pub fn totals_of(week: [[Period; 8]; 7]) -> [u64; 7]
+    requires { ⌜ ((k : ℕ) → k < 7 → Ordered 0 (getD week k [])) ⌝ }
+    ensures { λ r. ⌜ Totals week r ⌝ }
+{
+    let mut totals = [0u64; 7];
+    let mut k: usize = 0;
+    while k < 7 {
+        let row = week[k];
+        totals[k] = row_work(row);
+        k += 1;
+    }
+    totals
+}
+
+// The minutes of the days from `d` up to but not `e`, each by its weekday.
+fn plain_work(totals: [u64; 7], d: u64, e: u64) -> u64
+    requires { ⌜ Daily totals × (d ≤ e) × (e < 4294967296) ⌝ }
+    ensures { λ r. ⌜ (r ≡ regular totals d (e - d)) × (r ≤ 1440 * (e - d)) ⌝ }
+{
+    let mut sum: u64 = 0;
+    let mut i = d;
+    while i < e {
+        sum += totals[((i + 1) % 7) as usize];
+        i += 1;
+    }
+    sum
+}
+
+// The same with whole weeks by multiplication.
+pub fn regular_work(totals: [u64; 7], d: u64, e: u64) -> u64
+    requires { ⌜ Daily totals × (d ≤ e) × (e < 4294967296) ⌝ }
+    ensures { λ r. ⌜ (r ≡ regular totals d (e - d)) × (r ≤ 1440 * (e - d)) ⌝ }
+{
+    let weeks = (e - d) / 7;
+    if weeks == 0 {
+        return plain_work(totals, d, e);
+    }
+    weeks * plain_work(totals, d, d + 7) + plain_work(totals, d + 7 * weeks, e)
+}
+
+// The first day from `i` on that has E records, or `e` if none before it has; `j` is the first record whose day is `i` or later.
+pub fn next_own(sheet: &[u8], at: usize, n: usize, i: u64, e: u64, j: usize) -> u64
+    requires { ⌜ (at + 9 * n ≤ length (now sheet)) × ((x y : ℕ) → x ≤ y → y < n → exceptionDay (now sheet) at x ≤ exceptionDay (now sheet) at y) × FirstFrom (now sheet) at n i j × (i ≤ e) ⌝ }
+    ensures { λ r. ⌜ NextOwn (now (sheet .entry)) at n i e j r ⌝ }
+{
+    if j < n {
+        let day = calendar::exception_day(sheet, at, j);
+        if day < e {
+            return day;
+        }
+    }
+    e
+}
