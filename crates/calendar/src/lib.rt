@@ -36,34 +36,22 @@ pub fn week_period(sheet: &[u8], at: usize, i: usize) -> Period
     }
 }
 
-// The row of weekday `k` among the `n` W records from `at` on.
-pub fn read_row(sheet: &[u8], at: usize, n: usize, k: u8) -> [Period; 8]
-    requires { ⌜ (at + 6 * n ≤ length (now sheet)) × (length (weekPeriods (now sheet) at k n) ≤ 8) ⌝ }
-    ensures { λ r. ⌜ r ≡ pad (weekPeriods (now (sheet .entry)) at k n) ⌝ }
-{
-    let mut row = [Period { from: 0, to: 0 }; 8];
-    let mut c: usize = 0;
-    let mut i: usize = 0;
-    while i < n {
-        if sheet[at + 6 * i + 1] == k {
-            row[c] = week_period(sheet, at, i);
-            c += 1;
-        }
-        i += 1;
-    }
-    row
-}
-
-// The week of the `n` W records from `at` on, a row for each weekday.
+// The week of the `n` W records from `at` on, a row for each weekday: each record goes to the end of its weekday's row.
 pub fn read_week(sheet: &[u8], at: usize, n: usize) -> [[Period; 8]; 7]
     requires { ⌜ (at + 6 * n ≤ length (now sheet)) × ((k : ℕ) → k < 7 → length (weekPeriods (now sheet) at k n) ≤ 8) ⌝ }
     ensures { λ r. ⌜ r ≡ weekOf (now (sheet .entry)) at n ⌝ }
 {
     let mut week = [[Period { from: 0, to: 0 }; 8]; 7];
-    let mut k: u8 = 0;
-    while k < 7 {
-        week[k as usize] = read_row(sheet, at, n, k);
-        k += 1;
+    let mut counts = [0 as usize; 7];
+    let mut i: usize = 0;
+    while i < n {
+        let k = sheet[at + 6 * i + 1] as usize;
+        if k < 7 {
+            let c = counts[k];
+            week[k][c] = week_period(sheet, at, i);
+            counts[k] = c + 1;
+        }
+        i += 1;
     }
     week
 }
