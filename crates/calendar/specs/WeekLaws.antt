@@ -106,8 +106,11 @@ module _ (s : List ℕ) (at i : ℕ) (counts : List ℕ) (week : List (List Peri
 
       same : (j : ℕ) → j ≡ k → Kept s at j (i + 1) (getD counts′ j 0) (getD week′ j [])
       same j x =
-          rw (x, getD-set-same counts k (getD counts k 0 + 1) 0 (omega (arith, rows .counted)),
-          getD-set-same week k (set (getD week k []) (getD counts k 0) p) [] (omega (arith, rows .seven)))
+          rw (
+            x,
+            getD-set-same counts k (getD counts k 0 + 1) 0 (omega (arith, rows .counted)),
+            getD-set-same week k (set (getD week k []) (getD counts k 0) p) [] (omega (arith, rows .seven)),
+          )
           (kept-push s at k i (getD counts k 0) (getD week k []) (rows .kept k h) p q l e)
 
       other : (j : ℕ) → j < 7 → (j ≡ k → ⊥) → Kept s at j (i + 1) (getD counts′ j 0) (getD week′ j [])
