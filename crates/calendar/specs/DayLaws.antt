@@ -14,7 +14,7 @@ use Rattle.number.specs.Bytes.{u16At}
 use Rattle.calendar.specs.declared.Period.{Period}
 use Rattle.calendar.specs.declared.Hours.{Hours}
 use Rattle.calendar.specs.Hours.{none}
-use Rattle.calendar.specs.Records.{exceptionDay, exceptionPeriod, exceptionsOn, hoursOn, FirstFrom, recordPeriods, periodsOf}
+use Rattle.calendar.specs.Records.{exceptionDay, exceptionPeriod, exceptionsOn, hoursOn, FirstFrom, recordPeriods, periodsOf, InHand}
 use Rattle.date.specs.Days.{weekday}
 
 -- ---- exceptionsOn, a record at a time
@@ -126,3 +126,18 @@ module _ (s : List ℕ) (at n d from to : ℕ) (lo : FirstFrom s at n d from) (h
       (λ z. of-row h s (omega arith) ∙ r ∙ sym (hours-week week s at n d (on-all ∙ (ap (recordPeriods s (at + 9 * from)) z ∙ records-none s (at + 9 * from)))))
       (λ z. of-records h s (omega arith) ∙ ap₂ (recordPeriods s) a m ∙ sym on-all ∙ sym (hours-own week s at n d (omega arith)))
       (zero-or-pos (to - from))
+
+  -- and so in every week with that row
+  pub in-hand : at + 9 * n ≤ length s → (h : Hours) → h .at ≡ at + 9 * from → h .n ≡ to - from → InHand (h .row) s at n d h
+  in-hand l h a m =
+      record {
+        within = omega (arith, from-to, hi .within);
+        is = λ week r. hours-in-hand week h (sym r) a m;
+      }
+
+  -- where the next day's records begin, and where the day's own do
+  pub next-from : FirstFrom s at n (d + 1) (from + (to - from))
+  next-from = let e : from + (to - from) ≡ to = omega (arith, from-to) in rw e hi
+
+  pub day-from : FirstFrom s at n d (to - (to - from))
+  day-from = let e : to - (to - from) ≡ from = omega (arith, from-to) in rw e lo

@@ -4,7 +4,7 @@ ghost use mathlib.Core.List.{List};
 ghost use Prim.Native.Nat.{ℕ, _+_, _-_, _*_, _^_, min, max, _≤_, _<_};
 ghost use lib.ListN.{length, getD};
 ghost use Rattle.calendar.specs.Hours.{none, rank, select, nextIn, works, Ordered};
-ghost use Rattle.calendar.specs.Records.{weekPeriods, weekPeriodAt, pad, weekOf, roundTheClock, weeklyHours, exceptionDay, exceptionPeriod, hoursOn, Valid, periodsOf, Within, FirstFrom};
+ghost use Rattle.calendar.specs.Records.{weekPeriods, weekPeriodAt, pad, weekOf, roundTheClock, weeklyHours, exceptionDay, exceptionPeriod, hoursOn, Valid, periodsOf, Within, FirstFrom, Listed, InHand};
 
 // A work period within a day: from and to, in minutes after midnight.
 pub struct Period {
@@ -151,20 +151,64 @@ fn first_after(sheet: &[u8], at: usize, n: usize, d: u64, from: usize) -> usize
     i
 }
 
-// The hours of day `d`.
-pub fn periods_on(week: [[Period; 8]; 7], sheet: &[u8], at: usize, n: usize, d: u64) -> Hours
-    requires { ⌜ (d < 4294967296) × Valid week (now sheet) at n ⌝ }
-    ensures { λ r. ⌜ (periodsOf r (now (sheet .entry)) ≡ hoursOn week (now (sheet .entry)) at n d) × Within r (now (sheet .entry)) ⌝ }
+// The first of the `n` E records from `at` on whose day is `d` or later, where `to` is the first whose day is after `d`.
+fn first_back(sheet: &[u8], at: usize, n: usize, d: u64, to: usize) -> usize
+    requires { ⌜ Listed (now sheet) at n × FirstFrom (now sheet) at n (d + 1) to ⌝ }
+    ensures { λ r. ⌜ FirstFrom (now (sheet .entry)) at n d r ⌝ }
 {
-    let from = first_from(sheet, at, n, d);
+    let mut i = to;
+    while 0 < i {
+        if exception_day(sheet, at, i - 1) < d {
+            return i;
+        }
+        i -= 1;
+    }
+    i
+}
+
+// The hours of day `d`, whose weekday's row is in hand, and the first E record whose day is `d` or later; so a walk forward searches no day anew.
+pub fn hours_from(row: [Period; 8], sheet: &[u8], at: usize, n: usize, d: u64, from: usize) -> Hours
+    requires { ⌜ Listed (now sheet) at n × FirstFrom (now sheet) at n d from ⌝ }
+    ensures { λ r. ⌜ InHand row (now (sheet .entry)) at n d r × FirstFrom (now (sheet .entry)) at n (d + 1) (from + r .n) ⌝ }
+{
     let to = first_after(sheet, at, n, d, from);
-    let k = ((d + 1) % 7) as usize;
-    let row = week[k];
     Hours {
         row: row,
         at: at + 9 * from,
         n: to - from,
     }
+}
+
+// The hours of day `d`, whose weekday's row is in hand, and the first E record whose day is after `d`; so a walk back searches no day anew.
+pub fn hours_to(row: [Period; 8], sheet: &[u8], at: usize, n: usize, d: u64, to: usize) -> Hours
+    requires { ⌜ Listed (now sheet) at n × FirstFrom (now sheet) at n (d + 1) to ⌝ }
+    ensures { λ r. ⌜ InHand row (now (sheet .entry)) at n d r × (r .n ≤ to) × FirstFrom (now (sheet .entry)) at n d (to - r .n) ⌝ }
+{
+    let from = first_back(sheet, at, n, d, to);
+    Hours {
+        row: row,
+        at: at + 9 * from,
+        n: to - from,
+    }
+}
+
+// The hours of day `d`, whose weekday's row is in hand.
+pub fn hours_on(row: [Period; 8], sheet: &[u8], at: usize, n: usize, d: u64) -> Hours
+    requires { ⌜ Listed (now sheet) at n ⌝ }
+    ensures { λ r. ⌜ InHand row (now (sheet .entry)) at n d r ⌝ }
+{
+    let from = first_from(sheet, at, n, d);
+    hours_from(row, sheet, at, n, d, from)
+}
+
+// The hours of day `d`.
+pub fn periods_on(week: [[Period; 8]; 7], sheet: &[u8], at: usize, n: usize, d: u64) -> Hours
+    requires { ⌜ (d < 4294967296) × Valid week (now sheet) at n ⌝ }
+    ensures { λ r. ⌜ (periodsOf r (now (sheet .entry)) ≡ hoursOn week (now (sheet .entry)) at n d) × Within r (now (sheet .entry)) ⌝ }
+{
+    let k = ((d + 1) % 7) as usize;
+    let row = week[k];
+    hours_on(row, sheet, at, n, d)
 }
 
 // Whether some period of the hours holds a minute.
@@ -250,6 +294,9 @@ pub fn day_rank(hours: Hours, sheet: &[u8], m: u64) -> u64
     requires { ⌜ Within hours (now sheet) × Ordered 0 (periodsOf hours (now sheet)) ⌝ }
     ensures { λ r. ⌜ (r ≡ rank (periodsOf hours (now (sheet .entry))) m) × (r ≤ 1440) ⌝ }
 {
+    if m == 0 {
+        return 0;
+    }
     let before = day_minute(m);
     if hours.n == 0 {
         let row = hours.row;

@@ -7,7 +7,7 @@ use lib.ListN.{drop}
 use Rattle.calendar.specs.Records.{recordPeriods, periodsOf}
 use Rattle.calendar.specs.Hours.{rank, Ordered}
 use Rattle.calendar.specs.Steps.{rank-step, rank-end}
-use Rattle.calendar.specs.HoursLaws.{rank-bound, rank-top}
+use Rattle.calendar.specs.HoursLaws.{rank-none, rank-bound, rank-top}
 use Rattle.calendar.specs.DayLaws.{of-row, of-records, records-length, record-get}
 use Rattle.calendar.proofs.day_rank.Statement.{statement}
 use Rattle.calendar.proofs.day_rank.Tie as tie
@@ -19,20 +19,27 @@ Inv-loop sheet m before at n sum₀ i₀ sum i =
 abbrev μ-loop : tie.MeasureT-loop
 μ-loop sheet m before at n sum₀ i₀ sum i = n - i
 
+returns : tie.Need-returns Inv-loop μ-loop
+returns c = 
+    let a = c .before .before .args in
+    let z : a .m ≡ 0 = omega arith in
+    let e : rank (periodsOf (a .hours) (a .sheet .now)) (a .m) ≡ 0 = rank-none 0 _ (a .m) (c .before .before .pre .1) (omega arith) in
+    (sym e, omega arith)
+
 day-minute-requires : tie.Need-day-minute-requires Inv-loop μ-loop
 day-minute-requires c κs = search needs
 
 row-rank-requires : tie.Need-row-rank-requires Inv-loop μ-loop
-row-rank-requires c κs =
-    let s = c .before .before .before .before .before in
+row-rank-requires c κs = 
+    let s = c .before .before .before .before .before .before in
     rw (of-row (s .args .hours) (s .args .sheet .now) (omega arith)) at (s .pre .1)
 
 cast-result : tie.Need-cast-result Inv-loop μ-loop
 cast-result c = search needs
 
-returns : tie.Need-returns Inv-loop μ-loop
-returns c =
-    let s = c .before .before .before .before .before .before in
+returns-2 : tie.Need-returns-2 Inv-loop μ-loop
+returns-2 c = 
+    let s = c .before .before .before .before .before .before .before in
     let a = s .args in
     let e : c .row-rank .result ≡ rank (periodsOf (a .hours) (a .sheet .now)) (a .m) =
     rw (of-row (a .hours) (a .sheet .now) (omega arith))
@@ -48,24 +55,24 @@ exception-period-requires c κs = search needs
 period-rank-requires : tie.Need-period-rank-requires Inv-loop μ-loop
 period-rank-requires c κs = search needs
 
-order : (c : tie.At-loop Inv-loop μ-loop) → let a = c .before .before .before .before .before .args in Ordered 0 (recordPeriods (a .sheet .now) (a .hours .at) (a .hours .n))
-order c = let s = c .before .before .before .before .before in rw (of-records (s .args .hours) (s .args .sheet .now) (omega arith)) at (s .pre .1)
+order : (c : tie.At-loop Inv-loop μ-loop) → let a = c .before .before .before .before .before .before .args in Ordered 0 (recordPeriods (a .sheet .now) (a .hours .at) (a .hours .n))
+order c = let s = c .before .before .before .before .before .before in rw (of-records (s .args .hours) (s .args .sheet .now) (omega arith)) at (s .pre .1)
 
 small : (c : tie.At-loop Inv-loop μ-loop) →
-    let a = c .before .before .before .before .before .args in
+    let a = c .before .before .before .before .before .before .args in
     rank (recordPeriods (a .sheet .now) (a .hours .at) (a .hours .n)) (c .before .before .before .day-minute .result) ≤ 1440
 small c = rank-bound _ _ (order c)
 
 step : (c : tie.After-period-rank Inv-loop μ-loop) →
     let l = c .before .before .before in
-    let a = l .before .before .before .before .before .args in
+    let a = l .before .before .before .before .before .before .args in
     let xs = recordPeriods (a .sheet .now) (a .hours .at) (a .hours .n) in
     let m = l .before .before .before .day-minute .result in
     rank (drop (l .loop .i) xs) m ≡ c .period-rank .result + rank (drop (l .loop .i + 1) xs) m
 step c =
     let l = c .before .before .before in
     let b = c .before .exception-period in
-    let a = l .before .before .before .before .before .args in
+    let a = l .before .before .before .before .before .before .args in
     let g = record-get _ _ (a .hours .n) (l .loop .i) _ (omega arith) (b .ensures) in
     omega (arith, c .period-rank .ensures, rank-step (recordPeriods (a .sheet .now) (a .hours .at) (a .hours .n)) (l .loop .i) (l .before .before .before .day-minute .result) (b .result) (g .0) (g .1))
 
@@ -84,10 +91,10 @@ loop-again c = (omega arith, omega (arith, step c))
 cast-result-2 : tie.Need-cast-result-2 Inv-loop μ-loop
 cast-result-2 c = omega (arith, small (c .before))
 
-returns-2 : tie.Need-returns-2 Inv-loop μ-loop
-returns-2 c =
+returns-3 : tie.Need-returns-3 Inv-loop μ-loop
+returns-3 c = 
     let l = c .before in
-    let a = l .before .before .before .before .before .args in
+    let a = l .before .before .before .before .before .before .args in
     let xs = recordPeriods (a .sheet .now) (a .hours .at) (a .hours .n) in
     let d = l .before .before .before .day-minute in
     let e : l .loop .sum ≡ rank xs (d .result) =
@@ -102,10 +109,11 @@ day-rank-spec =
     (tie.spec
     Inv-loop
     μ-loop
+    returns
     day-minute-requires
     row-rank-requires
     cast-result
-    returns
+    returns-2
     loop-holds
     exception-period-requires
     period-rank-requires
@@ -114,4 +122,4 @@ day-rank-spec =
     loop-less
     loop-again
     cast-result-2
-    returns-2)
+    returns-3)
