@@ -30,14 +30,17 @@ pub fn next_start(week: [[Period; 8]; 7], sheet: &[u8], at: usize, n: usize, t: 
     if d < FIRST_DAY {
         return Walk::Refused(TOO_LONG);
     }
+    let mut from = calendar::first_from(sheet, at, n, d);
     while d <= LAST_DAY {
-        let hours = calendar::periods_on(week, sheet, at, n, d);
+        let row = week[((d + 1) % 7) as usize];
+        let hours = calendar::hours_from(row, sheet, at, n, d, from);
         match calendar::day_next(hours, sheet, m) {
             Found::At(x) => {
                 return Walk::At(d * 1440 + x);
             }
             Found::Nothing => {}
         }
+        from += hours.n;
         d += 1;
         m = 0;
     }
@@ -54,12 +57,15 @@ pub fn previous_finish(week: [[Period; 8]; 7], sheet: &[u8], at: usize, n: usize
     if LAST_DAY < d {
         return Walk::Refused(TOO_LONG);
     }
+    let mut to = calendar::first_from(sheet, at, n, d + 1);
     while FIRST_DAY <= d {
-        let hours = calendar::periods_on(week, sheet, at, n, d);
+        let row = week[((d + 1) % 7) as usize];
+        let hours = calendar::hours_to(row, sheet, at, n, d, to);
         let done = calendar::day_rank(hours, sheet, m);
         if 0 < done {
             return Walk::At(d * 1440 + calendar::day_select(hours, sheet, done));
         }
+        to -= hours.n;
         d -= 1;
         m = 1440;
     }
@@ -79,7 +85,8 @@ pub fn working_at(week: [[Period; 8]; 7], sheet: &[u8], at: usize, n: usize, t: 
     if LAST_DAY < d {
         return Working::Refused(TOO_LONG);
     }
-    let hours = calendar::periods_on(week, sheet, at, n, d);
+    let row = week[((d + 1) % 7) as usize];
+    let hours = calendar::hours_on(row, sheet, at, n, d);
     match calendar::day_next(hours, sheet, m) {
         Found::At(x) => {
             if x == m {
@@ -163,14 +170,17 @@ pub fn advance(week: [[Period; 8]; 7], sheet: &[u8], at: usize, n: usize, t: u64
     if d < FIRST_DAY {
         return Walk::Refused(TOO_LONG);
     }
+    let mut from = calendar::first_from(sheet, at, n, d);
     while d <= LAST_DAY {
-        let hours = calendar::periods_on(week, sheet, at, n, d);
+        let row = week[((d + 1) % 7) as usize];
+        let hours = calendar::hours_from(row, sheet, at, n, d, from);
         let done = calendar::day_rank(hours, sheet, m);
         let today = calendar::day_rank(hours, sheet, 1440) - done;
         if left <= today {
             return Walk::At(d * 1440 + calendar::day_select(hours, sheet, done + left));
         }
         left -= today;
+        from += hours.n;
         d += 1;
         m = 0;
     }
@@ -191,13 +201,16 @@ pub fn retreat(week: [[Period; 8]; 7], sheet: &[u8], at: usize, n: usize, t: u64
     if LAST_DAY < d {
         return Walk::Refused(TOO_LONG);
     }
+    let mut to = calendar::first_from(sheet, at, n, d + 1);
     while FIRST_DAY <= d {
-        let hours = calendar::periods_on(week, sheet, at, n, d);
+        let row = week[((d + 1) % 7) as usize];
+        let hours = calendar::hours_to(row, sheet, at, n, d, to);
         let done = calendar::day_rank(hours, sheet, m);
         if left <= done {
             return Walk::At(d * 1440 + calendar::day_select(hours, sheet, done - left + 1) - 1);
         }
         left -= done;
+        to -= hours.n;
         d -= 1;
         m = 1440;
     }
@@ -227,7 +240,8 @@ pub fn day_work(week: [[Period; 8]; 7], sheet: &[u8], at: usize, n: usize, d: u6
     if LAST_DAY < d {
         return Work::Refused(TOO_LONG);
     }
-    let hours = calendar::periods_on(week, sheet, at, n, d);
+    let row = week[((d + 1) % 7) as usize];
+    let hours = calendar::hours_on(row, sheet, at, n, d);
     Work::Minutes(calendar::day_rank(hours, sheet, 1440) as i64)
 }
 
@@ -244,7 +258,8 @@ pub fn worked_before(week: [[Period; 8]; 7], sheet: &[u8], at: usize, n: usize, 
     if LAST_DAY < d {
         return Work::Refused(TOO_LONG);
     }
-    let hours = calendar::periods_on(week, sheet, at, n, d);
+    let row = week[((d + 1) % 7) as usize];
+    let hours = calendar::hours_on(row, sheet, at, n, d);
     Work::Minutes(calendar::day_rank(hours, sheet, m) as i64)
 }
 

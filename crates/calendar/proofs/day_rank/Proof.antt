@@ -20,7 +20,7 @@ abbrev μ-loop : tie.MeasureT-loop
 μ-loop sheet m before at n sum₀ i₀ sum i = n - i
 
 returns : tie.Need-returns Inv-loop μ-loop
-returns c = 
+returns c =
     let a = c .before .before .args in
     let z : a .m ≡ 0 = omega arith in
     let e : rank (periodsOf (a .hours) (a .sheet .now)) (a .m) ≡ 0 = rank-none 0 _ (a .m) (c .before .before .pre .1) (omega arith) in
@@ -30,7 +30,7 @@ day-minute-requires : tie.Need-day-minute-requires Inv-loop μ-loop
 day-minute-requires c κs = search needs
 
 row-rank-requires : tie.Need-row-rank-requires Inv-loop μ-loop
-row-rank-requires c κs = 
+row-rank-requires c κs =
     let s = c .before .before .before .before .before .before in
     rw (of-row (s .args .hours) (s .args .sheet .now) (omega arith)) at (s .pre .1)
 
@@ -38,7 +38,7 @@ cast-result : tie.Need-cast-result Inv-loop μ-loop
 cast-result c = search needs
 
 returns-2 : tie.Need-returns-2 Inv-loop μ-loop
-returns-2 c = 
+returns-2 c =
     let s = c .before .before .before .before .before .before .before in
     let a = s .args in
     let e : c .row-rank .result ≡ rank (periodsOf (a .hours) (a .sheet .now)) (a .m) =
@@ -92,7 +92,7 @@ cast-result-2 : tie.Need-cast-result-2 Inv-loop μ-loop
 cast-result-2 c = omega (arith, small (c .before))
 
 returns-3 : tie.Need-returns-3 Inv-loop μ-loop
-returns-3 c = 
+returns-3 c =
     let l = c .before in
     let a = l .before .before .before .before .before .before .args in
     let xs = recordPeriods (a .sheet .now) (a .hours .at) (a .hours .n) in

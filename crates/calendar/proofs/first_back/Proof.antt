@@ -23,7 +23,7 @@ exception-day-requires : tie.Need-exception-day-requires Inv-loop μ-loop
 exception-day-requires c κs = search needs
 
 returns : tie.Need-returns Inv-loop μ-loop
-returns c = 
+returns c =
     let l = c .before .before .before in
     let p = l .before .before .pre in
     record {
@@ -39,7 +39,7 @@ loop-less : tie.Need-loop-less Inv-loop μ-loop
 loop-less c = search needs
 
 loop-again : tie.Need-loop-again Inv-loop μ-loop
-loop-again c = 
+loop-again c =
     let l = c .before .before .before in
     let p = l .before .before .pre in
     (omega arith, λ j x y. omega (arith, p .0 .1 (l .loop .i - 1) j x y, c .before .exception-day .ensures .0))

@@ -19,7 +19,7 @@ sub-t10 : tie.Need-sub-t10
 sub-t10 c = from-to _ _ _ _ _ _ (c .before .before .pre .1) (c .first-after .ensures)
 
 returns : tie.Need-returns
-returns c = 
+returns c =
     let p = c .before .before .pre in
     let hi = c .first-after .ensures in
     (in-hand _ _ _ _ _ _ (p .1) hi (p .0 .0) _ refl refl, next-from _ _ _ _ _ _ (p .1) hi)

@@ -20,7 +20,7 @@ sub-t10 : tie.Need-sub-t10
 sub-t10 c = from-to _ _ _ _ _ _ (c .first-back .ensures) (c .before .before .pre .1)
 
 returns : tie.Need-returns
-returns c = 
+returns c =
     let p = c .before .before .pre in
     let lo = c .first-back .ensures in
     (in-hand _ _ _ _ _ _ lo (p .1) (p .0 .0) _ refl refl, omega arith, day-from _ _ _ _ _ _ lo (p .1))
