@@ -14,7 +14,7 @@ use Rattle.number.specs.Bytes.{u16At}
 use Rattle.calendar.specs.declared.Period.{Period}
 use Rattle.calendar.specs.declared.Hours.{Hours}
 use Rattle.calendar.specs.Hours.{none}
-use Rattle.calendar.specs.Records.{exceptionDay, exceptionPeriod, exceptionsOn, hoursOn, FirstFrom, recordPeriods, periodsOf}
+use Rattle.calendar.specs.Records.{exceptionDay, exceptionPeriod, exceptionsOn, hoursOn, FirstFrom, recordPeriods, periodsOf, InHand}
 use Rattle.date.specs.Days.{weekday}
 
 -- ---- exceptionsOn, a record at a time
@@ -66,6 +66,10 @@ records-get s at (suc n) i l =
     (λ h. let e : i ≡ n = omega arith in rw e (getD-at (recordPeriods s at n) (exceptionPeriod s at n) [] none n (records-length s at n)))
     (lt-or-le i n)
 
+-- the record that a loop over them reads
+pub record-get : (s : List ℕ) (at n i : ℕ) (p : Period) → i < n → p ≡ exceptionPeriod s at i → (p ≡ getD (recordPeriods s at n) i none) × (i < length (recordPeriods s at n))
+record-get s at n i p l e = (e ∙ sym (records-get s at n i l), omega (arith, records-length s at n))
+
 pub records-none : (s : List ℕ) (at : ℕ) → recordPeriods s at 0 ≡ []
 unfolding recordPeriods
 records-none s at = refl
@@ -79,18 +83,6 @@ module _ (h : Hours) (s : List ℕ) where
   pub of-records : 0 < h .n → periodsOf h s ≡ recordPeriods s (h .at) (h .n)
   unfolding periodsOf
   of-records l = rw (ne-eqb (h .n) 0 (omega arith), periodsOf)
-
-  pub row-length : h .n ≡ 0 → length (h .row) ≡ length (periodsOf h s)
-  row-length e = rw (of-row e)
-
-  pub own-length : 0 < h .n → length (periodsOf h s) ≡ h .n
-  own-length l = rw (of-records l) (records-length s (h .at) (h .n))
-
-  pub row-get : (i : ℕ) → h .n ≡ 0 → getD (h .row) i none ≡ getD (periodsOf h s) i none
-  row-get i e = rw (of-row e)
-
-  pub own-get : (i : ℕ) → 0 < h .n → i < h .n → exceptionPeriod s (h .at) i ≡ getD (periodsOf h s) i none
-  own-get i l k = rw (of-records l) (sym (records-get s (h .at) (h .n) i k))
 
 -- ---- the records of day d are those from `from` up to `to`
 exception-shift : (s : List ℕ) (at f i : ℕ) → exceptionPeriod s (at + 9 * f) i ≡ exceptionPeriod s at (f + i)
@@ -134,3 +126,18 @@ module _ (s : List ℕ) (at n d from to : ℕ) (lo : FirstFrom s at n d from) (h
       (λ z. of-row h s (omega arith) ∙ r ∙ sym (hours-week week s at n d (on-all ∙ (ap (recordPeriods s (at + 9 * from)) z ∙ records-none s (at + 9 * from)))))
       (λ z. of-records h s (omega arith) ∙ ap₂ (recordPeriods s) a m ∙ sym on-all ∙ sym (hours-own week s at n d (omega arith)))
       (zero-or-pos (to - from))
+
+  -- and so in every week with that row
+  pub in-hand : at + 9 * n ≤ length s → (h : Hours) → h .at ≡ at + 9 * from → h .n ≡ to - from → InHand (h .row) s at n d h
+  in-hand l h a m =
+      record {
+        within = omega (arith, from-to, hi .within);
+        is = λ week r. hours-in-hand week h (sym r) a m;
+      }
+
+  -- where the next day's records begin, and where the day's own do
+  pub next-from : FirstFrom s at n (d + 1) (from + (to - from))
+  next-from = let e : from + (to - from) ≡ to = omega (arith, from-to) in rw e hi
+
+  pub day-from : FirstFrom s at n d (to - (to - from))
+  day-from = let e : to - (to - from) ≡ from = omega (arith, from-to) in rw e lo

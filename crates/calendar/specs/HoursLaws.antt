@@ -102,6 +102,12 @@ rank-bound ps m o = omega (arith, rank-room 0 ps m o)
 pub rank-bound-m : (ps : List Period) (m : ℕ) → Ordered 0 ps → rank ps m ≤ m
 rank-bound-m ps m o = omega (arith, rank-room 0 ps m o)
 
+-- the day is over by its end
+pub rank-top : (a : ℕ) (ps : List Period) (m : ℕ) → Ordered a ps → rank ps (min m 1440) ≡ rank ps m
+unfolding rank
+rank-top a [] m o = refl
+rank-top a (p ∷ ps) m o = omega (arith, rank-top (max a (p .to)) ps m (o .2))
+
 -- ---- select, a period at a time
 module _ (p : Period) (ps : List Period) (k : ℕ) where
   pub select-in : k ≤ p .to - p .from → select (p ∷ ps) k ≡ p .from + k

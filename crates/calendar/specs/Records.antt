@@ -66,6 +66,10 @@ pub record Valid (week : List (List Period)) (s : List ℕ) (at n : ℕ) : Type 
   pub sorted : (i j : ℕ) → i ≤ j → j < n → exceptionDay s at i ≤ exceptionDay s at j
   pub ordered : (d : ℕ) → Ordered 0 (hoursOn week s at n d)
 
+-- the part of that which a search among the E records needs
+abbrev pub Listed : List ℕ → ℕ → ℕ → Type 0
+Listed s at n = (at + 9 * n ≤ length s) × ((i j : ℕ) → i ≤ j → j < n → exceptionDay s at i ≤ exceptionDay s at j)
+
 -- r is the first of n E records whose day is d or later, or n
 pub record FirstFrom (s : List ℕ) (at n d r : ℕ) : Type 0 where
   pub within : r ≤ n
@@ -84,3 +88,8 @@ periodsOf h s = elim (eqb (h .n) 0) [ true ↦ h .row | false ↦ recordPeriods 
 -- hours that lie within the sheet
 abbrev pub Within : Hours → List ℕ → Type 0
 Within h s = h .at + 9 * h .n ≤ length s
+
+-- hours of day d in hand, by the row of its weekday: in every week with that row they are the day's
+pub record InHand (row : List Period) (s : List ℕ) (at n d : ℕ) (h : Hours) : Type 0 where
+  pub within : Within h s
+  pub is : (week : List (List Period)) → getD week (weekday d) [] ≡ row → periodsOf h s ≡ hoursOn week s at n d

@@ -8,8 +8,8 @@ use native.Mathlib.Omega.{arith}
 use native.Mathlib.Nat.{add-zero}
 use native.Mathlib.Numerals.{add-one}
 use borrow.Author.Tests.{eq-eqb, ne-eqb}
-use lib.ListN.{length, getD, set, drop, replicate, length-append, length-replicate, getD-replicate, drop-of-length-le}
-use lib.Seq.{set-append-seam, ext-getD, drop-cons}
+use lib.ListN.{length, getD, set, drop, replicate, length-set, length-append, length-replicate, getD-replicate, drop-of-length-le}
+use lib.Seq.{set-append-seam, ext-getD, drop-cons, getD-set-same, getD-set-other}
 use Rattle.number.specs.Order.{eq-or-ne, cases}
 use Rattle.calendar.specs.declared.Period.{Period}
 use Rattle.calendar.specs.Hours.{none, held, Ordered, works}
@@ -65,6 +65,67 @@ module _ (s : List ℕ) (at k i c : ℕ) (row : List Period) (kept : Kept s at k
 
   pub kept-skip : (weekdayAt s at i ≡ k → ⊥) → Kept s at k (i + 1) c row
   kept-skip q = rw (week-skip s at k i q) kept
+
+-- what the loop keeps of all seven weekdays
+pub record Rows (s : List ℕ) (at i : ℕ) (counts : List ℕ) (week : List (List Period)) : Type 0 where
+  pub counted : length counts ≡ 7
+  pub seven : length week ≡ 7
+  pub kept : (k : ℕ) → k < 7 → Kept s at k i (getD counts k 0) (getD week k [])
+
+pub rows-start : (s : List ℕ) (at : ℕ) → Rows s at 0 (replicate 7 0) (replicate 7 (replicate 8 none))
+unfolding weekPeriods
+rows-start s at =
+    record {
+      counted = refl;
+      seven = refl;
+      kept = λ k l. (getD-replicate 7 k 0 0 l, getD-replicate 7 k (replicate 8 none) [] l);
+    }
+
+module _ (s : List ℕ) (at i : ℕ) (counts : List ℕ) (week : List (List Period)) (rows : Rows s at i counts week) where
+  -- where another period of weekday k comes, its row has room
+  pub rows-room : (k n : ℕ) → k < 7 → i < n → weekdayAt s at i ≡ k → length (weekPeriods s at k n) ≤ 8 → (getD counts k 0 < 8) × (length (getD week k []) ≡ 8)
+  rows-room k n h l q few =
+      let r = rows .kept k h in
+      let m = week-room s at k i n l q in
+      (omega (arith, r .0), rw (r .1) (pad-length (weekPeriods s at k i) (omega arith)))
+
+  pub rows-push : (k : ℕ) (p : Period) → k < 7 → weekdayAt s at i ≡ k → getD counts k 0 < 8 → p ≡ weekPeriodAt s at i
+      → Rows s at (i + 1) (set counts k (getD counts k 0 + 1)) (set week k (set (getD week k []) (getD counts k 0) p))
+  rows-push k p h q l e =
+      record {
+        counted = simp length-set (rows .counted);
+        seven = simp length-set (rows .seven);
+        kept = λ j g. ⊎-elim (λ x. same j x) (λ x. other j g x) (eq-or-ne j k);
+      }
+    where
+      counts′ : List ℕ
+      counts′ = set counts k (getD counts k 0 + 1)
+
+      week′ : List (List Period)
+      week′ = set week k (set (getD week k []) (getD counts k 0) p)
+
+      same : (j : ℕ) → j ≡ k → Kept s at j (i + 1) (getD counts′ j 0) (getD week′ j [])
+      same j x =
+          rw (
+            x,
+            getD-set-same counts k (getD counts k 0 + 1) 0 (omega (arith, rows .counted)),
+            getD-set-same week k (set (getD week k []) (getD counts k 0) p) [] (omega (arith, rows .seven)),
+          )
+          (kept-push s at k i (getD counts k 0) (getD week k []) (rows .kept k h) p q l e)
+
+      other : (j : ℕ) → j < 7 → (j ≡ k → ⊥) → Kept s at j (i + 1) (getD counts′ j 0) (getD week′ j [])
+      other j g x =
+          rw (getD-set-other counts k j (getD counts k 0 + 1) 0 x, getD-set-other week k j (set (getD week k []) (getD counts k 0) p) [] x)
+          (kept-skip s at j i (getD counts j 0) (getD week j []) (rows .kept j g) (λ y. x (sym y ∙ q)))
+
+  -- a record of no weekday
+  pub rows-skip : 7 ≤ weekdayAt s at i → Rows s at (i + 1) counts week
+  rows-skip o =
+      record {
+        counted = rows .counted;
+        seven = rows .seven;
+        kept = λ j g. kept-skip s at j i (getD counts j 0) (getD week j []) (rows .kept j g) (λ y. omega arith);
+      }
 
 module _ (s : List ℕ) (at n : ℕ) where
   pub week-length : length (weekOf s at n) ≡ 7

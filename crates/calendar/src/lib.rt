@@ -1,16 +1,19 @@
 // A work calendar: the periods worked on each day of the week, and the days that have periods of their own.
 ghost use mathlib.Core.Path.{_≡_};
 ghost use mathlib.Core.List.{List};
-ghost use Prim.Native.Nat.{ℕ, _+_, _-_, _*_, _^_, min, _≤_, _<_};
+ghost use Prim.Native.Nat.{ℕ, _+_, _-_, _*_, _^_, min, max, _≤_, _<_};
 ghost use lib.ListN.{length, getD};
 ghost use Rattle.calendar.specs.Hours.{none, rank, select, nextIn, works, Ordered};
-ghost use Rattle.calendar.specs.Records.{weekPeriods, weekPeriodAt, pad, weekOf, roundTheClock, weeklyHours, exceptionDay, exceptionPeriod, hoursOn, Valid, periodsOf, Within, FirstFrom};
+ghost use Rattle.calendar.specs.Records.{weekPeriods, weekPeriodAt, pad, weekOf, roundTheClock, weeklyHours, exceptionDay, exceptionPeriod, hoursOn, Valid, periodsOf, Within, FirstFrom, Listed, InHand};
 
 // A work period within a day: from and to, in minutes after midnight.
 pub struct Period {
     pub from: u16,
     pub to: u16,
 }
+
+// How many periods a row holds.
+const PERIODS: usize = 8;
 
 // The hours of a day: its weekday's row, or where its `n` E records stand if it has any.
 pub struct Hours {
@@ -36,34 +39,22 @@ pub fn week_period(sheet: &[u8], at: usize, i: usize) -> Period
     }
 }
 
-// The row of weekday `k` among the `n` W records from `at` on.
-pub fn read_row(sheet: &[u8], at: usize, n: usize, k: u8) -> [Period; 8]
-    requires { ⌜ (at + 6 * n ≤ length (now sheet)) × (length (weekPeriods (now sheet) at k n) ≤ 8) ⌝ }
-    ensures { λ r. ⌜ r ≡ pad (weekPeriods (now (sheet .entry)) at k n) ⌝ }
-{
-    let mut row = [Period { from: 0, to: 0 }; 8];
-    let mut c: usize = 0;
-    let mut i: usize = 0;
-    while i < n {
-        if sheet[at + 6 * i + 1] == k {
-            row[c] = week_period(sheet, at, i);
-            c += 1;
-        }
-        i += 1;
-    }
-    row
-}
-
-// The week of the `n` W records from `at` on, a row for each weekday.
+// The week of the `n` W records from `at` on, a row for each weekday: each record goes to the end of its weekday's row.
 pub fn read_week(sheet: &[u8], at: usize, n: usize) -> [[Period; 8]; 7]
     requires { ⌜ (at + 6 * n ≤ length (now sheet)) × ((k : ℕ) → k < 7 → length (weekPeriods (now sheet) at k n) ≤ 8) ⌝ }
     ensures { λ r. ⌜ r ≡ weekOf (now (sheet .entry)) at n ⌝ }
 {
     let mut week = [[Period { from: 0, to: 0 }; 8]; 7];
-    let mut k: u8 = 0;
-    while k < 7 {
-        week[k as usize] = read_row(sheet, at, n, k);
-        k += 1;
+    let mut counts = [0 as usize; 7];
+    let mut i: usize = 0;
+    while i < n {
+        let k = sheet[at + 6 * i + 1] as usize;
+        if k < 7 {
+            let c = counts[k];
+            week[k][c] = week_period(sheet, at, i);
+            counts[k] = c + 1;
+        }
+        i += 1;
     }
     week
 }
@@ -83,7 +74,7 @@ fn row_works(row: [Period; 8]) -> bool
     ensures { λ r. ⌜ r ≡ works row ⌝ }
 {
     let mut i: usize = 0;
-    while i < 8 {
+    while i < PERIODS {
         let p = row[i];
         if p.from < p.to {
             return true;
@@ -146,7 +137,7 @@ pub fn first_from(sheet: &[u8], at: usize, n: usize, d: u64) -> usize
 }
 
 // The first of the `n` E records from `at` on whose day is after `d`, where `from` is the first whose day is `d` or later.
-pub fn first_after(sheet: &[u8], at: usize, n: usize, d: u64, from: usize) -> usize
+fn first_after(sheet: &[u8], at: usize, n: usize, d: u64, from: usize) -> usize
     requires { ⌜ (at + 9 * n ≤ length (now sheet)) × ((i j : ℕ) → i ≤ j → j < n → exceptionDay (now sheet) at i ≤ exceptionDay (now sheet) at j) × FirstFrom (now sheet) at n d from ⌝ }
     ensures { λ r. ⌜ FirstFrom (now (sheet .entry)) at n (d + 1) r ⌝ }
 {
@@ -160,15 +151,27 @@ pub fn first_after(sheet: &[u8], at: usize, n: usize, d: u64, from: usize) -> us
     i
 }
 
-// The hours of day `d`.
-pub fn periods_on(week: [[Period; 8]; 7], sheet: &[u8], at: usize, n: usize, d: u64) -> Hours
-    requires { ⌜ (d < 4294967296) × Valid week (now sheet) at n ⌝ }
-    ensures { λ r. ⌜ (periodsOf r (now (sheet .entry)) ≡ hoursOn week (now (sheet .entry)) at n d) × Within r (now (sheet .entry)) ⌝ }
+// The first of the `n` E records from `at` on whose day is `d` or later, where `to` is the first whose day is after `d`.
+fn first_back(sheet: &[u8], at: usize, n: usize, d: u64, to: usize) -> usize
+    requires { ⌜ Listed (now sheet) at n × FirstFrom (now sheet) at n (d + 1) to ⌝ }
+    ensures { λ r. ⌜ FirstFrom (now (sheet .entry)) at n d r ⌝ }
 {
-    let from = first_from(sheet, at, n, d);
+    let mut i = to;
+    while 0 < i {
+        if exception_day(sheet, at, i - 1) < d {
+            return i;
+        }
+        i -= 1;
+    }
+    i
+}
+
+// The hours of day `d`, whose weekday's row is in hand, and the first E record whose day is `d` or later; so a walk forward searches no day anew.
+pub fn hours_from(row: [Period; 8], sheet: &[u8], at: usize, n: usize, d: u64, from: usize) -> Hours
+    requires { ⌜ Listed (now sheet) at n × FirstFrom (now sheet) at n d from ⌝ }
+    ensures { λ r. ⌜ InHand row (now (sheet .entry)) at n d r × FirstFrom (now (sheet .entry)) at n (d + 1) (from + r .n) ⌝ }
+{
     let to = first_after(sheet, at, n, d, from);
-    let k = ((d + 1) % 7) as usize;
-    let row = week[k];
     Hours {
         row: row,
         at: at + 9 * from,
@@ -176,42 +179,36 @@ pub fn periods_on(week: [[Period; 8]; 7], sheet: &[u8], at: usize, n: usize, d: 
     }
 }
 
-// The length of a row, which is known of an array but not of a struct's field.
-fn row_length(row: [Period; 8]) -> usize
-    ensures { λ r. ⌜ r ≡ length row ⌝ }
+// The hours of day `d`, whose weekday's row is in hand, and the first E record whose day is after `d`; so a walk back searches no day anew.
+pub fn hours_to(row: [Period; 8], sheet: &[u8], at: usize, n: usize, d: u64, to: usize) -> Hours
+    requires { ⌜ Listed (now sheet) at n × FirstFrom (now sheet) at n (d + 1) to ⌝ }
+    ensures { λ r. ⌜ InHand row (now (sheet .entry)) at n d r × (r .n ≤ to) × FirstFrom (now (sheet .entry)) at n d (to - r .n) ⌝ }
 {
-    8
-}
-
-// Period `i` of a row.
-fn row_period(row: [Period; 8], i: usize) -> Period
-    requires { ⌜ i < length row ⌝ }
-    ensures { λ r. ⌜ r ≡ getD row i none ⌝ }
-{
-    row[i]
-}
-
-// How many periods the hours have.
-fn period_count(hours: Hours) -> usize
-    ensures { λ r. ⌜ ((s : List ℕ) → r ≡ length (periodsOf hours s)) ⌝ }
-{
-    if hours.n == 0 {
-        let row = hours.row;
-        return row_length(row);
+    let from = first_back(sheet, at, n, d, to);
+    Hours {
+        row: row,
+        at: at + 9 * from,
+        n: to - from,
     }
-    hours.n
 }
 
-// Period `i` of the hours.
-fn period_at(hours: Hours, sheet: &[u8], i: usize) -> Period
-    requires { ⌜ Within hours (now sheet) × (i < length (periodsOf hours (now sheet))) ⌝ }
-    ensures { λ r. ⌜ r ≡ getD (periodsOf hours (now (sheet .entry))) i none ⌝ }
+// The hours of day `d`, whose weekday's row is in hand.
+pub fn hours_on(row: [Period; 8], sheet: &[u8], at: usize, n: usize, d: u64) -> Hours
+    requires { ⌜ Listed (now sheet) at n ⌝ }
+    ensures { λ r. ⌜ InHand row (now (sheet .entry)) at n d r ⌝ }
 {
-    if hours.n == 0 {
-        let row = hours.row;
-        return row_period(row, i);
-    }
-    exception_period(sheet, hours.at, i)
+    let from = first_from(sheet, at, n, d);
+    hours_from(row, sheet, at, n, d, from)
+}
+
+// The hours of day `d`.
+pub fn periods_on(week: [[Period; 8]; 7], sheet: &[u8], at: usize, n: usize, d: u64) -> Hours
+    requires { ⌜ (d < 4294967296) × Valid week (now sheet) at n ⌝ }
+    ensures { λ r. ⌜ (periodsOf r (now (sheet .entry)) ≡ hoursOn week (now (sheet .entry)) at n d) × Within r (now (sheet .entry)) ⌝ }
+{
+    let k = ((d + 1) % 7) as usize;
+    let row = week[k];
+    hours_on(row, sheet, at, n, d)
 }
 
 // Whether some period of the hours holds a minute.
@@ -219,10 +216,15 @@ fn day_works(hours: Hours, sheet: &[u8]) -> bool
     requires { ⌜ Within hours (now sheet) ⌝ }
     ensures { λ r. ⌜ r ≡ works (periodsOf hours (now (sheet .entry))) ⌝ }
 {
-    let n = period_count(hours);
+    if hours.n == 0 {
+        let row = hours.row;
+        return row_works(row);
+    }
+    let at = hours.at;
+    let n = hours.n;
     let mut i: usize = 0;
     while i < n {
-        let p = period_at(hours, sheet, i);
+        let p = exception_period(sheet, at, i);
         if p.from < p.to {
             return true;
         }
@@ -240,17 +242,27 @@ pub fn is_working(week: [[Period; 8]; 7], sheet: &[u8], at: usize, n: usize, d: 
     day_works(hours, sheet)
 }
 
+// The lesser of two numbers.
+fn lesser(a: u32, b: u32) -> u32
+    ensures { λ r. ⌜ r ≡ min a b ⌝ }
+{
+    if a < b { a } else { b }
+}
+
+// The minute of the day that is `m`, or its end where `m` is later.
+fn day_minute(m: u64) -> u32
+    ensures { λ r. ⌜ r ≡ min m 1440 ⌝ }
+{
+    if m < 1440 { m as u32 } else { 1440 }
+}
+
 // How many minutes of the period stand before minute `m` of the day.
-pub fn period_rank(p: Period, m: u64) -> u64
+fn period_rank(p: Period, m: u32) -> u32
     ensures { λ r. ⌜ r ≡ min m (p .to) - p .from ⌝ }
 {
-    let from = p.from as u64;
-    let to = p.to as u64;
-    if m < to {
-        if from < m { m - from } else { 0 }
-    } else {
-        if from < to { to - from } else { 0 }
-    }
+    let from = p.from as u32;
+    let to = lesser(m, p.to as u32);
+    if from < to { to - from } else { 0 }
 }
 
 // How long a period is.
@@ -262,32 +274,55 @@ fn period_length(p: Period) -> u64
     if from < to { to - from } else { 0 }
 }
 
-// How many minutes of the day are worked before its minute `m`.
-pub fn day_rank(hours: Hours, sheet: &[u8], m: u64) -> u64
-    requires { ⌜ Within hours (now sheet) × Ordered 0 (periodsOf hours (now sheet)) ⌝ }
-    ensures { λ r. ⌜ (r ≡ rank (periodsOf hours (now (sheet .entry))) m) × (r ≤ 1440) ⌝ }
+// How many minutes of the row stand before minute `m` of the day: without a branch, so that the machine adds several periods at once.
+pub fn row_rank(row: [Period; 8], m: u32) -> u32
+    requires { ⌜ Ordered 0 row ⌝ }
+    ensures { λ r. ⌜ (r ≡ rank row m) × (r ≤ 1440) ⌝ }
 {
-    let n = period_count(hours);
-    let mut sum: u64 = 0;
+    let mut sum: u32 = 0;
     let mut i: usize = 0;
-    while i < n {
-        let p = period_at(hours, sheet, i);
+    while i < PERIODS {
+        let p = row[i];
         sum += period_rank(p, m);
         i += 1;
     }
     sum
 }
 
-// The minute of the day by which `k` of its minutes are worked.
-pub fn day_select(hours: Hours, sheet: &[u8], k: u64) -> u64
-    requires { ⌜ Within hours (now sheet) × Ordered 0 (periodsOf hours (now sheet)) × (0 < k) × (k ≤ rank (periodsOf hours (now sheet)) 1440) ⌝ }
-    ensures { λ r. ⌜ (r ≡ select (periodsOf hours (now (sheet .entry))) k) × (0 < r) × (r ≤ 1440) ⌝ }
+// How many minutes of the day are worked before its minute `m`.
+pub fn day_rank(hours: Hours, sheet: &[u8], m: u64) -> u64
+    requires { ⌜ Within hours (now sheet) × Ordered 0 (periodsOf hours (now sheet)) ⌝ }
+    ensures { λ r. ⌜ (r ≡ rank (periodsOf hours (now (sheet .entry))) m) × (r ≤ 1440) ⌝ }
 {
-    let n = period_count(hours);
-    let mut left = k;
+    if m == 0 {
+        return 0;
+    }
+    let before = day_minute(m);
+    if hours.n == 0 {
+        let row = hours.row;
+        return row_rank(row, before) as u64;
+    }
+    let at = hours.at;
+    let n = hours.n;
+    let mut sum: u32 = 0;
     let mut i: usize = 0;
     while i < n {
-        let p = period_at(hours, sheet, i);
+        let p = exception_period(sheet, at, i);
+        sum += period_rank(p, before);
+        i += 1;
+    }
+    sum as u64
+}
+
+// The minute of the day by which `k` minutes of the row are worked.
+fn row_select(row: [Period; 8], k: u64) -> u64
+    requires { ⌜ Ordered 0 row × (0 < k) × (k ≤ rank row 1440) ⌝ }
+    ensures { λ r. ⌜ (r ≡ select row k) × (0 < r) × (r ≤ 1440) ⌝ }
+{
+    let mut left = k;
+    let mut i: usize = 0;
+    while i < PERIODS {
+        let p = row[i];
         let length = period_length(p);
         if left <= length {
             return p.from as u64 + left;
@@ -298,22 +333,71 @@ pub fn day_select(hours: Hours, sheet: &[u8], k: u64) -> u64
     0
 }
 
+// The minute of the day by which `k` of its minutes are worked.
+pub fn day_select(hours: Hours, sheet: &[u8], k: u64) -> u64
+    requires { ⌜ Within hours (now sheet) × Ordered 0 (periodsOf hours (now sheet)) × (0 < k) × (k ≤ rank (periodsOf hours (now sheet)) 1440) ⌝ }
+    ensures { λ r. ⌜ (r ≡ select (periodsOf hours (now (sheet .entry))) k) × (0 < r) × (r ≤ 1440) ⌝ }
+{
+    if hours.n == 0 {
+        let row = hours.row;
+        return row_select(row, k);
+    }
+    let at = hours.at;
+    let n = hours.n;
+    let mut left = k;
+    let mut i: usize = 0;
+    while i < n {
+        let p = exception_period(sheet, at, i);
+        let length = period_length(p);
+        if left <= length {
+            return p.from as u64 + left;
+        }
+        left -= length;
+        i += 1;
+    }
+    0
+}
+
+// The later of two minutes.
+fn later(a: u64, b: u64) -> u64
+    ensures { λ r. ⌜ r ≡ max a b ⌝ }
+{
+    if a < b { b } else { a }
+}
+
+// The first minute of the row at or after minute `m` of the day.
+fn row_next(row: [Period; 8], m: u64) -> Found
+    ensures { λ r. ⌜ r ≡ nextIn row m ⌝ }
+{
+    let mut i: usize = 0;
+    while i < PERIODS {
+        let p = row[i];
+        let to = p.to as u64;
+        if m < to {
+            return Found::At(later(m, p.from as u64));
+        }
+        i += 1;
+    }
+    Found::Nothing
+}
+
 // The first worked minute of the day at or after its minute `m`.
 pub fn day_next(hours: Hours, sheet: &[u8], m: u64) -> Found
     requires { ⌜ Within hours (now sheet) ⌝ }
     ensures { λ r. ⌜ r ≡ nextIn (periodsOf hours (now (sheet .entry))) m ⌝ }
 {
-    let n = period_count(hours);
+    if hours.n == 0 {
+        let row = hours.row;
+        return row_next(row, m);
+    }
+    let at = hours.at;
+    let n = hours.n;
     let mut i: usize = 0;
     while i < n {
-        let p = period_at(hours, sheet, i);
-        let from = p.from as u64;
-        let to = p.to as u64;
-        if m < to {
-            if m < from {
-                return Found::At(from);
-            }
-            return Found::At(m);
+        let p = exception_period(sheet, at, i);
+        let end = p.to as u64;
+        if m < end {
+            return Found::At(later(m, p.from as u64));
         }
         i += 1;
     }

@@ -106,7 +106,7 @@ module _ (s : List ℕ) (at n i e j : ℕ) (sorted : (x y : ℕ) → x ≤ y →
   unfolding exceptionsOn
   next-own-is a b c =
       let other : (d : ℕ) → i ≤ d → d < r → (x : ℕ) → x < n → exceptionDay s at x ≡ d → ⊥ =
-          λ d l u x y z. ⊎-elim (λ q. omega (arith, first .below x q)) (λ q. omega (arith, c (omega arith), sorted j x q y)) (lt-or-le x j) in
+      λ d l u x y z. ⊎-elim (λ q. omega (arith, first .below x q)) (λ q. omega (arith, c (omega arith), sorted j x q y)) (lt-or-le x j) in
       record {
         from = a;
         to = b;

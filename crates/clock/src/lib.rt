@@ -1,7 +1,6 @@
 // Time on one calendar, in minutes from the first day that an i32 can name. An activity starts at a worked minute and finishes at a closing one.
 // A calendar is its week, and its `n` E records from the byte `at` of the sheet on.
 use calendar::Found;
-use calendar::Hours;
 use calendar::Period;
 use worktime::Walk;
 use worktime::Work;
@@ -9,7 +8,7 @@ use worktime::Working;
 ghost use mathlib.Core.Path.{_≡_};
 ghost use Prim.Native.Nat.{ℕ, _+_, _*_, _^_, _≤_, _<_};
 ghost use Rattle.number.specs.Zed.{dn};
-ghost use Rattle.calendar.specs.Records.{Valid};
+ghost use Rattle.calendar.specs.Records.{Valid, FirstFrom};
 ghost use Rattle.clock.specs.On.{workedOn};
 ghost use Rattle.worktime.specs.Worked.{count};
 ghost use Rattle.worktime.specs.Walks.{endMinute, nextStart, previousFinish, nextFinish, workingAt, previousStart, startBy, advance, retreat, shift, between, dayWork, workedBefore};
@@ -33,14 +32,17 @@ pub fn next_start(week: [[Period; 8]; 7], sheet: &[u8], at: usize, n: usize, t: 
     if d < FIRST_DAY {
         return Walk::Refused(TOO_LONG);
     }
+    let mut from = calendar::first_from(sheet, at, n, d);
     while d <= LAST_DAY {
-        let hours = calendar::periods_on(week, sheet, at, n, d);
+        let row = week[((d + 1) % 7) as usize];
+        let hours = calendar::hours_from(row, sheet, at, n, d, from);
         match calendar::day_next(hours, sheet, m) {
             Found::At(x) => {
                 return Walk::At(d * 1440 + x);
             }
             Found::Nothing => {}
         }
+        from += hours.n;
         d += 1;
         m = 0;
     }
@@ -57,12 +59,15 @@ pub fn previous_finish(week: [[Period; 8]; 7], sheet: &[u8], at: usize, n: usize
     if LAST_DAY < d {
         return Walk::Refused(TOO_LONG);
     }
+    let mut to = calendar::first_from(sheet, at, n, d + 1);
     while FIRST_DAY <= d {
-        let hours = calendar::periods_on(week, sheet, at, n, d);
+        let row = week[((d + 1) % 7) as usize];
+        let hours = calendar::hours_to(row, sheet, at, n, d, to);
         let done = calendar::day_rank(hours, sheet, m);
         if 0 < done {
             return Walk::At(d * 1440 + calendar::day_select(hours, sheet, done));
         }
+        to -= hours.n;
         d -= 1;
         m = 1440;
     }
@@ -82,7 +87,8 @@ pub fn working_at(week: [[Period; 8]; 7], sheet: &[u8], at: usize, n: usize, t: 
     if LAST_DAY < d {
         return Working::Refused(TOO_LONG);
     }
-    let hours = calendar::periods_on(week, sheet, at, n, d);
+    let row = week[((d + 1) % 7) as usize];
+    let hours = calendar::hours_on(row, sheet, at, n, d);
     match calendar::day_next(hours, sheet, m) {
         Found::At(x) => {
             if x == m {
@@ -166,14 +172,17 @@ pub fn advance(week: [[Period; 8]; 7], sheet: &[u8], at: usize, n: usize, t: u64
     if d < FIRST_DAY {
         return Walk::Refused(TOO_LONG);
     }
+    let mut from = calendar::first_from(sheet, at, n, d);
     while d <= LAST_DAY {
-        let hours = calendar::periods_on(week, sheet, at, n, d);
+        let row = week[((d + 1) % 7) as usize];
+        let hours = calendar::hours_from(row, sheet, at, n, d, from);
         let done = calendar::day_rank(hours, sheet, m);
         let today = calendar::day_rank(hours, sheet, 1440) - done;
         if left <= today {
             return Walk::At(d * 1440 + calendar::day_select(hours, sheet, done + left));
         }
         left -= today;
+        from += hours.n;
         d += 1;
         m = 0;
     }
@@ -194,13 +203,16 @@ pub fn retreat(week: [[Period; 8]; 7], sheet: &[u8], at: usize, n: usize, t: u64
     if LAST_DAY < d {
         return Walk::Refused(TOO_LONG);
     }
+    let mut to = calendar::first_from(sheet, at, n, d + 1);
     while FIRST_DAY <= d {
-        let hours = calendar::periods_on(week, sheet, at, n, d);
+        let row = week[((d + 1) % 7) as usize];
+        let hours = calendar::hours_to(row, sheet, at, n, d, to);
         let done = calendar::day_rank(hours, sheet, m);
         if left <= done {
             return Walk::At(d * 1440 + calendar::day_select(hours, sheet, done - left + 1) - 1);
         }
         left -= done;
+        to -= hours.n;
         d -= 1;
         m = 1440;
     }
@@ -230,7 +242,8 @@ pub fn day_work(week: [[Period; 8]; 7], sheet: &[u8], at: usize, n: usize, d: u6
     if LAST_DAY < d {
         return Work::Refused(TOO_LONG);
     }
-    let hours = calendar::periods_on(week, sheet, at, n, d);
+    let row = week[((d + 1) % 7) as usize];
+    let hours = calendar::hours_on(row, sheet, at, n, d);
     Work::Minutes(calendar::day_rank(hours, sheet, 1440) as i64)
 }
 
@@ -247,13 +260,22 @@ pub fn worked_before(week: [[Period; 8]; 7], sheet: &[u8], at: usize, n: usize, 
     if LAST_DAY < d {
         return Work::Refused(TOO_LONG);
     }
-    let hours = calendar::periods_on(week, sheet, at, n, d);
+    let row = week[((d + 1) % 7) as usize];
+    let hours = calendar::hours_on(row, sheet, at, n, d);
     Work::Minutes(calendar::day_rank(hours, sheet, m) as i64)
 }
 
-// The minutes worked on the days from `d` up to but not `e`.
-fn days_work(week: [[Period; 8]; 7], sheet: &[u8], at: usize, n: usize, d: u64, e: u64) -> u64
-    requires { ⌜ Valid week (now sheet) at n × (d ≤ e) × (e < 4294967296) ⌝ }
+// The minutes worked on the days from `d` up to but not `e`; `from` is the first E record whose day is `d` or later.
+fn days_work(
+    week: [[Period; 8]; 7],
+    sheet: &[u8],
+    at: usize,
+    n: usize,
+    d: u64,
+    e: u64,
+    from: usize,
+) -> u64
+    requires { ⌜ Valid week (now sheet) at n × (d ≤ e) × (e < 4294967296) × FirstFrom (now sheet) at n d from ⌝ }
     ensures { λ r. ⌜ (count (workedOn week (now (sheet .entry)) at n) (d * 1440) + r ≡ count (workedOn week (now (sheet .entry)) at n) (e * 1440)) × (r ≤ 6184752906240) ⌝ }
 {
     if d == e {
@@ -262,23 +284,18 @@ fn days_work(week: [[Period; 8]; 7], sheet: &[u8], at: usize, n: usize, d: u64, 
     let totals = weeks::totals_of(week);
     let mut sum: u64 = 0;
     let mut i = d;
-    let mut j = calendar::first_from(sheet, at, n, d);
+    let mut j = from;
     while i < e {
         let next = weeks::next_own(sheet, at, n, i, e, j);
         sum += weeks::regular_work(totals, i, next);
         if next == e {
             return sum;
         }
-        let to = calendar::first_after(sheet, at, n, next, j);
         let row = week[((next + 1) % 7) as usize];
-        let hours = Hours {
-            row: row,
-            at: at + 9 * j,
-            n: to - j,
-        };
+        let hours = calendar::hours_from(row, sheet, at, n, next, j);
         sum += calendar::day_rank(hours, sheet, 1440);
         i = next + 1;
-        j = to;
+        j += hours.n;
     }
     sum
 }
@@ -288,11 +305,17 @@ fn work_to(week: [[Period; 8]; 7], sheet: &[u8], at: usize, n: usize, a: u64, b:
     requires { ⌜ Valid week (now sheet) at n × (a ≤ b) × (b < endMinute) ⌝ }
     ensures { λ r. ⌜ (count (workedOn week (now (sheet .entry)) at n) a + r ≡ count (workedOn week (now (sheet .entry)) at n) b) × (r ≤ 6184752907680) ⌝ }
 {
+    if a == b {
+        return 0;
+    }
     let d = a / 1440;
     let e = b / 1440;
-    let first = calendar::periods_on(week, sheet, at, n, d);
-    let last = calendar::periods_on(week, sheet, at, n, e);
-    days_work(week, sheet, at, n, d, e) + calendar::day_rank(last, sheet, b % 1440)
+    let from = calendar::first_from(sheet, at, n, d);
+    let first_row = week[((d + 1) % 7) as usize];
+    let first = calendar::hours_from(first_row, sheet, at, n, d, from);
+    let last_row = week[((e + 1) % 7) as usize];
+    let last = calendar::hours_on(last_row, sheet, at, n, e);
+    days_work(week, sheet, at, n, d, e, from) + calendar::day_rank(last, sheet, b % 1440)
         - calendar::day_rank(first, sheet, a % 1440)
 }
 

@@ -8,21 +8,6 @@ ghost use Rattle.calendar.specs.Hours.{rank, Ordered};
 ghost use Rattle.calendar.specs.Records.{exceptionDay, FirstFrom};
 ghost use Rattle.clock.specs.Regular.{Totals, Daily, regular, NextOwn};
 
-// The minutes of a row.
-fn row_work(row: [Period; 8]) -> u64
-    requires { ⌜ Ordered 0 row ⌝ }
-    ensures { λ r. ⌜ (r ≡ rank row 1440) × (r ≤ 1440) ⌝ }
-{
-    let mut sum: u64 = 0;
-    let mut i: usize = 0;
-    while i < 8 {
-        let p = row[i];
-        sum += calendar::period_rank(p, 1440);
-        i += 1;
-    }
-    sum
-}
-
 // The minutes of each weekday.
 pub fn totals_of(week: [[Period; 8]; 7]) -> [u64; 7]
     requires { ⌜ ((k : ℕ) → k < 7 → Ordered 0 (getD week k [])) ⌝ }
@@ -32,7 +17,7 @@ pub fn totals_of(week: [[Period; 8]; 7]) -> [u64; 7]
     let mut k: usize = 0;
     while k < 7 {
         let row = week[k];
-        totals[k] = row_work(row);
+        totals[k] = calendar::row_rank(row, 1440) as u64;
         k += 1;
     }
     totals

@@ -1,31 +1,41 @@
--- `calendar::day_select` meets its contract. What is left is selected in the periods that are left.
-use mathlib.Core.Path.{refl, _≡_}
-use Prim.Native.Nat.{_≤_, _-_}
+-- `calendar::day_select` meets its contract: in its row, or in its records, where what is left is selected in those that are left.
+use mathlib.Core.Path.{_≡_, refl, sym, ap, _∙_}
+use Prim.Native.Nat.{_≤_, _<_, _-_}
 use native.Mathlib.Omega.{arith}
 use borrow.Author.Needs.{needs}
-use lib.ListN.{length, drop}
-use Rattle.calendar.specs.Records.{periodsOf}
+use lib.ListN.{drop}
+use Rattle.calendar.specs.Records.{recordPeriods}
 use Rattle.calendar.specs.Hours.{select}
 use Rattle.calendar.specs.Steps.{select-here, select-skip, select-end}
 use Rattle.calendar.specs.HoursLaws.{select-day}
+use Rattle.calendar.specs.DayLaws.{of-row, of-records, records-length, record-get}
 use Rattle.calendar.proofs.day_select.Statement.{statement}
 use Rattle.calendar.proofs.day_select.Tie as tie
 
 abbrev Inv-loop : tie.InvT-loop
-Inv-loop hours sheet k n left₀ i₀ left i =
-    (i ≤ n) × (n ≡ length (periodsOf hours sheet)) × (select (drop i (periodsOf hours sheet)) left ≡ select (periodsOf hours sheet) k)
+Inv-loop sheet k at n left₀ i₀ left i =
+    (i ≤ n) × (select (drop i (recordPeriods sheet at n)) left ≡ select (recordPeriods sheet at n) k)
 
 abbrev μ-loop : tie.MeasureT-loop
-μ-loop hours sheet k n left₀ i₀ left i = n - i
+μ-loop sheet k at n left₀ i₀ left i = n - i
 
-period-count-requires : tie.Need-period-count-requires Inv-loop μ-loop
-period-count-requires c κs = search needs
+row-select-requires : tie.Need-row-select-requires Inv-loop μ-loop
+row-select-requires c κs =
+    let s = c .before .before .before .before in
+    let p = s .pre in
+    let e = of-row (s .args .hours) (s .args .sheet .now) (omega arith) in
+    (rw e at (p .1), p .2, rw e at (p .3))
+
+returns : tie.Need-returns Inv-loop μ-loop
+returns c =
+    let a = c .before .before .before .before .before .args in
+    (c .row-select .ensures .0 ∙ ap (λ x. select x (a .k)) (sym (of-row (a .hours) (a .sheet .now) (omega arith))), c .row-select .ensures .1, c .row-select .ensures .2)
 
 loop-holds : tie.Need-loop-holds Inv-loop μ-loop
-loop-holds c = (omega arith, c .period-count .ensures _, refl)
+loop-holds c = (omega arith, refl)
 
-period-at-requires : tie.Need-period-at-requires Inv-loop μ-loop
-period-at-requires c κs = (c .before .before .before .before .pre .0, omega arith)
+exception-period-requires : tie.Need-exception-period-requires Inv-loop μ-loop
+exception-period-requires c κs = search needs
 
 period-length-requires : tie.Need-period-length-requires Inv-loop μ-loop
 period-length-requires c κs = search needs
@@ -36,13 +46,18 @@ cast-result c = search needs
 add-result : tie.Need-add-result Inv-loop μ-loop
 add-result c = search needs
 
-returns : tie.Need-returns Inv-loop μ-loop
-returns c =
+returns-2 : tie.Need-returns-2 Inv-loop μ-loop
+returns-2 c =
     let l = c .before .before .before .before .before in
-    let p = l .before .before .before .pre in
-    let b = c .before .before .before .period-at in
-    let s = select-day _ _ (p .1) (p .2) (p .3) in
-    let e = select-here _ (l .loop .i) _ _ (l .loop .inv .2) (b .result) (b .ensures) (omega arith) (omega (arith, c .before .before .period-length .ensures)) in
+    let s = l .before .before .before .before in
+    let a = s .args in
+    let p = s .pre in
+    let b = c .before .before .before .exception-period in
+    let g = record-get _ _ (l .before .before .before .before .args .hours .n) (l .loop .i) _ (omega arith) (b .ensures) in
+    let d = select-day _ _ (p .1) (p .2) (p .3) in
+    let e =
+    select-here _ (l .loop .i) _ _ (l .loop .inv .1) (b .result) (g .0) (g .1) (omega (arith, c .before .before .period-length .ensures))
+    ∙ ap (λ x. select x (a .k)) (sym (of-records (a .hours) (a .sheet .now) (omega arith))) in
     (e, omega arith, omega arith)
 
 sub-left : tie.Need-sub-left Inv-loop μ-loop
@@ -57,19 +72,23 @@ loop-less c = search needs
 loop-again : tie.Need-loop-again Inv-loop μ-loop
 loop-again c =
     let l = c .before .before .before .before in
-    let b = c .before .before .period-at in (
+    let b = c .before .before .exception-period in
+    let g = record-get _ _ (l .before .before .before .before .args .hours .n) (l .loop .i) _ (omega arith) (b .ensures) in (
       omega arith,
-      l .loop .inv .1,
       rw (c .before .period-length .ensures)
-          (select-skip _ (l .loop .i) _ _ (l .loop .inv .2) (b .result) (b .ensures) (omega arith) (omega (arith, c .before .period-length .ensures))),
+          (select-skip _ (l .loop .i) _ _ (l .loop .inv .1) (b .result) (g .0) (g .1) (omega (arith, c .before .period-length .ensures))),
     )
 
-returns-2 : tie.Need-returns-2 Inv-loop μ-loop
-returns-2 c =
+returns-3 : tie.Need-returns-3 Inv-loop μ-loop
+returns-3 c =
     let l = c .before in
-    let p = l .before .before .before .pre in
-    let s = select-day _ _ (p .1) (p .2) (p .3) in
-    let e = select-end _ (l .loop .i) _ _ (l .loop .inv .2) (omega arith) in
+    let s = l .before .before .before .before in
+    let a = s .args in
+    let p = s .pre in
+    let d = select-day _ _ (p .1) (p .2) (p .3) in
+    let e =
+    select-end _ (l .loop .i) _ _ (l .loop .inv .1) (omega (arith, records-length (a .sheet .now) (a .hours .at) (a .hours .n)))
+    ∙ ap (λ x. select x (a .k)) (sym (of-records (a .hours) (a .sheet .now) (omega arith))) in
     (e, omega arith, omega arith)
 
 pub day-select-spec : {M : Type 1} → statement M
@@ -78,15 +97,16 @@ day-select-spec =
     (tie.spec
     Inv-loop
     μ-loop
-    period-count-requires
+    row-select-requires
+    returns
     loop-holds
-    period-at-requires
+    exception-period-requires
     period-length-requires
     cast-result
     add-result
-    returns
+    returns-2
     sub-left
     add-i
     loop-less
     loop-again
-    returns-2)
+    returns-3)

@@ -1,11 +1,11 @@
 -- `clock::advance` meets its contract. The loop's invariant: what is left, counted from its day and minute on, ends where `work` from `t` on does.
-use mathlib.Core.Path.{_≡_, sym, _∙_}
+use mathlib.Core.Path.{_≡_, refl, sym, _∙_}
 use Prim.Native.Nat.{ℕ, _≤_, _<_, _+_, _*_, _-_}
 use native.Mathlib.Omega.{arith}
 use borrow.Author.Needs.{needs}
 use Rattle.calendar.specs.Hours.{worked, rank}
 use Rattle.calendar.specs.HoursLaws.{rank-mono}
-use Rattle.calendar.specs.Records.{hoursOn, periodsOf}
+use Rattle.calendar.specs.Records.{hoursOn, periodsOf, FirstFrom}
 use Rattle.calendar.specs.ValidLaws.{hand-ordered}
 use Rattle.date.specs.Years.{firstDay, endDay, years-before}
 use Rattle.worktime.specs.Worked.{count}
@@ -18,12 +18,12 @@ use Rattle.clock.proofs.advance.Statement.{statement}
 use Rattle.clock.proofs.advance.Tie as tie
 
 abbrev Inv-loop : tie.InvT-loop
-Inv-loop week sheet at n t work d₀ m₀ left₀ d m left =
+Inv-loop sheet at n t work week d₀ m₀ left₀ from₀ d m left from =
     (firstDay ≤ d) × (firstMinute ≤ t) × (m < 1440) × (0 < left) × (left ≤ work)
-    × (count (workedOn week sheet at n) (d * 1440 + m) + left ≡ count (workedOn week sheet at n) t + work)
+    × (count (workedOn week sheet at n) (d * 1440 + m) + left ≡ count (workedOn week sheet at n) t + work) × FirstFrom sheet at n d from
 
 abbrev μ-loop : tie.MeasureT-loop
-μ-loop week sheet at n t work d₀ m₀ left₀ d m left = endDay - d
+μ-loop sheet at n t work week d₀ m₀ left₀ from₀ d m left from = endDay - d
 
 returns : tie.Need-returns Inv-loop μ-loop
 returns c =
@@ -34,30 +34,43 @@ returns c =
 returns-2 : tie.Need-returns-2 Inv-loop μ-loop
 returns-2 c = sym (advance-out _ _ _ (omega arith) (years-before _ (omega arith)))
 
+first-from-requires : tie.Need-first-from-requires Inv-loop μ-loop
+first-from-requires c κs = let v = c .before .before .before .pre in (v .long, v .sorted)
+
 loop-holds : tie.Need-loop-holds Inv-loop μ-loop
 loop-holds c =
-    let a = c .before .before .before .args in
-    let w = workedOn (a .week) (a .sheet .now) (a .at) (a .n) in
-    (omega arith, omega arith, omega arith, omega arith, omega arith, omega (arith, count-time w (a .t)))
+    let a = c .before .before .before .before .args in
+    let w = workedOn (a .t1) (a .sheet .now) (a .at) (a .n) in
+    (omega arith, omega arith, omega arith, omega arith, omega arith, omega (arith, count-time w (a .t)), c .first-from .ensures)
 
-periods-on-requires : tie.Need-periods-on-requires Inv-loop μ-loop
-periods-on-requires c κs = (omega arith, c .before .before .before .before .before .pre)
+add-row : tie.Need-add-row Inv-loop μ-loop
+add-row c = search needs
+
+mul-row : tie.Need-mul-row Inv-loop μ-loop
+mul-row c = search needs
+
+array-copy-out-row : tie.Need-array-copy-out-row Inv-loop μ-loop
+array-copy-out-row c = search needs
+
+hours-from-requires : tie.Need-hours-from-requires Inv-loop μ-loop
+hours-from-requires c κs = let v = c .before .before .before .before .before .before .before .pre in ((v .long, v .sorted), c .before .before .loop .inv .6)
 
 day-rank-requires : tie.Need-day-rank-requires Inv-loop μ-loop
 day-rank-requires c κs =
-    (c .periods-on .ensures .1, hand-ordered (c .before .before .before .before .before .before .pre) _ _ (c .periods-on .ensures .0))
+    let f = c .hours-from .ensures .0 in
+    (f .within, hand-ordered (c .before .before .before .before .before .before .before .before .pre) _ _ (f .is _ refl))
 
 day-rank-requires-2 : tie.Need-day-rank-requires-2 Inv-loop μ-loop
 day-rank-requires-2 c κs = day-rank-requires (c .before) κs
 
 sub-today : tie.Need-sub-today Inv-loop μ-loop
 sub-today c =
-    let l = c .before .before .before .before in
-    let ps = periodsOf (c .before .before .periods-on .result) (l .before .before .before .before .args .sheet .now) in
+    let l = c .before .before .before .before .before in
+    let ps = periodsOf (c .before .before .hours-from .result) (l .before .before .before .before .before .args .sheet .now) in
     omega (arith, c .before .day-rank .ensures .0, c .day-rank2 .ensures .0, rank-mono ps (l .loop .m) 1440 (omega arith))
 
-mul-t16 : tie.Need-mul-t16 Inv-loop μ-loop
-mul-t16 c = search needs
+mul-t25 : tie.Need-mul-t25 Inv-loop μ-loop
+mul-t25 c = search needs
 
 add-day-select : tie.Need-add-day-select Inv-loop μ-loop
 add-day-select c = omega (arith, sub-today (c .before))
@@ -67,19 +80,19 @@ day-select-requires c κs =
     let q = day-rank-requires (c .before .before .before) κs in
     (q .0, q .1, omega arith, omega (arith, sub-today (c .before), c .before .day-rank2 .ensures .0))
 
-add-t19 : tie.Need-add-t19 Inv-loop μ-loop
-add-t19 c = search needs
+add-t28 : tie.Need-add-t28 Inv-loop μ-loop
+add-t28 c = search needs
 
 returns-3 : tie.Need-returns-3 Inv-loop μ-loop
 returns-3 c =
-    let l = c .before .before .before .before .before .before in
-    let s = l .before .before .before .before in
+    let l = c .before .before .before .before .before .before .before in
+    let s = l .before .before .before .before .before in
     let a = s .args in
-    let h = hoursOn (a .week) (a .sheet .now) (a .at) (a .n) in
+    let h = hoursOn (a .t1) (a .sheet .now) (a .at) (a .n) in
     let d = l .loop .d in
     let o = s .pre .ordered d in
-    let p = c .before .before .before .before .periods-on .ensures .0 in
-    let ps = periodsOf (c .before .before .before .before .periods-on .result) (a .sheet .now) in
+    let p = c .before .before .before .before .hours-from .ensures .0 .is (a .t1) refl in
+    let ps = periodsOf (c .before .before .before .before .hours-from .result) (a .sheet .now) in
     let q = c .before .before .before .day-rank .ensures .0 in
     let f = hand-select h d o ps p _ _ (omega arith) (omega (arith, sub-today (c .before .before), c .before .before .day-rank2 .ensures .0)) (c .day-select .ensures .0) in
     sym
@@ -89,6 +102,9 @@ returns-3 c =
 sub-left : tie.Need-sub-left Inv-loop μ-loop
 sub-left c = search needs
 
+add-from : tie.Need-add-from Inv-loop μ-loop
+add-from c = omega (arith, c .before .before .before .before .hours-from .ensures .1 .within)
+
 add-d : tie.Need-add-d Inv-loop μ-loop
 add-d c = search needs
 
@@ -97,22 +113,30 @@ loop-less c = search needs
 
 loop-again : tie.Need-loop-again Inv-loop μ-loop
 loop-again c =
-    let l = c .before .before .before .before .before in
-    let s = l .before .before .before .before in
+    let l = c .before .before .before .before .before .before .before in
+    let s = l .before .before .before .before .before in
     let a = s .args in
-    let h = hoursOn (a .week) (a .sheet .now) (a .at) (a .n) in
+    let h = hoursOn (a .t1) (a .sheet .now) (a .at) (a .n) in
     let d = l .loop .d in
     let o = s .pre .ordered d in
-    let p = c .before .before .before .periods-on .ensures .0 in
-    let q = hand-rank h d o _ p (l .loop .m) _ (omega arith) (c .before .before .day-rank .ensures .0) in
-    let r = hand-rank h d o _ p 1440 _ (omega arith) (c .before .day-rank2 .ensures .0) in
-    (omega arith, omega arith, omega arith, omega arith, omega arith, omega (arith, sub-today (c .before), q, r, count-next-day (worked h) d, l .loop .inv .5))
+    let f = c .before .before .before .before .hours-from .ensures in
+    let p = f .0 .is (a .t1) refl in
+    let q = hand-rank h d o _ p (l .loop .m) _ (omega arith) (c .before .before .before .day-rank .ensures .0) in
+    let r = hand-rank h d o _ p 1440 _ (omega arith) (c .before .before .day-rank2 .ensures .0) in (
+      omega arith,
+      omega arith,
+      omega arith,
+      omega arith,
+      omega arith,
+      omega (arith, sub-today (c .before .before), q, r, count-next-day (worked h) d, l .loop .inv .5),
+      f .1,
+    )
 
 returns-4 : tie.Need-returns-4 Inv-loop μ-loop
 returns-4 c =
     let l = c .before in
-    let a = l .before .before .before .before .args in
-    let w = workedOn (a .week) (a .sheet .now) (a .at) (a .n) in
+    let a = l .before .before .before .before .before .args in
+    let w = workedOn (a .t1) (a .sheet .now) (a .at) (a .n) in
     sym
     (advance-none w (a .t) (a .work) (omega arith)
     (omega (arith, l .loop .inv .5, count-mono w {s = endMinute} {t = l .loop .d * 1440 + l .loop .m} (omega arith))))
@@ -125,17 +149,22 @@ advance-spec =
     μ-loop
     returns
     returns-2
+    first-from-requires
     loop-holds
-    periods-on-requires
+    add-row
+    mul-row
+    array-copy-out-row
+    hours-from-requires
     day-rank-requires
     day-rank-requires-2
     sub-today
-    mul-t16
+    mul-t25
     add-day-select
     day-select-requires
-    add-t19
+    add-t28
     returns-3
     sub-left
+    add-from
     add-d
     loop-less
     loop-again

@@ -7,7 +7,6 @@ use Prim.Native.Nat.{ℕ, _+_, _-_, _*_, _/_, _%_, _≤_, _<_}
 use Rattle.calendar.specs.declared.Period.{Period}
 use Rattle.calendar.specs.Hours.{worked}
 use Rattle.calendar.specs.Records.{hoursOn, FirstFrom}
-use Rattle.calendar.specs.DayLaws.{from-to, hours-in-hand}
 use Rattle.calendar.specs.ValidLaws.{hand-ordered}
 use Rattle.worktime.specs.Worked.{count}
 use Rattle.worktime.specs.Count.{count-le}
@@ -20,12 +19,12 @@ use Rattle.clock.proofs.days_work.Statement.{statement}
 use Rattle.clock.proofs.days_work.Tie as tie
 
 abbrev Inv-loop : tie.InvT-loop
-Inv-loop sheet at n d e week totals sum₀ i₀ j₀ sum i j =
+Inv-loop sheet at n d e from week totals sum₀ i₀ j₀ sum i j =
     (d ≤ i) × (i ≤ e) × FirstFrom sheet at n i j × Totals week totals
     × (count (workedOn week sheet at n) (d * 1440) + sum ≡ count (workedOn week sheet at n) (i * 1440))
 
 abbrev μ-loop : tie.MeasureT-loop
-μ-loop sheet at n d e week totals sum₀ i₀ j₀ sum i j = e - i
+μ-loop sheet at n d e from week totals sum₀ i₀ j₀ sum i j = e - i
 
 returns : tie.Need-returns Inv-loop μ-loop
 returns c =
@@ -36,33 +35,30 @@ returns c =
 totals-of-requires : tie.Need-totals-of-requires Inv-loop μ-loop
 totals-of-requires c κs = row-ordered (c .before .before .pre .0)
 
-first-from-requires : tie.Need-first-from-requires Inv-loop μ-loop
-first-from-requires c κs = let p = c .before .before .before .pre .0 in (p .long, p .sorted)
-
 loop-holds : tie.Need-loop-holds Inv-loop μ-loop
-loop-holds c = let p = c .before .before .before .before .pre in (omega arith, p .1, c .first-from .ensures, c .before .totals-of .ensures, omega arith)
+loop-holds c = let p = c .before .before .before .pre in (omega arith, p .1, p .3, c .totals-of .ensures, omega arith)
 
 next-own-requires : tie.Need-next-own-requires Inv-loop μ-loop
 next-own-requires c κs =
     let l = c .before in
-    let p = l .before .before .before .before .before .pre .0 in
+    let p = l .before .before .before .before .pre .0 in
     (p .long, p .sorted, l .loop .inv .2, l .loop .inv .1)
 
 regular-work-requires : tie.Need-regular-work-requires Inv-loop μ-loop
 regular-work-requires c κs =
     let l = c .before .before in
-    (l .loop .inv .3 .daily, c .next-own .ensures .from, omega (arith, c .next-own .ensures .to, l .before .before .before .before .before .pre .2))
+    (l .loop .inv .3 .daily, c .next-own .ensures .from, omega (arith, c .next-own .ensures .to, l .before .before .before .before .pre .2))
 
 -- what the days without E records before the next add
 passed : (c : tie.After-regular-work Inv-loop μ-loop) →
     let l = c .before .before .before in
-    let s = l .before .before .before .before .before in
+    let s = l .before .before .before .before in
     let a = s .args in
     let w = workedOn (a .t1) (a .sheet .now) (a .at) (a .n) in
     (count w (a .d * 1440) + (l .loop .sum + c .regular-work .result) ≡ count w (c .before .next-own .result * 1440)) × (c .before .next-own .result < 4294967296)
 passed c =
     let l = c .before .before .before in
-    let s = l .before .before .before .before .before in
+    let s = l .before .before .before .before in
     let a = s .args in
     let w = workedOn (a .t1) (a .sheet .now) (a .at) (a .n) in
     let i = l .loop .i in
@@ -75,22 +71,17 @@ passed c =
 
 add-sum : tie.Need-add-sum Inv-loop μ-loop
 add-sum c =
-    let a = c .before .before .before .before .before .before .before .before .args in
+    let a = c .before .before .before .before .before .before .before .args in
     let p = passed c in
     omega (arith, p .0, p .1, count-le (workedOn (a .t1) (a .sheet .now) (a .at) (a .n)) (c .before .next-own .result * 1440))
 
 returns-2 : tie.Need-returns-2 Inv-loop μ-loop
 returns-2 c =
     let p = passed (c .before) in
-    let a = c .before .before .before .before .before .before .before .before .before .args in
+    let a = c .before .before .before .before .before .before .before .before .args in
     let w = workedOn (a .t1) (a .sheet .now) (a .at) (a .n) in
     let e : count w (c .before .before .next-own .result * 1440) ≡ count w (a .e * 1440) = ap (λ k. count w (k * 1440)) (omega (arith, c .if2 .taken)) in
     (omega (arith, p .0, e), omega (arith, p .0, p .1, count-le w (c .before .before .next-own .result * 1440)))
-
-first-after-requires : tie.Need-first-after-requires Inv-loop μ-loop
-first-after-requires c κs =
-    let p = c .before .before .before .before .before .before .before .before .before .pre .0 in
-    (p .long, p .sorted, c .before .before .next-own .ensures .first)
 
 add-row : tie.Need-add-row Inv-loop μ-loop
 add-row c = search needs
@@ -101,63 +92,59 @@ mul-row c = search needs
 array-copy-out-row : tie.Need-array-copy-out-row Inv-loop μ-loop
 array-copy-out-row c = search needs
 
-mul-t21 : tie.Need-mul-t21 Inv-loop μ-loop
-mul-t21 c = search needs
-
-add-t22 : tie.Need-add-t22 Inv-loop μ-loop
-add-t22 c = search needs
-
-sub-t26 : tie.Need-sub-t26 Inv-loop μ-loop
-sub-t26 c = from-to _ _ _ _ _ _ (c .before .before .before .before .next-own .ensures .first) (c .before .first-after .ensures)
+hours-from-requires : tie.Need-hours-from-requires Inv-loop μ-loop
+hours-from-requires c κs =
+    let v = c .before .before .before .before .before .before .before .before .before .pre .0 in
+    ((v .long, v .sorted), c .before .before .before .next-own .ensures .first)
 
 day-rank-requires : tie.Need-day-rank-requires Inv-loop μ-loop
 day-rank-requires c κs =
-    let lo = c .before .before .before .before .next-own .ensures .first in
-    let hi = c .before .first-after .ensures in
-    let v = c .before .before .before .before .before .before .before .before .before .before .before .pre .0 in
-    (omega (arith, v .long, hi .within, from-to _ _ _ _ _ _ lo hi), hand-ordered v _ _ (hours-in-hand _ _ _ _ _ _ lo hi _ _ refl refl refl))
+    let s = c .before .before .before .before .before .before .before .before .before .before in
+    let o = c .hours-from .ensures .0 in
+    (o .within, hand-ordered (s .pre .0) _ _ (o .is (s .args .t1) refl))
 
 -- what the day with E records adds
 added : (c : tie.After-day-rank Inv-loop μ-loop) →
     let l = c .before .before .before .before .before .before .before in
-    let a = l .before .before .before .before .before .args in
+    let a = l .before .before .before .before .args in
     let w = workedOn (a .t1) (a .sheet .now) (a .at) (a .n) in
     count w (a .d * 1440) + (l .loop .sum + c .before .before .before .before .regular-work .result + c .day-rank .result)
     ≡ count w ((c .before .before .before .before .before .next-own .result + 1) * 1440)
 added c =
     let l = c .before .before .before .before .before .before .before in
-    let s = l .before .before .before .before .before in
+    let s = l .before .before .before .before in
     let a = s .args in
     let h = hoursOn (a .t1) (a .sheet .now) (a .at) (a .n) in
-    let lo = c .before .before .before .before .before .next-own .ensures .first in
-    let hi = c .before .before .first-after .ensures in
     let x = c .before .before .before .before .before .next-own .result in
-    let r = hand-rank h x (s .pre .0 .ordered x) _ (hours-in-hand _ _ _ _ _ _ lo hi _ _ refl refl refl) 1440 _ (omega arith) (c .day-rank .ensures .0) in
+    let r = hand-rank h x (s .pre .0 .ordered x) _ (c .before .hours-from .ensures .0 .is (a .t1) refl) 1440 _ (omega arith) (c .day-rank .ensures .0) in
     let e : count (worked h) (x * 1440 + 1440) ≡ count (worked h) ((x + 1) * 1440) = ap (count (worked h)) (omega arith) in
     omega (arith, r, e, passed (c .before .before .before .before) .0)
 
 add-sum-2 : tie.Need-add-sum-2 Inv-loop μ-loop
 add-sum-2 c =
-    let a = c .before .before .before .before .before .before .before .before .before .before .before .before .args in
+    let a = c .before .before .before .before .before .before .before .before .before .before .before .args in
     let x = c .before .before .before .before .before .next-own .result in
     omega (arith, added c, passed (c .before .before .before .before) .1, count-le (workedOn (a .t1) (a .sheet .now) (a .at) (a .n)) ((x + 1) * 1440))
 
 add-i : tie.Need-add-i Inv-loop μ-loop
 add-i c = search needs
 
+add-j : tie.Need-add-j Inv-loop μ-loop
+add-j c = omega (arith, c .before .before .hours-from .ensures .1 .within)
+
 loop-less : tie.Need-loop-less Inv-loop μ-loop
-loop-less c = omega (arith, c .before .before .before .before .before .next-own .ensures .from, c .before .before .before .before .before .next-own .ensures .to)
+loop-less c = let o = c .before .before .before .before .before .before .next-own .ensures in omega (arith, o .from, o .to)
 
 loop-again : tie.Need-loop-again Inv-loop μ-loop
 loop-again c =
-    let l = c .before .before .before .before .before .before .before in
-    let o = c .before .before .before .before .before .next-own .ensures in
-    (omega (arith, o .from, l .loop .inv .0), omega (arith, o .to, c .before .before .before .if2 .left), c .before .before .first-after .ensures, l .loop .inv .3, added c)
+    let l = c .before .before .before .before .before .before .before .before in
+    let o = c .before .before .before .before .before .before .next-own .ensures in
+    (omega (arith, o .from, l .loop .inv .0), omega (arith, o .to, c .before .before .before .before .if2 .left), c .before .before .hours-from .ensures .1, l .loop .inv .3, added (c .before))
 
 returns-3 : tie.Need-returns-3 Inv-loop μ-loop
 returns-3 c =
     let l = c .before in
-    let a = l .before .before .before .before .before .args in
+    let a = l .before .before .before .before .args in
     let w = workedOn (a .t1) (a .sheet .now) (a .at) (a .n) in
     let e : count w (l .loop .i * 1440) ≡ count w (a .e * 1440) = ap (λ k. count w (k * 1440)) (omega arith) in
     (omega (arith, e, l .loop .inv .4), omega (arith, l .loop .inv .4, count-le w (l .loop .i * 1440)))
@@ -170,22 +157,19 @@ days-work-spec =
     μ-loop
     returns
     totals-of-requires
-    first-from-requires
     loop-holds
     next-own-requires
     regular-work-requires
     add-sum
     returns-2
-    first-after-requires
     add-row
     mul-row
     array-copy-out-row
-    mul-t21
-    add-t22
-    sub-t26
+    hours-from-requires
     day-rank-requires
     add-sum-2
     add-i
+    add-j
     loop-less
     loop-again
     returns-3)

@@ -1,11 +1,11 @@
 -- `clock::retreat` meets its contract. The loop's invariant: what is left, counted back from its day and minute, begins where `work` back from `t` does.
-use mathlib.Core.Path.{_≡_, sym, _∙_}
+use mathlib.Core.Path.{_≡_, refl, sym, _∙_}
 use Prim.Native.Nat.{ℕ, _≤_, _<_, _+_, _*_, _-_}
 use native.Mathlib.Omega.{arith}
 use borrow.Author.Needs.{needs}
 use Rattle.calendar.specs.Hours.{worked, rank}
 use Rattle.calendar.specs.HoursLaws.{rank-mono}
-use Rattle.calendar.specs.Records.{hoursOn, periodsOf}
+use Rattle.calendar.specs.Records.{hoursOn, periodsOf, FirstFrom}
 use Rattle.calendar.specs.ValidLaws.{hand-ordered}
 use Rattle.date.specs.Years.{firstDay, endDay, years-after}
 use Rattle.worktime.specs.Worked.{count}
@@ -18,12 +18,12 @@ use Rattle.clock.proofs.retreat.Statement.{statement}
 use Rattle.clock.proofs.retreat.Tie as tie
 
 abbrev Inv-loop : tie.InvT-loop
-Inv-loop week sheet at n t work d₀ m₀ left₀ d m left =
+Inv-loop sheet at n t work week d₀ m₀ left₀ to₀ d m left to =
     (d < endDay) × (t < endMinute) × (m ≤ 1440) × (0 < left) × (left ≤ work)
-    × (count (workedOn week sheet at n) (d * 1440 + m) + work ≡ count (workedOn week sheet at n) t + left)
+    × (count (workedOn week sheet at n) (d * 1440 + m) + work ≡ count (workedOn week sheet at n) t + left) × FirstFrom sheet at n (d + 1) to
 
 abbrev μ-loop : tie.MeasureT-loop
-μ-loop week sheet at n t work d₀ m₀ left₀ d m left = d
+μ-loop sheet at n t work week d₀ m₀ left₀ to₀ d m left to = d
 
 returns : tie.Need-returns Inv-loop μ-loop
 returns c =
@@ -34,48 +34,64 @@ returns c =
 returns-2 : tie.Need-returns-2 Inv-loop μ-loop
 returns-2 c = sym (retreat-out _ _ _ (omega arith) (years-after _ (omega arith)))
 
+add-first-from : tie.Need-add-first-from Inv-loop μ-loop
+add-first-from c = search needs
+
+first-from-requires : tie.Need-first-from-requires Inv-loop μ-loop
+first-from-requires c κs = let v = c .before .before .before .pre in (v .long, v .sorted)
+
 loop-holds : tie.Need-loop-holds Inv-loop μ-loop
 loop-holds c =
-    let a = c .before .before .before .args in
-    let w = workedOn (a .week) (a .sheet .now) (a .at) (a .n) in
-    (omega arith, omega arith, omega arith, omega arith, omega arith, omega (arith, count-time w (a .t)))
+    let a = c .before .before .before .before .args in
+    let w = workedOn (a .t1) (a .sheet .now) (a .at) (a .n) in
+    (omega arith, omega arith, omega arith, omega arith, omega arith, omega (arith, count-time w (a .t)), c .first-from .ensures)
 
-periods-on-requires : tie.Need-periods-on-requires Inv-loop μ-loop
-periods-on-requires c κs = (omega arith, c .before .before .before .before .before .pre)
+add-row : tie.Need-add-row Inv-loop μ-loop
+add-row c = search needs
+
+mul-row : tie.Need-mul-row Inv-loop μ-loop
+mul-row c = search needs
+
+array-copy-out-row : tie.Need-array-copy-out-row Inv-loop μ-loop
+array-copy-out-row c = search needs
+
+hours-to-requires : tie.Need-hours-to-requires Inv-loop μ-loop
+hours-to-requires c κs = let v = c .before .before .before .before .before .before .before .pre in ((v .long, v .sorted), c .before .before .loop .inv .6)
 
 day-rank-requires : tie.Need-day-rank-requires Inv-loop μ-loop
 day-rank-requires c κs =
-    (c .periods-on .ensures .1, hand-ordered (c .before .before .before .before .before .before .pre) _ _ (c .periods-on .ensures .0))
+    let f = c .hours-to .ensures .0 in
+    (f .within, hand-ordered (c .before .before .before .before .before .before .before .before .pre) _ _ (f .is _ refl))
 
-mul-t14 : tie.Need-mul-t14 Inv-loop μ-loop
-mul-t14 c = search needs
+mul-t25 : tie.Need-mul-t25 Inv-loop μ-loop
+mul-t25 c = search needs
 
 add-day-select : tie.Need-add-day-select Inv-loop μ-loop
 add-day-select c = search needs
 
 day-select-requires : tie.Need-day-select-requires Inv-loop μ-loop
 day-select-requires c κs =
-    let l = c .before .before .before .before in
-    let ps = periodsOf (c .before .before .periods-on .result) (l .before .before .before .before .args .sheet .now) in
+    let l = c .before .before .before .before .before in
+    let ps = periodsOf (c .before .before .hours-to .result) (l .before .before .before .before .before .args .sheet .now) in
     let q = day-rank-requires (c .before .before) κs in
     (q .0, q .1, omega arith, omega (arith, c .before .day-rank .ensures .0, rank-mono ps (l .loop .m) 1440 (omega arith)))
 
-add-t18 : tie.Need-add-t18 Inv-loop μ-loop
-add-t18 c = search needs
+add-t29 : tie.Need-add-t29 Inv-loop μ-loop
+add-t29 c = search needs
 
-sub-t19 : tie.Need-sub-t19 Inv-loop μ-loop
-sub-t19 c = search needs
+sub-t30 : tie.Need-sub-t30 Inv-loop μ-loop
+sub-t30 c = search needs
 
 returns-3 : tie.Need-returns-3 Inv-loop μ-loop
 returns-3 c =
-    let l = c .before .before .before .before .before in
-    let s = l .before .before .before .before in
+    let l = c .before .before .before .before .before .before in
+    let s = l .before .before .before .before .before in
     let a = s .args in
-    let h = hoursOn (a .week) (a .sheet .now) (a .at) (a .n) in
+    let h = hoursOn (a .t1) (a .sheet .now) (a .at) (a .n) in
     let d = l .loop .d in
     let o = s .pre .ordered d in
-    let p = c .before .before .before .periods-on .ensures .0 in
-    let ps = periodsOf (c .before .before .before .periods-on .result) (a .sheet .now) in
+    let p = c .before .before .before .hours-to .ensures .0 .is (a .t1) refl in
+    let ps = periodsOf (c .before .before .before .hours-to .result) (a .sheet .now) in
     let q = c .before .before .day-rank .ensures .0 in
     let f = hand-select h d o ps p _ _ (omega arith) (omega (arith, q, rank-mono ps (l .loop .m) 1440 (omega arith))) (c .day-select .ensures .0) in
     sym
@@ -85,6 +101,9 @@ returns-3 c =
 sub-left : tie.Need-sub-left Inv-loop μ-loop
 sub-left c = search needs
 
+sub-to : tie.Need-sub-to Inv-loop μ-loop
+sub-to c = c .before .before .before .hours-to .ensures .1
+
 sub-d : tie.Need-sub-d Inv-loop μ-loop
 sub-d c = search needs
 
@@ -93,19 +112,29 @@ loop-less c = search needs
 
 loop-again : tie.Need-loop-again Inv-loop μ-loop
 loop-again c =
-    let l = c .before .before .before .before in
-    let s = l .before .before .before .before in
+    let l = c .before .before .before .before .before .before in
+    let s = l .before .before .before .before .before in
     let a = s .args in
-    let h = hoursOn (a .week) (a .sheet .now) (a .at) (a .n) in
+    let h = hoursOn (a .t1) (a .sheet .now) (a .at) (a .n) in
     let d = l .loop .d in
-    let q = hand-rank h d (s .pre .ordered d) _ (c .before .before .periods-on .ensures .0) (l .loop .m) _ (omega arith) (c .before .day-rank .ensures .0) in
-    (omega arith, omega arith, omega arith, omega arith, omega arith, omega (arith, q, count-day-before (worked h) d (omega arith), l .loop .inv .5))
+    let o = s .pre .ordered d in
+    let f = c .before .before .before .hours-to .ensures in
+    let q = hand-rank h d o _ (f .0 .is (a .t1) refl) (l .loop .m) _ (omega arith) (c .before .before .day-rank .ensures .0) in
+    let e : d - 1 + 1 ≡ d = omega arith in (
+      omega arith,
+      omega arith,
+      omega arith,
+      omega arith,
+      omega arith,
+      omega (arith, q, count-day-before (worked h) d (omega arith), l .loop .inv .5),
+      rw e (f .2),
+    )
 
 returns-4 : tie.Need-returns-4 Inv-loop μ-loop
 returns-4 c =
     let l = c .before in
-    let a = l .before .before .before .before .args in
-    let w = workedOn (a .week) (a .sheet .now) (a .at) (a .n) in
+    let a = l .before .before .before .before .before .args in
+    let w = workedOn (a .t1) (a .sheet .now) (a .at) (a .n) in
     sym
     (retreat-none w (a .t) (a .work) (omega arith)
     (omega (arith, l .loop .inv .5, count-mono w {s = l .loop .d * 1440 + l .loop .m} {t = firstMinute} (omega arith))))
@@ -118,16 +147,22 @@ retreat-spec =
     μ-loop
     returns
     returns-2
+    add-first-from
+    first-from-requires
     loop-holds
-    periods-on-requires
+    add-row
+    mul-row
+    array-copy-out-row
+    hours-to-requires
     day-rank-requires
-    mul-t14
+    mul-t25
     add-day-select
     day-select-requires
-    add-t18
-    sub-t19
+    add-t29
+    sub-t30
     returns-3
     sub-left
+    sub-to
     sub-d
     loop-less
     loop-again

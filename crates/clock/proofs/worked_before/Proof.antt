@@ -1,5 +1,5 @@
 -- `clock::worked_before` meets its contract. The rank of `t`'s minute in its day.
-use mathlib.Core.Path.{_≡_, sym, ap, _∙_}
+use mathlib.Core.Path.{_≡_, refl, sym, ap, _∙_}
 use native.Mathlib.Omega.{arith}
 use borrow.Author.Needs.{needs}
 use Prim.Native.Nat.{ℕ, _+_, _-_, _*_, _/_, _%_, _≤_, _<_}
@@ -12,6 +12,7 @@ use Rattle.worktime.specs.declared.Work.the-variants.{Minutes}
 use Rattle.date.specs.Years.{years-before, years-after, years-within}
 use Rattle.worktime.specs.Between.{worked-before-out, worked-before-at}
 use Rattle.clock.specs.Days.{hand-rank, count-time}
+use borrow.Author.Needs.{needs}
 use Rattle.clock.proofs.worked_before.Statement.{statement}
 use Rattle.clock.proofs.worked_before.Tie as tie
 
@@ -21,25 +22,44 @@ returns c = sym (worked-before-out _ _ (years-before _ (omega arith)))
 returns-2 : tie.Need-returns-2
 returns-2 c = sym (worked-before-out _ _ (years-after _ (omega arith)))
 
-periods-on-requires : tie.Need-periods-on-requires
-periods-on-requires c κs = (omega arith, c .before .before .before .pre)
+add-row : tie.Need-add-row
+add-row c = search needs
+
+mul-row : tie.Need-mul-row
+mul-row c = search needs
+
+array-copy-out-row : tie.Need-array-copy-out-row
+array-copy-out-row c = search needs
+
+hours-on-requires : tie.Need-hours-on-requires
+hours-on-requires c κs = search needs
 
 day-rank-requires : tie.Need-day-rank-requires
-day-rank-requires c κs =
-    (c .periods-on .ensures .1, hand-ordered (c .before .before .before .before .pre) _ _ (c .periods-on .ensures .0))
+day-rank-requires c κs = let f = c .hours-on .ensures in (f .within, hand-ordered (c .before .before .before .before .before .pre) _ _ (f .is _ refl))
 
-cast-t11 : tie.Need-cast-t11
-cast-t11 c = search needs
+cast-t19 : tie.Need-cast-t19
+cast-t19 c = search needs
 
 returns-3 : tie.Need-returns-3
 returns-3 c =
-    let s = c .before .before .before .before .before in
+    let s = c .before .before .before .before .before .before in
     let a = s .args in
-    let h = hoursOn (a .week) (a .sheet .now) (a .at) (a .n) in
+    let h = hoursOn (a .t1) (a .sheet .now) (a .at) (a .n) in
     let d = a .t / 1440 in
-    let r = hand-rank h d (s .pre .ordered d) _ (c .before .periods-on .ensures .0) (a .t % 1440) _ (omega arith) (c .day-rank .ensures .0) in
+    let r = hand-rank h d (s .pre .ordered d) _ (c .before .hours-on .ensures .is (a .t1) refl) (a .t % 1440) _ (omega arith) (c .day-rank .ensures .0) in
     ap Minutes (toZ-pos w64 {n = c .day-rank .result} (omega (arith, c .day-rank .ensures .1)))
     ∙ sym (worked-before-at (worked h) (a .t) _ (years-within _ (omega arith) (omega arith)) (omega (arith, r, count-time (worked h) (a .t))))
 
 pub worked-before-spec : {M : Type 1} → statement M
-worked-before-spec = tie.close (tie.spec returns returns-2 periods-on-requires day-rank-requires cast-t11 returns-3)
+worked-before-spec =
+    tie.close
+    (tie.spec
+    returns
+    returns-2
+    add-row
+    mul-row
+    array-copy-out-row
+    hours-on-requires
+    day-rank-requires
+    cast-t19
+    returns-3)

@@ -28,8 +28,11 @@ mul-row c = omega arith
 array-copy-out-row : tie.Need-array-copy-out-row Inv-loop μ-loop
 array-copy-out-row c = search needs
 
-row-work-requires : tie.Need-row-work-requires Inv-loop μ-loop
-row-work-requires c κs = let l = c .before .before in l .before .pre (l .loop .k) (omega arith)
+row-rank-requires : tie.Need-row-rank-requires Inv-loop μ-loop
+row-rank-requires c κs = let l = c .before .before in l .before .pre (l .loop .k) (omega arith)
+
+cast-totals : tie.Need-cast-totals Inv-loop μ-loop
+cast-totals c = search needs
 
 mul-totals : tie.Need-mul-totals Inv-loop μ-loop
 mul-totals c = search needs
@@ -48,12 +51,12 @@ loop-again c =
     let l = c .before .before .before in
     let k = l .loop .k in
     let ts = l .loop .totals in
-    let same = getD-set-same ts k (c .row-work .result) 0 (omega arith) in (
+    let same = getD-set-same ts k (c .row-rank .result) 0 (omega arith) in (
       omega arith,
       simp length-set (omega arith),
       below-more _ k
-          (λ j h. let o = getD-set-other ts k j (c .row-work .result) 0 (omega arith) in (o ∙ l .loop .inv .2 j h .0, omega (arith, o, l .loop .inv .2 j h .1)))
-          (same ∙ c .row-work .ensures .0, omega (arith, same, c .row-work .ensures .1)),
+          (λ j h. let o = getD-set-other ts k j (c .row-rank .result) 0 (omega arith) in (o ∙ l .loop .inv .2 j h .0, omega (arith, o, l .loop .inv .2 j h .1)))
+          (same ∙ c .row-rank .ensures .0, omega (arith, same, c .row-rank .ensures .1)),
     )
 
 returns : tie.Need-returns Inv-loop μ-loop
@@ -61,4 +64,4 @@ returns c = let l = c .before in totals-are _ _ (l .loop .inv .1) (λ k h. l .lo
 
 pub totals-of-spec : {M : Type 1} → statement M
 totals-of-spec =
-    tie.close (tie.spec Inv-loop μ-loop loop-holds mul-row array-copy-out-row row-work-requires mul-totals array-write-totals add-k loop-less loop-again returns)
+    tie.close (tie.spec Inv-loop μ-loop loop-holds mul-row array-copy-out-row row-rank-requires cast-totals mul-totals array-write-totals add-k loop-less loop-again returns)
