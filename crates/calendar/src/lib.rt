@@ -243,25 +243,25 @@ pub fn is_working(week: [[Period; 8]; 7], sheet: &[u8], at: usize, n: usize, d: 
 }
 
 // The lesser of two numbers.
-fn lesser(a: u32, b: u32) -> u32
+fn lesser(a: u16, b: u16) -> u16
     ensures { λ r. ⌜ r ≡ min a b ⌝ }
 {
     if a < b { a } else { b }
 }
 
 // The minute of the day that is `m`, or its end where `m` is later.
-fn day_minute(m: u64) -> u32
+fn day_minute(m: u64) -> u16
     ensures { λ r. ⌜ r ≡ min m 1440 ⌝ }
 {
-    if m < 1440 { m as u32 } else { 1440 }
+    if m < 1440 { m as u16 } else { 1440 }
 }
 
 // How many minutes of the period stand before minute `m` of the day.
-fn period_rank(p: Period, m: u32) -> u32
+fn period_rank(p: Period, m: u16) -> u16
     ensures { λ r. ⌜ r ≡ min m (p .to) - p .from ⌝ }
 {
-    let from = p.from as u32;
-    let to = lesser(m, p.to as u32);
+    let from = p.from;
+    let to = lesser(m, p.to);
     if from < to { to - from } else { 0 }
 }
 
@@ -274,12 +274,12 @@ fn period_length(p: Period) -> u64
     if from < to { to - from } else { 0 }
 }
 
-// How many minutes of the row stand before minute `m` of the day: without a branch, so that the machine adds several periods at once.
-pub fn row_rank(row: [Period; 8], m: u32) -> u32
+// How many minutes of the row stand before minute `m` of the day: without a branch, so that the machine takes all eight at once.
+pub fn row_rank(row: [Period; 8], m: u16) -> u16
     requires { ⌜ Ordered 0 row ⌝ }
     ensures { λ r. ⌜ (r ≡ rank row m) × (r ≤ 1440) ⌝ }
 {
-    let mut sum: u32 = 0;
+    let mut sum: u16 = 0;
     let mut i: usize = 0;
     while i < PERIODS {
         let p = row[i];
@@ -304,7 +304,7 @@ pub fn day_rank(hours: Hours, sheet: &[u8], m: u64) -> u64
     }
     let at = hours.at;
     let n = hours.n;
-    let mut sum: u32 = 0;
+    let mut sum: u16 = 0;
     let mut i: usize = 0;
     while i < n {
         let p = exception_period(sheet, at, i);
