@@ -4,7 +4,6 @@ use mathlib.Core.Bool.{Bool, true, false}
 use Prim.Native.Nat.{ℕ}
 use native.Mathlib.Omega.{arith}
 use Rattle.memory.specs.State.{State}
-use Rattle.memory.specs.Fields.{bucket, nextId, parent, isSummary}
 use Rattle.order.specs.Plan.{Plan}
 use Rattle.order.specs.Checks.{Verdict, orElse}
 use Rattle.order.specs.CheckLaws.{calendarsFirst, activitiesFirst, parentsFirst}
@@ -12,8 +11,7 @@ use Rattle.order.specs.VerdictLaws.{or-first, or-second}
 use Rattle.order.specs.FineLaws.{activities-fine}
 use Rattle.ids.specs.declared.Check.{Check}
 use Rattle.ids.specs.declared.Check.the-variants.{Fine, Refused}
-use Rattle.ids.specs.Index.{Indexed}
-use Rattle.ids.specs.Lent.{KeptBut}
+use Rattle.ids.specs.ParentedLaws.{indexed-kept}
 use Rattle.ids.specs.Answers.{Answered, IndexedBy, ParentedBy}
 use Rattle.ids.specs.AnswerLaws.{not-refused, answered-refused, fine-number, refused-number}
 use Rattle.ids.specs.SummaryLaws.{indexed-distinct, parented-known}
@@ -27,12 +25,6 @@ module _ {v : Verdict} (w : Verdict) {r : Check} (A : Answered r v) where
 
 answered-then : (v : Verdict) {w : Verdict} {r : Check} → v .number ≡ 0 → Answered r w → Answered r (orElse v w)
 answered-then v {w} e A = rw (or-second v w e) A
-
-indexed-same : (p : Plan) {S T : State} (n : ℕ) → KeptBut parent isSummary S T → Indexed p S n → Indexed p T n
-indexed-same p n K I =
-    let b = K .acts bucket (λ e. omega arith) (λ e. omega arith) in
-    let x = K .acts nextId (λ e. omega arith) (λ e. omega arith) in
-    record { heads = rw b (I .heads); nexts = rw x (I .nexts) }
 
 module _ (p : Plan) (hours : Bool) (h : hoursVerdict hours ≡ calendarsFirst p) where
   -- 5
@@ -63,7 +55,7 @@ module _ (p : Plan) (hours : Bool) (h : hoursVerdict hours ≡ calendarsFirst p)
           activities = activities-fine p .0 (fine-number A d);
           distinct = indexed-distinct p A d;
           known = parented-known p B f;
-          indexed = indexed-same p (p .activities) (J .kept) (I .holds d);
+          indexed = indexed-kept p (J .kept) (I .holds d);
           parented = J .holds f;
         };
       }

@@ -2,7 +2,7 @@
 use mathlib.Core.Path.{_≡_}
 use Prim.Native.Nat.{ℕ, _<_}
 use Rattle.memory.specs.State.{State}
-use Rattle.memory.specs.Fields.{bucket, nextId, parent, isSummary}
+use Rattle.memory.specs.Fields.{lowChild, highChild, parent, isSummary}
 use Rattle.order.specs.Plan.{Plan}
 use Rattle.order.specs.Checks.{Verdict, refuse, fine}
 use Rattle.ids.specs.declared.Check.{Check}
@@ -28,7 +28,7 @@ pub record PassedBy (f g : ℕ) (H : State → Type 0) (S T : State) (r : Check)
 
 -- the index of the first n activities
 abbrev pub IndexedBy : Plan → ℕ → State → State → Check → Type 0
-IndexedBy p n = PassedBy bucket nextId (λ (T : State). Indexed p T n)
+IndexedBy p n = PassedBy lowChild highChild (λ (T : State). Indexed p T n)
 
 -- the parents of the first n activities
 abbrev pub ParentedBy : Plan → ℕ → State → State → Check → Type 0

@@ -34,14 +34,6 @@ module _ (f g : ℕ) where
     linksZ = refl;
   }
 
-  pub kept-fill-first : (S : State) (a v : ℕ) → KeptBut f g S (fillAct S f a v)
-  kept-fill-first S a v = record {
-    acts = λ h m n. fill-act-field S f v a h m;
-    actsZ = λ h m n. fill-actZ-field S f v a h m;
-    links = refl;
-    linksZ = refl;
-  }
-
   pub kept-fill-second : (S : State) (a v : ℕ) → KeptBut f g S (fillAct S g a v)
   kept-fill-second S a v = record {
     acts = λ h m n. fill-act-field S g v a h n;

@@ -9,14 +9,15 @@ use lib.IntN.{pos}
 use Rattle.number.specs.Order.{eq-or-ne}
 use Rattle.memory.specs.State.{State, putAct, fillAct}
 use Rattle.memory.specs.StateLaws.{act-same, act-row, fill-act}
-use Rattle.memory.specs.Fields.{bucket, nextId, parent, isSummary}
+use Rattle.memory.specs.Fields.{parent, isSummary}
 use Rattle.order.specs.Plan.{Plan}
 use Rattle.order.specs.Ids.{idOf, known, indexOf, parentOf}
 use Rattle.order.specs.IdLaws.{DistinctIds}
 use Rattle.order.specs.Checks.{refuse, fine, judgeParent}
 use Rattle.order.specs.CheckLaws.{parent-none, parent-unknown, parent-passes}
 use Rattle.order.specs.ParentLaws.{parent-of-none, parent-of-some, among-none, among-child, among-other}
-use Rattle.ids.specs.Index.{Last, bucketOf, Indexed, foundIn}
+use Rattle.ids.specs.TreeLaws.{tree-same}
+use Rattle.ids.specs.Index.{Indexed, foundIn}
 use Rattle.ids.specs.IndexLaws.{found-known, found-unknown, found-index}
 use Rattle.ids.specs.Lent.{KeptBut}
 use Rattle.ids.specs.LentLaws.{kept-then, kept-first, kept-second, kept-fill-second}
@@ -27,8 +28,10 @@ module _ (p : Plan) where
   -- the index stays
   pub indexed-kept : {S T : State} {n : ℕ} → KeptBut parent isSummary S T → Indexed p S n → Indexed p T n
   indexed-kept {S} {T} {n} K I = record {
-    heads = λ b l. subst (λ (c : ℕ → ℕ). Last (bucketOf p) b n (c b)) (sym (K .acts bucket (λ e. omega arith) (λ e. omega arith))) (I .heads b l);
-    nexts = λ j l. subst (λ (c : ℕ → ℕ). Last (bucketOf p) (bucketOf p j) j (c j)) (sym (K .acts nextId (λ e. omega arith) (λ e. omega arith))) (I .nexts j l);
+    tree =
+        tree-same (idOf p) (I .tree) (T .act)
+        (λ b j c l. ap (λ (r : ℕ → ℕ). r j) (K .acts b (λ e. omega arith) (λ e. omega arith)));
+    fresh = I .fresh;
   }
 
   -- ---- no marks

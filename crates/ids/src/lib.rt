@@ -8,27 +8,19 @@ ghost use Rattle.order.specs.Plan.{planOf};
 ghost use Rattle.order.specs.IdLaws.{DistinctIds};
 ghost use Rattle.order.specs.Checks.{firstOf, judgeActivity, judgeParent, judgeSummary};
 ghost use Rattle.order.specs.FineLaws.{ParentsKnown};
-ghost use Rattle.order.specs.Ids.{summary};
+ghost use Rattle.order.specs.Ids.{idOf, summary};
 ghost use Rattle.network.specs.Parents.{loopSteps};
 ghost use Rattle.project.specs.Status.{isMilestone};
 ghost use Rattle.memory.specs.State.{Room, stateOf};
-ghost use Rattle.memory.specs.Fields.{parent};
-ghost use Rattle.ids.specs.Index.{Indexed, foundIn, withIndex};
-ghost use Rattle.ids.specs.Lent.{Lent, stateIn};
+ghost use Rattle.memory.specs.Fields.{lowChild, highChild, parent};
+ghost use Rattle.ids.specs.Tree.{Tree, Vacant};
+ghost use Rattle.ids.specs.Index.{Indexed, foundIn};
+ghost use Rattle.ids.specs.Lent.{Lent, KeptBut, stateIn};
 ghost use Rattle.ids.specs.Answers.{Answered, IndexedBy, ParentedBy};
 ghost use Rattle.ids.specs.Parented.{Parented};
 ghost use Rattle.ids.specs.Summaries.{SummaryAnswered};
 
 pub mod fields;
-
-// The fields of an activity's row of the lent memory.
-const BUCKET: usize = 0;
-
-const NEXT_ID: usize = 1;
-
-const PARENT: usize = 2;
-
-const IS_SUMMARY: usize = 3;
 
 // The answer of a check of rows 6 to 10: fine, or the row's number and its id.
 pub enum Check {
@@ -44,24 +36,29 @@ pub enum SummaryCheck {
 }
 
 // The last of the first `n` activities that has the id, or the number of activities where none has.
+// The way down takes a bit of the id at each activity that it meets, and ids are distinct and have 32 bits: no sheet makes it meet more than 33.
 pub fn find(sheet: &[u8], contents: Contents, work: &[i64], n: usize, id: u64) -> usize
     requires { ⌜ Lent (now sheet) contents (now work) × (n ≤ contents .activities) × Indexed (planOf (now sheet) contents) (stateIn contents (now work)) n ⌝ }
     ensures { λ r. ⌜ (r ≡ foundIn (planOf (now (sheet .entry)) contents) n id) × (r ≤ contents .activities) ⌝ }
 {
     let a = contents.activities;
-    if a == 0 {
+    if n == 0 {
         return a;
     }
     let l = contents.links;
-    let mut k = memory::get_act(work, a, l, id as usize % a, BUCKET) as usize;
-    while k > 0 {
-        let j = k - 1;
+    let mut j: usize = 0;
+    let mut rest = id;
+    loop {
         if fields::id_of(sheet, contents, j) == id {
             return j;
         }
-        k = memory::get_act(work, a, l, j, NEXT_ID) as usize;
+        let k = memory::get_act(work, a, l, j, rest as usize % 2) as usize;
+        if k == 0 {
+            return a;
+        }
+        j = k - 1;
+        rest = rest / 2;
     }
-    a
 }
 
 // Rows 6 to 9 for activity `i`, where the index has those before it.
@@ -86,17 +83,49 @@ fn judge_activity(sheet: &[u8], contents: Contents, work: &[i64], i: usize) -> C
     Check::Fine
 }
 
-// Puts activity `i` before those of its bucket.
-fn insert(sheet: &[u8], contents: Contents, work: &mut [i64], i: usize)
-    requires { ⌜ Lent (now sheet) contents (now work) × (i < contents .activities) ⌝ }
-    ensures { λ _. ⌜ (stateIn contents (now (work .exit)) ≡ withIndex (planOf (now (sheet .entry)) contents) (stateIn contents (now (work .entry))) i) × (length (now (work .exit)) ≡ length (now (work .entry))) ⌝ }
+// The child that an activity is to be: its parent, and the field of the parent's row.
+struct Vacancy {
+    parent: usize,
+    side: usize,
+}
+
+// Where activity `i` comes into the tree of those before it.
+fn vacancy_for(sheet: &[u8], contents: Contents, work: &[i64], i: usize) -> Vacancy
+    requires { ⌜ Lent (now sheet) contents (now work) × (0 < i) × (i < contents .activities) × Tree (idOf (planOf (now sheet) contents)) (stateIn contents (now work) .act) i ⌝ }
+    ensures { λ r. ⌜ Vacant (idOf (planOf (now (sheet .entry)) contents)) (stateIn contents (now (work .entry)) .act) i (r .parent) (r .side) ⌝ }
 {
     let a = contents.activities;
     let l = contents.links;
-    let b = fields::id_of(sheet, contents, i) as usize % a;
-    let last = memory::get_act(work, a, l, b, BUCKET);
-    memory::put_act(work, a, l, i, NEXT_ID, last);
-    memory::put_act(work, a, l, b, BUCKET, i as u64 + 1);
+    let mut j: usize = 0;
+    let mut rest = fields::id_of(sheet, contents, i);
+    loop {
+        let side = rest as usize % 2;
+        let k = memory::get_act(work, a, l, j, side) as usize;
+        if k == 0 {
+            return Vacancy {
+                parent: j,
+                side: side,
+            };
+        }
+        j = k - 1;
+        rest = rest / 2;
+    }
+}
+
+// Puts activity `i` into the tree of those before it.
+fn insert(sheet: &[u8], contents: Contents, work: &mut [i64], i: usize)
+    requires { ⌜ Lent (now sheet) contents (now work) × (i < contents .activities) × Tree (idOf (planOf (now sheet) contents)) (stateIn contents (now work) .act) i ⌝ }
+    ensures { λ _. ⌜ Tree (idOf (planOf (now (sheet .entry)) contents)) (stateIn contents (now (work .exit)) .act) (i + 1) × KeptBut lowChild highChild (stateIn contents (now (work .entry))) (stateIn contents (now (work .exit))) × (length (now (work .exit)) ≡ length (now (work .entry))) ⌝ }
+{
+    let a = contents.activities;
+    let l = contents.links;
+    memory::put_act(work, a, l, i, memory::fields::LOW_CHILD, 0);
+    memory::put_act(work, a, l, i, memory::fields::HIGH_CHILD, 0);
+    if i == 0 {
+        return;
+    }
+    let vacancy = vacancy_for(sheet, contents, work, i);
+    memory::put_act(work, a, l, vacancy.parent, vacancy.side, i as u64 + 1);
 }
 
 // Rows 6 to 9 for activity `i`, which comes into the index where it is fine.
@@ -116,9 +145,9 @@ fn index_one(sheet: &[u8], contents: Contents, work: &mut [i64], i: usize) -> Ch
     }
 }
 
-// Rows 6 to 9 for all activities, from an index of none.
-fn index_activities(sheet: &[u8], contents: Contents, work: &mut [i64]) -> Check
-    requires { ⌜ Lent (now sheet) contents (now work) × Indexed (planOf (now sheet) contents) (stateIn contents (now work)) 0 ⌝ }
+// Rows 6 to 9 for all activities: where they are fine, the memory has the index of their ids.
+pub fn index_all(sheet: &[u8], contents: Contents, work: &mut [i64]) -> Check
+    requires { ⌜ Lent (now sheet) contents (now work) ⌝ }
     ensures { λ r. ⌜ Answered r (firstOf (judgeActivity (planOf (now (sheet .entry)) contents)) (contents .activities) 0) × IndexedBy (planOf (now (sheet .entry)) contents) (contents .activities) (stateIn contents (now (work .entry))) (stateIn contents (now (work .exit))) r × (length (now (work .exit)) ≡ length (now (work .entry))) ⌝ }
 {
     let a = contents.activities;
@@ -136,15 +165,6 @@ fn index_activities(sheet: &[u8], contents: Contents, work: &mut [i64]) -> Check
     Check::Fine
 }
 
-// Rows 6 to 9 for all activities: where they are fine, the memory has the index of their ids.
-pub fn index_all(sheet: &[u8], contents: Contents, work: &mut [i64]) -> Check
-    requires { ⌜ Lent (now sheet) contents (now work) ⌝ }
-    ensures { λ r. ⌜ Answered r (firstOf (judgeActivity (planOf (now (sheet .entry)) contents)) (contents .activities) 0) × IndexedBy (planOf (now (sheet .entry)) contents) (contents .activities) (stateIn contents (now (work .entry))) (stateIn contents (now (work .exit))) r × (length (now (work .exit)) ≡ length (now (work .entry))) ⌝ }
-{
-    memory::fill_act(work, contents.activities, contents.links, BUCKET, 0);
-    index_activities(sheet, contents, work)
-}
-
 // Row 10 for activity `i`: its parent is looked for, kept, and marked as a summary.
 fn parent_one(sheet: &[u8], contents: Contents, work: &mut [i64], i: usize) -> Check
     requires { ⌜ Lent (now sheet) contents (now work) × (i < contents .activities) × DistinctIds (planOf (now sheet) contents) × Indexed (planOf (now sheet) contents) (stateIn contents (now work)) (contents .activities) × Parented (planOf (now sheet) contents) (stateIn contents (now work)) i ⌝ }
@@ -154,15 +174,15 @@ fn parent_one(sheet: &[u8], contents: Contents, work: &mut [i64], i: usize) -> C
     let l = contents.links;
     let id = fields::parent_of(sheet, contents, i);
     if id == 0 {
-        memory::put_act(work, a, l, i, PARENT, 0);
+        memory::put_act(work, a, l, i, memory::fields::PARENT, 0);
         return Check::Fine;
     }
     let j = find(sheet, contents, work, a, id);
     if j == a {
         return Check::Refused(10, fields::id_of(sheet, contents, i));
     }
-    memory::put_act(work, a, l, i, PARENT, j as u64 + 1);
-    memory::put_act(work, a, l, j, IS_SUMMARY, 1);
+    memory::put_act(work, a, l, i, memory::fields::PARENT, j as u64 + 1);
+    memory::put_act(work, a, l, j, memory::fields::IS_SUMMARY, 1);
     Check::Fine
 }
 
@@ -191,7 +211,13 @@ pub fn parents(sheet: &[u8], contents: Contents, work: &mut [i64]) -> Check
     requires { ⌜ Lent (now sheet) contents (now work) × DistinctIds (planOf (now sheet) contents) × Indexed (planOf (now sheet) contents) (stateIn contents (now work)) (contents .activities) ⌝ }
     ensures { λ r. ⌜ Answered r (firstOf (judgeParent (planOf (now (sheet .entry)) contents)) (contents .activities) 0) × ParentedBy (planOf (now (sheet .entry)) contents) (contents .activities) (stateIn contents (now (work .entry))) (stateIn contents (now (work .exit))) r × (length (now (work .exit)) ≡ length (now (work .entry))) ⌝ }
 {
-    memory::fill_act(work, contents.activities, contents.links, IS_SUMMARY, 0);
+    memory::fill_act(
+        work,
+        contents.activities,
+        contents.links,
+        memory::fields::IS_SUMMARY,
+        0,
+    );
     parent_activities(sheet, contents, work)
 }
 
@@ -200,7 +226,7 @@ pub fn parent_loop_steps(work: &[i64], a: usize, l: usize, i: usize) -> usize
     requires { ⌜ Room a l (now work) × (i < a) × ((j : ℕ) → j < a → stateOf a l (now work) .act parent j ≤ a) ⌝ }
     ensures { λ r. ⌜ (r ≡ loopSteps (stateOf a l (now (work .entry)) .act parent) a i) × (r ≤ a) ⌝ }
 {
-    let mut up = memory::get_act(work, a, l, i, PARENT) as usize;
+    let mut up = memory::get_act(work, a, l, i, memory::fields::PARENT) as usize;
     let mut k: usize = 1;
     while k <= a {
         if up == 0 {
@@ -209,7 +235,7 @@ pub fn parent_loop_steps(work: &[i64], a: usize, l: usize, i: usize) -> usize
         if up == i + 1 {
             return k;
         }
-        up = memory::get_act(work, a, l, up - 1, PARENT) as usize;
+        up = memory::get_act(work, a, l, up - 1, memory::fields::PARENT) as usize;
         k += 1;
     }
     0
@@ -222,7 +248,7 @@ fn is_milestone_parent(sheet: &[u8], contents: Contents, work: &[i64], i: usize)
 {
     let a = contents.activities;
     let l = contents.links;
-    if memory::get_act(work, a, l, i, IS_SUMMARY) == 0 {
+    if memory::get_act(work, a, l, i, memory::fields::IS_SUMMARY) == 0 {
         return false;
     }
     project::is_milestone(fields::kind_of(sheet, contents, i))

@@ -2,13 +2,12 @@
 use Prim.Native.Nat.{ℕ}
 
 -- ---- activities
--- the head of the chain of activities whose id falls into the bucket with this row's number: 0 for none, and else one more than an activity
-abbrev pub bucket : ℕ
-bucket = 0
+-- the tree of ids: the activity's two children, by the next bit of an id; 0 for none, and else one more than the child
+abbrev pub lowChild : ℕ
+lowChild = 0
 
--- the next activity of the same bucket, which comes before this one: 0 for none, and else one more than it
-abbrev pub nextId : ℕ
-nextId = 1
+abbrev pub highChild : ℕ
+highChild = 1
 
 -- 0 for no parent, and else one more than the parent
 abbrev pub parent : ℕ

@@ -1,9 +1,9 @@
 // The fields of the two tables: the list of `memory`'s specs, for code.
 
 // ---- activities
-pub const BUCKET: usize = 0;
+pub const LOW_CHILD: usize = 0;
 
-pub const NEXT_ID: usize = 1;
+pub const HIGH_CHILD: usize = 1;
 
 pub const PARENT: usize = 2;
 

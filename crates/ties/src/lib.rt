@@ -21,8 +21,6 @@ ghost use Rattle.ties.specs.Checked.{LinkAnswered};
 pub mod fields;
 pub mod lags;
 
-const IS_SUMMARY: usize = 3;
-
 // The ends of a link by the activities' numbers, or the row that refuses it and its id.
 pub enum Ends {
     Refused(u64, u64),
@@ -63,10 +61,10 @@ pub fn is_either_marked(work: &[i64], a: usize, l: usize, from: usize, to: usize
     requires { ⌜ Room a l (now work) × (from < a) × (to < a) ⌝ }
     ensures { λ r. ⌜ r ≡ (ltb 0 (stateOf a l (now (work .entry)) .act isSummary from) || ltb 0 (stateOf a l (now (work .entry)) .act isSummary to)) ⌝ }
 {
-    if memory::get_act(work, a, l, from, IS_SUMMARY) > 0 {
+    if memory::get_act(work, a, l, from, memory::fields::IS_SUMMARY) > 0 {
         return true;
     }
-    memory::get_act(work, a, l, to, IS_SUMMARY) > 0
+    memory::get_act(work, a, l, to, memory::fields::IS_SUMMARY) > 0
 }
 
 // The calendar that the lag of link `k` counts on.

@@ -1,4 +1,5 @@
 // The order of the activities by Kahn's algorithm over the lent memory, and the loop that is named where it stops early.
+use memory::fields;
 ghost use mathlib.Core.Path.{_≡_};
 ghost use mathlib.Core.List.{List, []};
 ghost use Prim.Native.Nat.{ℕ, _+_, _-_, _≤_, _<_};
@@ -14,35 +15,14 @@ ghost use Rattle.topology.specs.Steps.{counted, queued, readied, met};
 ghost use Rattle.topology.specs.Order.{ChainsIn, ChainsOut, Draining, Topological};
 ghost use Rattle.topology.specs.Loop.{Stuck, loopAt, NamedLoop, passed, WalkedBack};
 
-// The fields of an activity and of a link, as `memory`'s specs number them.
-const FIRST_IN: usize = 4;
-
-const FIRST_OUT: usize = 5;
-
-const WAITING: usize = 6;
-
-const ORDER_AT: usize = 7;
-
-const SEEN: usize = 8;
-
-const PATH_AT: usize = 9;
-
-const FROM: usize = 0;
-
-const TO: usize = 1;
-
-const NEXT_INTO: usize = 5;
-
-const NEXT_OUT: usize = 6;
-
 // Counts link `k` for the activity that it leads to.
 fn count_link(work: &mut [i64], a: usize, l: usize, k: usize)
     requires { ⌜ Room a l (now work) × (k < l) × (stateOf a l (now work) .link toField k < a) × (stateOf a l (now work) .act waiting (stateOf a l (now work) .link toField k) < l) ⌝ }
     ensures { λ _. ⌜ (stateOf a l (now (work .exit)) ≡ counted (stateOf a l (now (work .entry))) k) × (length (now (work .exit)) ≡ length (now (work .entry))) ⌝ }
 {
-    let i = memory::get_link(work, a, l, k, TO) as usize;
-    let n = memory::get_act(work, a, l, i, WAITING);
-    memory::put_act(work, a, l, i, WAITING, n + 1);
+    let i = memory::get_link(work, a, l, k, fields::TO) as usize;
+    let n = memory::get_act(work, a, l, i, fields::WAITING);
+    memory::put_act(work, a, l, i, fields::WAITING, n + 1);
 }
 
 // Counts the first `t` links where none is counted yet.
@@ -62,7 +42,7 @@ fn count_incoming(work: &mut [i64], a: usize, l: usize, t: usize)
     requires { ⌜ Room a l (now work) × (t ≤ l) × Ends a t (stateOf a l (now work)) ⌝ }
     ensures { λ _. ⌜ ((i : ℕ) → stateOf a l (now (work .exit)) .act waiting i ≡ into (linksOf (stateOf a l (now (work .entry))) t) i) × Frame waiting orderAt 0 0 (stateOf a l (now (work .entry))) (stateOf a l (now (work .exit))) × (length (now (work .exit)) ≡ length (now (work .entry))) ⌝ }
 {
-    memory::fill_act(work, a, l, WAITING, 0);
+    memory::fill_act(work, a, l, fields::WAITING, 0);
     count_links(work, a, l, t);
 }
 
@@ -71,10 +51,10 @@ fn ready_one(work: &mut [i64], a: usize, l: usize, j: usize, end: usize) -> usiz
     requires { ⌜ Room a l (now work) × (j < a) × (end < a) ⌝ }
     ensures { λ r. ⌜ (queued (stateOf a l (now (work .exit))) r ≡ readied (stateOf a l (now (work .entry))) j end) × (length (now (work .exit)) ≡ length (now (work .entry))) ⌝ }
 {
-    if memory::get_act(work, a, l, j, WAITING) > 0 {
+    if memory::get_act(work, a, l, j, fields::WAITING) > 0 {
         return end;
     }
-    memory::put_act(work, a, l, end, ORDER_AT, j as u64);
+    memory::put_act(work, a, l, end, fields::ORDER_AT, j as u64);
     end + 1
 }
 
@@ -97,9 +77,9 @@ fn meet_link(work: &mut [i64], a: usize, l: usize, k: usize, end: usize) -> usiz
     requires { ⌜ Room a l (now work) × (k < l) × (end < a) × (stateOf a l (now work) .link toField k < a) × (0 < stateOf a l (now work) .act waiting (stateOf a l (now work) .link toField k)) ⌝ }
     ensures { λ r. ⌜ (queued (stateOf a l (now (work .exit))) r ≡ met (stateOf a l (now (work .entry))) k end) × (length (now (work .exit)) ≡ length (now (work .entry))) ⌝ }
 {
-    let j = memory::get_link(work, a, l, k, TO) as usize;
-    let w = memory::get_act(work, a, l, j, WAITING);
-    memory::put_act(work, a, l, j, WAITING, w - 1);
+    let j = memory::get_link(work, a, l, k, fields::TO) as usize;
+    let w = memory::get_act(work, a, l, j, fields::WAITING);
+    memory::put_act(work, a, l, j, fields::WAITING, w - 1);
     ready_one(work, a, l, j, end)
 }
 
@@ -108,12 +88,12 @@ fn release(work: &mut [i64], a: usize, l: usize, t: usize, h: usize, end: usize)
     requires { ⌜ Room a l (now work) × (t ≤ l) × (h < end) × ChainsOut a t (stateOf a l (now work)) × Progress (linksOf (stateOf a l (now work)) t) a (stateOf a l (now work) .act orderAt) (stateOf a l (now work) .act waiting) h end [] ⌝ }
     ensures { λ r. ⌜ Draining a t (stateOf a l (now (work .entry))) (stateOf a l (now (work .exit))) (h + 1) r × (length (now (work .exit)) ≡ length (now (work .entry))) ⌝ }
 {
-    let v = memory::get_act(work, a, l, h, ORDER_AT) as usize;
-    let mut k = memory::get_act(work, a, l, v, FIRST_OUT) as usize;
+    let v = memory::get_act(work, a, l, h, fields::ORDER_AT) as usize;
+    let mut k = memory::get_act(work, a, l, v, fields::FIRST_OUT) as usize;
     let mut r = end;
     while k < t {
         r = meet_link(work, a, l, k, r);
-        k = memory::get_link(work, a, l, k, NEXT_OUT) as usize;
+        k = memory::get_link(work, a, l, k, fields::NEXT_OUT) as usize;
     }
     r
 }
@@ -137,8 +117,24 @@ fn chain_both(work: &mut [i64], a: usize, l: usize, t: usize)
     requires { ⌜ Room a l (now work) × (t ≤ l) × Ends a t (stateOf a l (now work)) ⌝ }
     ensures { λ _. ⌜ ChainsIn a t (stateOf a l (now (work .exit))) × ChainsOut a t (stateOf a l (now (work .exit))) × Frame firstIn waiting nextInto 7 (stateOf a l (now (work .entry))) (stateOf a l (now (work .exit))) × (length (now (work .exit)) ≡ length (now (work .entry))) ⌝ }
 {
-    memory::chain(work, a, l, t, TO, FIRST_IN, NEXT_INTO);
-    memory::chain(work, a, l, t, FROM, FIRST_OUT, NEXT_OUT);
+    memory::chain(
+        work,
+        a,
+        l,
+        t,
+        fields::TO,
+        fields::FIRST_IN,
+        fields::NEXT_INTO,
+    );
+    memory::chain(
+        work,
+        a,
+        l,
+        t,
+        fields::FROM,
+        fields::FIRST_OUT,
+        fields::NEXT_OUT,
+    );
 }
 
 // Counts the links into each activity, and puts those that wait for none into the queue; answers its end.
@@ -167,7 +163,7 @@ fn first_waiting(work: &[i64], a: usize, l: usize) -> usize
 {
     let mut i: usize = 0;
     while i < a {
-        if memory::get_act(work, a, l, i, WAITING) > 0 {
+        if memory::get_act(work, a, l, i, fields::WAITING) > 0 {
             return i;
         }
         i += 1;
@@ -180,13 +176,13 @@ fn waiting_before(work: &[i64], a: usize, l: usize, t: usize, x: usize) -> usize
     requires { ⌜ Room a l (now work) × (t ≤ l) × (x < a) × Ends a t (stateOf a l (now work)) × ChainsIn a t (stateOf a l (now work)) ⌝ }
     ensures { λ r. ⌜ r ≡ waitingBefore (linksOf (stateOf a l (now (work .entry))) t) (stateOf a l (now (work .entry)) .act waiting) (linksOf (stateOf a l (now (work .entry))) t) x ⌝ }
 {
-    let mut k = memory::get_act(work, a, l, x, FIRST_IN) as usize;
+    let mut k = memory::get_act(work, a, l, x, fields::FIRST_IN) as usize;
     while k < t {
-        let y = memory::get_link(work, a, l, k, FROM) as usize;
-        if memory::get_act(work, a, l, y, WAITING) > 0 {
+        let y = memory::get_link(work, a, l, k, fields::FROM) as usize;
+        if memory::get_act(work, a, l, y, fields::WAITING) > 0 {
             return y;
         }
-        k = memory::get_link(work, a, l, k, NEXT_INTO) as usize;
+        k = memory::get_link(work, a, l, k, fields::NEXT_INTO) as usize;
     }
     x
 }
@@ -196,8 +192,8 @@ fn step_back(work: &mut [i64], a: usize, l: usize, t: usize, m: usize, x: usize)
     requires { ⌜ Room a l (now work) × (t ≤ l) × (m < a) × (x < a) × Ends a t (stateOf a l (now work)) × ChainsIn a t (stateOf a l (now work)) ⌝ }
     ensures { λ r. ⌜ (stateOf a l (now (work .exit)) ≡ passed (stateOf a l (now (work .entry))) m x) × (r ≡ waitingBefore (linksOf (stateOf a l (now (work .entry))) t) (stateOf a l (now (work .entry)) .act waiting) (linksOf (stateOf a l (now (work .entry))) t) x) × (length (now (work .exit)) ≡ length (now (work .entry))) ⌝ }
 {
-    memory::put_act(work, a, l, x, SEEN, (m + 1) as u64);
-    memory::put_act(work, a, l, m, PATH_AT, x as u64);
+    memory::put_act(work, a, l, x, fields::SEEN, (m + 1) as u64);
+    memory::put_act(work, a, l, m, fields::PATH_AT, x as u64);
     waiting_before(work, a, l, t, x)
 }
 
@@ -215,7 +211,7 @@ fn walk_back(work: &mut [i64], a: usize, l: usize, t: usize, start: usize) -> Wa
     let mut x = start;
     let mut m: usize = 0;
     loop {
-        let mark = memory::get_act(work, a, l, x, SEEN) as usize;
+        let mark = memory::get_act(work, a, l, x, fields::SEEN) as usize;
         if mark > 0 {
             return Way {
                 from: mark - 1,
@@ -235,8 +231,8 @@ fn copy_loop(work: &mut [i64], a: usize, l: usize, from: usize, end: usize) -> u
     let n = end - from;
     let mut k: usize = 0;
     while k < n {
-        let x = memory::get_act(work, a, l, end - 1 - k, PATH_AT);
-        memory::put_act(work, a, l, k, SEEN, x);
+        let x = memory::get_act(work, a, l, end - 1 - k, fields::PATH_AT);
+        memory::put_act(work, a, l, k, fields::SEEN, x);
         k += 1;
     }
     n
@@ -248,7 +244,7 @@ pub fn name_loop(work: &mut [i64], a: usize, l: usize, t: usize) -> usize
     requires { ⌜ Room a l (now work) × (t ≤ l) × Stuck a t (stateOf a l (now work)) ⌝ }
     ensures { λ r. ⌜ NamedLoop a t (stateOf a l (now (work .entry))) (stateOf a l (now (work .exit))) r × (length (now (work .exit)) ≡ length (now (work .entry))) ⌝ }
 {
-    memory::fill_act(work, a, l, SEEN, 0);
+    memory::fill_act(work, a, l, fields::SEEN, 0);
     let start = first_waiting(work, a, l);
     let w = walk_back(work, a, l, t, start);
     copy_loop(work, a, l, w.from, w.end)
