@@ -10,7 +10,7 @@ ghost use Rattle.worktime.specs.declared.Walk.the-variants.{At};
 ghost use Rattle.calendar.specs.Records.{Valid};
 ghost use Rattle.clock.specs.On.{workedOn};
 ghost use Rattle.memory.specs.State.{stateOf};
-ghost use Rattle.order.specs.Plan.{Plan, planOf};
+ghost use Rattle.order.specs.Plan.{Plan, planOf, weekOfCalendar};
 ghost use Rattle.passes.specs.Plan.{recorded};
 ghost use Rattle.passes.specs.Dates.{Early, Late};
 ghost use Rattle.passes.specs.Backward.{lifted, placedLate};
@@ -124,20 +124,32 @@ fn late_from(
     places: &[u64],
     t: usize,
     work: &[i64],
+    mine: usize,
     week: [[Period; 8]; 7],
     unfinished: Unfinished,
     i: usize,
     actual: Actual,
     last: u64,
 ) -> LateDates
-    requires { ⌜ Ready (now sheet) contents (now places) t (now work) × (i < contents .activities) × Valid week (now sheet) (unfinished .at) (unfinished .n) × IsUnfinished (planOf (now sheet) contents) (earlyIn (planOf (now sheet) contents) (stateOf (contents .activities) (contents .links) (now work))) i (workedOn week (now sheet) (unfinished .at) (unfinished .n)) unfinished × (unfinished .origin < 2 ^ 43) × (actual ≡ recorded (planOf (now sheet) contents) i) ⌝ }
+    requires { ⌜ Ready (now sheet) contents (now places) t (now work) × (i < contents .activities) × Valid week (now sheet) (unfinished .at) (unfinished .n) × IsUnfinished (planOf (now sheet) contents) (earlyIn (planOf (now sheet) contents) (stateOf (contents .activities) (contents .links) (now work))) i (workedOn week (now sheet) (unfinished .at) (unfinished .n)) unfinished × (unfinished .origin < 2 ^ 43) × (actual ≡ recorded (planOf (now sheet) contents) i) × (week ≡ weekOfCalendar (now sheet) contents mine) ⌝ }
     ensures { λ r. ⌜ (dated (planOf (now (sheet .entry)) contents) (earlyIn (planOf (now (sheet .entry)) contents) (stateOf (contents .activities) (contents .links) (now (work .entry)))) (lateIn (planOf (now (sheet .entry)) contents) (stateOf (contents .activities) (contents .links) (now (work .entry))) last) i r ≡ unfinishedLate (planOf (now (sheet .entry)) contents) (earlyIn (planOf (now (sheet .entry)) contents) (stateOf (contents .activities) (contents .links) (now (work .entry)))) (lateIn (planOf (now (sheet .entry)) contents) (stateOf (contents .activities) (contents .links) (now (work .entry))) last) i last) × Fitting r ⌝ }
 {
     let a = contents.activities;
     let l = contents.links;
     let mark = memory::get_act(work, a, l, i, memory::fields::IS_SUMMARY);
     let early = memory::get_act(work, a, l, i, memory::fields::EARLY_FINISH);
-    match links::lower(sheet, contents, places, t, work, week, unfinished, i, last) {
+    match links::lower(
+        sheet,
+        contents,
+        places,
+        t,
+        work,
+        mine,
+        week,
+        unfinished,
+        i,
+        last,
+    ) {
         Walk::At(f) => match limits::hold_late(week, sheet, unfinished, mark == 1, actual, f) {
             Walk::At(g) => place_late(week, sheet, unfinished, early, g),
             Walk::Refused(k) => LateDates::Refused(k),
@@ -185,6 +197,7 @@ pub fn late_of(
         places,
         t,
         work,
+        k,
         week,
         unfinished,
         i,

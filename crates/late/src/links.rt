@@ -13,7 +13,7 @@ ghost use Rattle.clock.specs.On.{workedOn};
 ghost use Rattle.memory.specs.State.{Room, stateOf};
 ghost use Rattle.memory.specs.Fields.{lateStart, lateFinish};
 ghost use Rattle.sheet.specs.Known.{SheetRead};
-ghost use Rattle.order.specs.Plan.{planOf};
+ghost use Rattle.order.specs.Plan.{planOf, weekOfCalendar};
 ghost use Rattle.order.specs.Ties.{Tie};
 ghost use Rattle.passes.specs.Plan.{own, tiesOut};
 ghost use Rattle.passes.specs.Dates.{Early, Late};
@@ -43,20 +43,40 @@ fn over_lag(sheet: &[u8], contents: Contents, places: &[u64], k: usize, lag: i64
     }
 }
 
-// The late times of activity `j`, a link's successor, each moved to its own next start.
+// The week of calendar `k`: the one in hand where it is that of calendar `mine`.
+fn week_for(
+    sheet: &[u8],
+    contents: Contents,
+    places: &[u64],
+    mine: usize,
+    week: [[Period; 8]; 7],
+    k: usize,
+) -> [[Period; 8]; 7]
+    requires { ⌜ SheetRead (now sheet) contents × Places (now sheet) contents (now places) × (week ≡ weekOfCalendar (now sheet) contents mine) ⌝ }
+    ensures { λ r. ⌜ r ≡ weekOfCalendar (now (sheet .entry)) contents k ⌝ }
+{
+    if k == mine {
+        return week;
+    }
+    calendars::week_of(sheet, contents, places, k)
+}
+
+// The late times of activity `j`, a link's successor, each moved to its own next start; the week of calendar `mine` is in hand.
 fn successor_times(
     sheet: &[u8],
     contents: Contents,
     places: &[u64],
     work: &[i64],
     j: usize,
+    mine: usize,
+    hand: [[Period; 8]; 7],
 ) -> LateDates
-    requires { ⌜ SheetRead (now sheet) contents × Places (now sheet) contents (now places) × Room (contents .activities) (contents .links) (now work) × (j < contents .activities) ⌝ }
+    requires { ⌜ SheetRead (now sheet) contents × Places (now sheet) contents (now places) × Room (contents .activities) (contents .links) (now work) × (j < contents .activities) × (hand ≡ weekOfCalendar (now sheet) contents mine) ⌝ }
     ensures { λ r. ⌜ r ≡ timesOf (own (planOf (now (sheet .entry)) contents) j) (stateOf (contents .activities) (contents .links) (now (work .entry)) .act lateStart j) (stateOf (contents .activities) (contents .links) (now (work .entry)) .act lateFinish j) ⌝ }
 {
     let activity = dates::activity_of(sheet, contents, j);
     let k = activity.calendar as usize;
-    let week = calendars::week_of(sheet, contents, places, k);
+    let week = week_for(sheet, contents, places, mine, hand, k);
     let e = calendars::exceptions_of(sheet, contents, places, k);
     let a = contents.activities;
     let l = contents.links;
@@ -118,23 +138,24 @@ fn finish_by(
     }
 }
 
-// The latest finish that link `k` leaves an activity that it leads out of.
+// The latest finish that link `k` leaves an activity that it leads out of, on calendar `mine`.
 fn link_finish(
     sheet: &[u8],
     contents: Contents,
     places: &[u64],
     t: usize,
     work: &[i64],
+    mine: usize,
     week: [[Period; 8]; 7],
     unfinished: Unfinished,
     k: usize,
 ) -> Walk
-    requires { ⌜ Ready (now sheet) contents (now places) t (now work) × (k < t) × Valid week (now sheet) (unfinished .at) (unfinished .n) ⌝ }
+    requires { ⌜ Ready (now sheet) contents (now places) t (now work) × (k < t) × Valid week (now sheet) (unfinished .at) (unfinished .n) × (week ≡ weekOfCalendar (now sheet) contents mine) ⌝ }
     ensures { λ r. ⌜ ((i last : ℕ) → IsUnfinished (planOf (now (sheet .entry)) contents) (earlyIn (planOf (now (sheet .entry)) contents) (stateOf (contents .activities) (contents .links) (now (work .entry)))) i (workedOn week (now (sheet .entry)) (unfinished .at) (unfinished .n)) unfinished → r ≡ linkFinish (planOf (now (sheet .entry)) contents) (earlyIn (planOf (now (sheet .entry)) contents) (stateOf (contents .activities) (contents .links) (now (work .entry)))) (lateIn (planOf (now (sheet .entry)) contents) (stateOf (contents .activities) (contents .links) (now (work .entry))) last) i k) ⌝ }
 {
     let tie = dates::tie_at(work, contents.activities, contents.links, k);
     let kind = tie.kind;
-    match successor_times(sheet, contents, places, work, tie.to) {
+    match successor_times(sheet, contents, places, work, tie.to, mine, week) {
         LateDates::Dates(start, finish) => {
             let x = target(kind, start, finish);
             match over_lag(sheet, contents, places, tie.calendar, tie.lag, x) {
@@ -156,12 +177,13 @@ pub fn lower(
     places: &[u64],
     t: usize,
     work: &[i64],
+    mine: usize,
     week: [[Period; 8]; 7],
     unfinished: Unfinished,
     i: usize,
     last: u64,
 ) -> Walk
-    requires { ⌜ Ready (now sheet) contents (now places) t (now work) × (i < contents .activities) × Valid week (now sheet) (unfinished .at) (unfinished .n) × IsUnfinished (planOf (now sheet) contents) (earlyIn (planOf (now sheet) contents) (stateOf (contents .activities) (contents .links) (now work))) i (workedOn week (now sheet) (unfinished .at) (unfinished .n)) unfinished ⌝ }
+    requires { ⌜ Ready (now sheet) contents (now places) t (now work) × (i < contents .activities) × Valid week (now sheet) (unfinished .at) (unfinished .n) × IsUnfinished (planOf (now sheet) contents) (earlyIn (planOf (now sheet) contents) (stateOf (contents .activities) (contents .links) (now work))) i (workedOn week (now sheet) (unfinished .at) (unfinished .n)) unfinished × (week ≡ weekOfCalendar (now sheet) contents mine) ⌝ }
     ensures { λ r. ⌜ r ≡ lowered (planOf (now (sheet .entry)) contents) (earlyIn (planOf (now (sheet .entry)) contents) (stateOf (contents .activities) (contents .links) (now (work .entry)))) (lateIn (planOf (now (sheet .entry)) contents) (stateOf (contents .activities) (contents .links) (now (work .entry))) last) i (tiesOut (planOf (now (sheet .entry)) contents) i) last ⌝ }
 {
     let a = contents.activities;
@@ -169,7 +191,7 @@ pub fn lower(
     let mut latest = last;
     let mut k = memory::get_act(work, a, l, i, memory::fields::FIRST_OUT) as usize;
     while k < t {
-        match link_finish(sheet, contents, places, t, work, week, unfinished, k) {
+        match link_finish(sheet, contents, places, t, work, mine, week, unfinished, k) {
             Walk::At(f) => {
                 latest = crate::earlier(latest, f);
             }

@@ -17,7 +17,7 @@ get-act-requires-2 : tie.Need-get-act-requires-2
 get-act-requires-2 c κs = (c .before .before .before .pre .0 .room, c .before .before .before .pre .1, omega arith)
 
 lower-requires : tie.Need-lower-requires
-lower-requires c κs = (c .before .before .before .before .pre .0, c .before .before .before .before .pre .1, c .before .before .before .before .pre .2, c .before .before .before .before .pre .3)
+lower-requires c κs = let p = c .before .before .before .before .pre in (p .0, p .1, p .2, p .3, p .6)
 
 enum-known-f : tie.Need-enum-known-f
 enum-known-f c = search needs

@@ -45,6 +45,7 @@ late-from-requires c κs =
       },
       c .origin-of .ensures .1,
       s .pre .2,
+      c .before .before .before .week-of .ensures,
     )
 
 returns : tie.Need-returns

@@ -23,7 +23,7 @@ tie-at-requires : tie.Need-tie-at-requires
 tie-at-requires c κs = (c .before .before .pre .0 .room, omega (arith, c .before .before .pre .1, kept-within (c .before .before .pre .0)))
 
 successor-times-requires : tie.Need-successor-times-requires
-successor-times-requires c κs = let R = c .before .before .before .pre .0 in (R .read, R .located, R .room, to-in R _ (c .before .before .before .pre .1) _ (c .tie-at .ensures))
+successor-times-requires c κs = let R = c .before .before .before .pre .0 in (R .read, R .located, R .room, to-in R _ (c .before .before .before .pre .1) _ (c .tie-at .ensures), c .before .before .before .pre .3)
 
 enum-known-start : tie.Need-enum-known-start
 enum-known-start c = search needs

@@ -11,10 +11,10 @@ use Rattle.late.proofs.links.lower.Statement.{statement}
 use Rattle.late.proofs.links.lower.Tie as tie
 
 abbrev Inv-loop : tie.InvT-loop
-Inv-loop sheet contents places t work week unfinished i last a l latest₀ k₀ latest k = (R : Ready sheet contents places t work) → Lowering R i last latest k
+Inv-loop sheet contents places t work mine week unfinished i last a l latest₀ k₀ latest k = (R : Ready sheet contents places t work) → Lowering R i last latest k
 
 abbrev μ-loop : tie.MeasureT-loop
-μ-loop sheet contents places t work week unfinished i last a l latest₀ k₀ latest k = t - k
+μ-loop sheet contents places t work mine week unfinished i last a l latest₀ k₀ latest k = t - k
 
 get-act-requires : tie.Need-get-act-requires Inv-loop μ-loop
 get-act-requires c κs = (c .before .before .pre .0 .room, c .before .before .pre .1, omega arith)
@@ -23,7 +23,7 @@ loop-holds : tie.Need-loop-holds Inv-loop μ-loop
 loop-holds c = λ R. lowering-start R _ _ _ (c .before .before .before .pre .1) (c .get-act .ensures .0)
 
 link-finish-requires : tie.Need-link-finish-requires Inv-loop μ-loop
-link-finish-requires c κs = (c .before .before .before .before .before .pre .0, c .loop-test .taken, c .before .before .before .before .before .pre .2)
+link-finish-requires c κs = (c .before .before .before .before .before .pre .0, c .loop-test .taken, c .before .before .before .before .before .pre .2, c .before .before .before .before .before .pre .4)
 
 enum-known-f : tie.Need-enum-known-f Inv-loop μ-loop
 enum-known-f c = search needs

@@ -17,8 +17,8 @@ activity-of-requires c κs = search needs
 cast-k : tie.Need-cast-k
 cast-k c = search needs
 
-week-of-requires : tie.Need-week-of-requires
-week-of-requires c κs = search needs
+week-for-requires : tie.Need-week-for-requires
+week-for-requires c κs = search needs
 
 exceptions-of-requires : tie.Need-exceptions-of-requires
 exceptions-of-requires c κs = search needs
@@ -30,13 +30,13 @@ get-act-requires-2 : tie.Need-get-act-requires-2
 get-act-requires-2 c κs = search needs
 
 latest-same-requires : tie.Need-latest-same-requires
-latest-same-requires c κs = calendar-valid (record { week-is = c .before .before .before .week-of .ensures; at-is = c .before .before .exceptions-of .ensures .0; n-is = c .before .before .exceptions-of .ensures .1 }) (c .before .before .before .before .before .before .before .before .pre .0)
+latest-same-requires c κs = calendar-valid (record { week-is = c .before .before .before .week-for .ensures; at-is = c .before .before .exceptions-of .ensures .0; n-is = c .before .before .exceptions-of .ensures .1 }) (c .before .before .before .before .before .before .before .before .pre .0)
 
 enum-known-s : tie.Need-enum-known-s
 enum-known-s c = search needs
 
 latest-same-requires-2 : tie.Need-latest-same-requires-2
-latest-same-requires-2 c κs = calendar-valid (record { week-is = c .before .before .before .before .before .before .before .week-of .ensures; at-is = c .before .before .before .before .before .before .exceptions-of .ensures .0; n-is = c .before .before .before .before .before .before .exceptions-of .ensures .1 }) (c .before .before .before .before .before .before .before .before .before .before .before .before .pre .0)
+latest-same-requires-2 c κs = calendar-valid (record { week-is = c .before .before .before .before .before .before .before .week-for .ensures; at-is = c .before .before .before .before .before .before .exceptions-of .ensures .0; n-is = c .before .before .before .before .before .before .exceptions-of .ensures .1 }) (c .before .before .before .before .before .before .before .before .before .before .before .before .pre .0)
 
 enum-known-f : tie.Need-enum-known-f
 enum-known-f c = search needs
@@ -52,7 +52,7 @@ returns c =
     let s = c .before .before .before .before .before .before .before .before .before .before .before .before .before .before .before .before in
     let p = planOf (s .args .sheet .now) (s .args .contents) in
     let e = c .before .before .before .before .before .before .before .before .before .before .exceptions-of .ensures in
-    let w = calendar-worked (record { week-is = c .before .before .before .before .before .before .before .before .before .before .before .week-of .ensures; at-is = e .0; n-is = e .1 }) ∙ ap (λ (y : Activity). worked (p .hours (y .calendar))) (c .before .before .before .before .before .before .before .before .before .before .before .before .before .activity-of .ensures) in
+    let w = calendar-worked (record { week-is = c .before .before .before .before .before .before .before .before .before .before .before .week-for .ensures; at-is = e .0; n-is = e .1 }) ∙ ap (λ (y : Activity). worked (p .hours (y .calendar))) (c .before .before .before .before .before .before .before .before .before .before .before .before .before .activity-of .ensures) in
     sym (times-at (own p (s .args .j)) _ _ _ _ ((λ z. nextStart (sym w z) (sym (c .before .before .before .before .before .before .before .before .before .get-act .ensures .0) z)) ∙ sym (c .before .before .before .before .before .before .before .latest-same .ensures) ∙ c .before .before .before .before .before .s .given .1) ((λ z. nextStart (sym w z) (sym (c .before .before .before .before .before .before .before .before .get-act2 .ensures .0) z)) ∙ sym (c .before .before .before .latest-same2 .ensures) ∙ c .before .f .given .1))
 
 returns-2 : tie.Need-returns-2
@@ -60,7 +60,7 @@ returns-2 c =
     let s = c .before .before .before .before .before .before .before .before .before .before .before .before .before .before .before .before in
     let p = planOf (s .args .sheet .now) (s .args .contents) in
     let e = c .before .before .before .before .before .before .before .before .before .before .exceptions-of .ensures in
-    let w = calendar-worked (record { week-is = c .before .before .before .before .before .before .before .before .before .before .before .week-of .ensures; at-is = e .0; n-is = e .1 }) ∙ ap (λ (y : Activity). worked (p .hours (y .calendar))) (c .before .before .before .before .before .before .before .before .before .before .before .before .before .activity-of .ensures) in
+    let w = calendar-worked (record { week-is = c .before .before .before .before .before .before .before .before .before .before .before .week-for .ensures; at-is = e .0; n-is = e .1 }) ∙ ap (λ (y : Activity). worked (p .hours (y .calendar))) (c .before .before .before .before .before .before .before .before .before .before .before .before .before .activity-of .ensures) in
     sym (times-finish-refused (own p (s .args .j)) _ _ _ _ ((λ z. nextStart (sym w z) (sym (c .before .before .before .before .before .before .before .before .before .get-act .ensures .0) z)) ∙ sym (c .before .before .before .before .before .before .before .latest-same .ensures) ∙ c .before .before .before .before .before .s .given .1) ((λ z. nextStart (sym w z) (sym (c .before .before .before .before .before .before .before .before .get-act2 .ensures .0) z)) ∙ sym (c .before .before .before .latest-same2 .ensures) ∙ c .before .r .given .1))
 
 returns-3 : tie.Need-returns-3
@@ -68,7 +68,7 @@ returns-3 c =
     let s = c .before .before .before .before .before .before .before .before .before .before .before .before in
     let p = planOf (s .args .sheet .now) (s .args .contents) in
     let e = c .before .before .before .before .before .before .exceptions-of .ensures in
-    let w = calendar-worked (record { week-is = c .before .before .before .before .before .before .before .week-of .ensures; at-is = e .0; n-is = e .1 }) ∙ ap (λ (y : Activity). worked (p .hours (y .calendar))) (c .before .before .before .before .before .before .before .before .before .activity-of .ensures) in
+    let w = calendar-worked (record { week-is = c .before .before .before .before .before .before .before .week-for .ensures; at-is = e .0; n-is = e .1 }) ∙ ap (λ (y : Activity). worked (p .hours (y .calendar))) (c .before .before .before .before .before .before .before .before .before .activity-of .ensures) in
     sym (times-start-refused (own p (s .args .j)) _ _ _ ((λ z. nextStart (sym w z) (sym (c .before .before .before .before .before .get-act .ensures .0) z)) ∙ sym (c .before .before .before .latest-same .ensures) ∙ c .before .r2 .given .1))
 
 pub successor-times-spec : {M : Type 1} → statement M
@@ -77,7 +77,7 @@ successor-times-spec =
     (tie.spec
     activity-of-requires
     cast-k
-    week-of-requires
+    week-for-requires
     exceptions-of-requires
     get-act-requires
     get-act-requires-2
