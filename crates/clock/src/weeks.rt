@@ -5,8 +5,16 @@ ghost use mathlib.Core.List.{[]};
 ghost use Prim.Native.Nat.{ℕ, _+_, _-_, _*_, min, _≤_, _<_};
 ghost use lib.ListN.{length, getD};
 ghost use Rattle.calendar.specs.Hours.{rank, Ordered};
-ghost use Rattle.calendar.specs.Records.{exceptionDay, FirstFrom};
+ghost use Rattle.calendar.specs.Records.{exceptionDay, Valid, FirstFrom};
+ghost use Rattle.date.specs.Years.{endDay};
 ghost use Rattle.clock.specs.Regular.{Totals, Daily, regular, NextOwn};
+ghost use Rattle.clock.specs.Jumps.{Fits, Passed};
+
+// Whole weeks that a walk passes at once, and their minutes.
+pub struct Jump {
+    pub weeks: u64,
+    pub minutes: u64,
+}
 
 // The minutes of each weekday.
 pub fn totals_of(week: [[Period; 8]; 7]) -> [u64; 7]
@@ -61,4 +69,53 @@ pub fn next_own(sheet: &[u8], at: usize, n: usize, i: u64, e: u64, j: usize) -> 
         }
     }
     e
+}
+
+// The lesser of two numbers.
+fn lesser(a: u64, b: u64) -> u64
+    ensures { λ r. ⌜ r ≡ min a b ⌝ }
+{
+    if a < b { a } else { b }
+}
+
+// As many whole weeks of `days` days as have fewer than `left` minutes; the first day's weekday is that of `d`. None where a week has no minutes.
+fn whole_weeks(totals: [u64; 7], d: u64, days: u64, left: u64) -> Jump
+    requires { ⌜ Daily totals × (d ≤ endDay) × (0 < left) ⌝ }
+    ensures { λ r. ⌜ Fits totals d days left (r .weeks) (r .minutes) ⌝ }
+{
+    let minutes = plain_work(totals, d, d + 7);
+    if minutes == 0 {
+        return Jump {
+            weeks: 0,
+            minutes: 0,
+        };
+    }
+    let weeks = lesser(days / 7, (left - 1) / minutes);
+    Jump {
+        weeks: weeks,
+        minutes: weeks * minutes,
+    }
+}
+
+// Whole weeks from day `d` on, before the next day with E records and within the years that may be read, with fewer than `left` minutes.
+pub fn weeks_ahead(
+    week: [[Period; 8]; 7],
+    sheet: &[u8],
+    at: usize,
+    n: usize,
+    d: u64,
+    from: usize,
+    left: u64,
+) -> Jump
+    requires { ⌜ Valid week (now sheet) at n × FirstFrom (now sheet) at n d from × (d ≤ endDay) × (0 < left) ⌝ }
+    ensures { λ r. ⌜ Passed week (now (sheet .entry)) at n d (d + 7 * r .weeks) from left (r .minutes) × (d + 7 * r .weeks ≤ endDay) ⌝ }
+{
+    let days = next_own(sheet, at, n, d, crate::LAST_DAY + 1, from) - d;
+    if days < 7 {
+        return Jump {
+            weeks: 0,
+            minutes: 0,
+        };
+    }
+    whole_weeks(totals_of(week), d, days, left)
 }

@@ -1,0 +1,50 @@
+-- Weeks by division stay below what is left, and weeks of days without E records are passed by their minutes, forward and back.
+use mathlib.Core.Path.{_≡_, sym, ap, _∙_}
+use mathlib.Core.Bool.{Bool}
+use mathlib.Core.List.{List}
+use Prim.Native.Nat.{ℕ, _+_, _-_, _*_, _/_, min, _≤_, _<_}
+use native.Mathlib.Omega.{arith}
+use native.Mathlib.Nat.{div-mul-le-self, mul-le-mul-right}
+use Rattle.calendar.specs.declared.Period.{Period}
+use Rattle.calendar.specs.Records.{Valid, FirstFrom}
+use Rattle.worktime.specs.Worked.{count}
+use Rattle.clock.specs.On.{workedOn}
+use Rattle.clock.specs.Regular.{Totals, regular}
+use Rattle.clock.specs.RegularLaws.{regular-later, regular-weeks, count-regular, none-between, first-between}
+use Rattle.clock.specs.Jumps.{Fits, Passed}
+
+module _ (ts : List ℕ) (d days left : ℕ) (l : 0 < left) where
+  pub fits-none : Fits ts d days left 0 0
+  fits-none = record { equal = omega arith; within = omega arith; fewer = l }
+
+  pub fits-least : (a q : ℕ) → a ≡ regular ts d (d + 7 - d) → q ≡ min (days / 7) ((left - 1) / a) → Fits ts d days left q (q * a)
+  fits-least a q e f =
+      let s : d + 7 - d ≡ 7 = omega arith in record {
+        equal = ap (λ x. q * x) (e ∙ ap (regular ts d) s);
+        within = omega arith;
+        fewer = omega (arith, mul-le-mul-right {m = q} {n = (left - 1) / a} a (omega arith), div-mul-le-self (left - 1) a);
+      }
+
+module _ {week : List (List Period)} {s : List ℕ} {at n : ℕ} (valid : Valid week s at n) {j left : ℕ} where
+  -- no week at all
+  pub passed-none : (d : ℕ) → 0 < left → FirstFrom s at n d j → (e : ℕ) → e ≡ d → Passed week s at n d e j left 0
+  passed-none d l f e q = rw q (record { counted = omega arith; fewer = l; from = f; to = f })
+
+  module _ {ts : List ℕ} (t : Totals week ts) {d e q a : ℕ} (from : FirstFrom s at n d j) (to : FirstFrom s at n e j) where
+    -- q weeks from day d on
+    pub passed-ahead : Fits ts d (e - d) left q a → d ≤ e → Passed week s at n d (d + 7 * q) j left a
+    passed-ahead f l =
+        let r = count-regular valid t d (7 * q) (λ x y z. none-between from to x y (omega (arith, f .within))) in record {
+          counted = omega (arith, r, regular-weeks ts d q, f .equal);
+          fewer = f .fewer;
+          from = from;
+          to = first-between from to (d + 7 * q) (omega arith) (omega (arith, f .within));
+        }
+
+-- what is left after the weeks from day d up to day e, counted from day e on
+pub weeks-passed : (w : ℕ → Bool) (d e left a to : ℕ) → count w (d * 1440 + 0) + left ≡ to → count w (d * 1440) + a ≡ count w (e * 1440) → a < left
+    → count w (e * 1440 + 0) + (left - a) ≡ to
+weeks-passed w d e left a to p q l =
+    let f : count w (d * 1440 + 0) ≡ count w (d * 1440) = ap (count w) (omega arith) in
+    let g : count w (e * 1440 + 0) ≡ count w (e * 1440) = ap (count w) (omega arith) in
+    omega arith
