@@ -127,3 +127,12 @@ module _ (s : List ℕ) (at n i e j : ℕ) (sorted : (x y : ℕ) → x ≤ y →
         above = λ x y z. omega (arith, c (omega arith), sorted j x y z);
       } in
       record { from = a; to = b; none-own = λ d l u. none-between first last d l u; first = last }
+
+-- ---- the days after the last E record before day e
+module _ (s : List ℕ) (at n e j : ℕ) (sorted : (x y : ℕ) → x ≤ y → y < n → exceptionDay s at x ≤ exceptionDay s at y) (first : FirstFrom s at n e j) (r : ℕ) where
+  pub after-own-is : r ≤ e → (0 < j → exceptionDay s at (j - 1) < r) → FirstFrom s at n r j
+  after-own-is l c = record {
+    within = first .within;
+    below = λ x y. omega (arith, c (omega arith), sorted x (j - 1) (omega arith) (omega (arith, first .within)));
+    above = λ x y z. omega (arith, first .above x y z);
+  }

@@ -223,6 +223,11 @@ pub fn retreat(week: [[Period; 8]; 7], sheet: &[u8], at: usize, n: usize, t: u64
         to -= hours.n;
         d -= 1;
         m = 1440;
+        if WEEK < left {
+            let back = weeks::weeks_back(week, sheet, at, n, d + 1, to, left);
+            left -= back.minutes;
+            d -= 7 * back.weeks;
+        }
     }
     Walk::Refused(TOO_LONG)
 }

@@ -6,7 +6,7 @@ ghost use Prim.Native.Nat.{ℕ, _+_, _-_, _*_, min, _≤_, _<_};
 ghost use lib.ListN.{length, getD};
 ghost use Rattle.calendar.specs.Hours.{rank, Ordered};
 ghost use Rattle.calendar.specs.Records.{exceptionDay, Valid, FirstFrom};
-ghost use Rattle.date.specs.Years.{endDay};
+ghost use Rattle.date.specs.Years.{firstDay, endDay};
 ghost use Rattle.clock.specs.Regular.{Totals, Daily, regular, NextOwn};
 ghost use Rattle.clock.specs.Jumps.{Fits, Passed};
 
@@ -71,6 +71,20 @@ pub fn next_own(sheet: &[u8], at: usize, n: usize, i: u64, e: u64, j: usize) -> 
     e
 }
 
+// The first day from `b` on from which up to `e` no day has E records; `j` is the first record whose day is `e` or later.
+pub fn after_own(sheet: &[u8], at: usize, n: usize, b: u64, e: u64, j: usize) -> u64
+    requires { ⌜ (at + 9 * n ≤ length (now sheet)) × ((x y : ℕ) → x ≤ y → y < n → exceptionDay (now sheet) at x ≤ exceptionDay (now sheet) at y) × FirstFrom (now sheet) at n e j × (b ≤ e) ⌝ }
+    ensures { λ r. ⌜ (b ≤ r) × (r ≤ e) × FirstFrom (now (sheet .entry)) at n r j ⌝ }
+{
+    if 0 < j {
+        let day = calendar::exception_day(sheet, at, j - 1);
+        if b <= day {
+            return day + 1;
+        }
+    }
+    b
+}
+
 // The lesser of two numbers.
 fn lesser(a: u64, b: u64) -> u64
     ensures { λ r. ⌜ r ≡ min a b ⌝ }
@@ -118,4 +132,27 @@ pub fn weeks_ahead(
         };
     }
     whole_weeks(totals_of(week), d, days, left)
+}
+
+// The same back from day `e`, whose weekday a week back from it begins with.
+pub fn weeks_back(
+    week: [[Period; 8]; 7],
+    sheet: &[u8],
+    at: usize,
+    n: usize,
+    e: u64,
+    to: usize,
+    left: u64,
+) -> Jump
+    requires { ⌜ Valid week (now sheet) at n × FirstFrom (now sheet) at n e to × (firstDay ≤ e) × (e ≤ endDay) × (0 < left) ⌝ }
+    ensures { λ r. ⌜ Passed week (now (sheet .entry)) at n (e - 7 * r .weeks) e to left (r .minutes) × (firstDay + 7 * r .weeks ≤ e) ⌝ }
+{
+    let days = e - after_own(sheet, at, n, crate::FIRST_DAY, e, to);
+    if days < 7 {
+        return Jump {
+            weeks: 0,
+            minutes: 0,
+        };
+    }
+    whole_weeks(totals_of(week), e, days, left)
 }

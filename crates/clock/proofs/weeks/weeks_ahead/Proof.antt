@@ -1,4 +1,5 @@
 -- `clock::weeks::weeks_ahead` meets its contract: the weeks stand before the next day with E records.
+use mathlib.Core.Path.{refl}
 use Prim.Native.Nat.{_+_, _*_, _≤_}
 use native.Mathlib.Omega.{arith}
 use borrow.Author.Needs.{needs}
@@ -17,7 +18,7 @@ sub-days : tie.Need-sub-days
 sub-days c = c .next-own .ensures .from
 
 returns : tie.Need-returns
-returns c = let p = c .before .before .before .pre in (passed-none (p .0) _ (p .3) (p .1) _ (omega arith), omega (arith, p .2))
+returns c = let p = c .before .before .before .pre in (passed-none (p .0) (p .3) _ (p .1) _ _ refl (omega arith), omega (arith, p .2))
 
 totals-of-requires : tie.Need-totals-of-requires
 totals-of-requires c κs = row-ordered (c .before .before .before .pre .0)
