@@ -2,7 +2,7 @@
 use mathlib.Core.Path.{_≡_, sym, ap, _∙_}
 use mathlib.Core.Bool.{Bool}
 use mathlib.Core.List.{List}
-use Prim.Native.Nat.{ℕ, _+_, _-_, _*_, _/_, min, _≤_, _<_}
+use Prim.Native.Nat.{ℕ, _+_, _-_, _*_, _/_, _≤_, _<_}
 use native.Mathlib.Omega.{arith}
 use native.Mathlib.Nat.{div-mul-le-self, mul-le-mul-right}
 use Rattle.calendar.specs.declared.Period.{Period}
@@ -17,12 +17,12 @@ module _ (ts : List ℕ) (d days left : ℕ) (l : 0 < left) where
   pub fits-none : Fits ts d days left 0 0
   fits-none = record { equal = omega arith; within = omega arith; fewer = l }
 
-  pub fits-least : (a q : ℕ) → a ≡ regular ts d (d + 7 - d) → q ≡ min (days / 7) ((left - 1) / a) → Fits ts d days left q (q * a)
-  fits-least a q e f =
+  pub fits-whole : (a q : ℕ) → a ≡ regular ts d (d + 7 - d) → 7 * q ≤ days → q ≤ (left - 1) / a → Fits ts d days left q (q * a)
+  fits-whole a q e w f =
       let s : d + 7 - d ≡ 7 = omega arith in record {
         equal = ap (λ x. q * x) (e ∙ ap (regular ts d) s);
-        within = omega arith;
-        fewer = omega (arith, mul-le-mul-right {m = q} {n = (left - 1) / a} a (omega arith), div-mul-le-self (left - 1) a);
+        within = w;
+        fewer = omega (arith, mul-le-mul-right a f, div-mul-le-self (left - 1) a);
       }
 
 module _ {week : List (List Period)} {s : List ℕ} {at n : ℕ} (valid : Valid week s at n) {j left : ℕ} where

@@ -1,4 +1,4 @@
-// Work counted by the week: the minutes of each weekday, and of days that have no E records.
+// Work counted by the week: the minutes of each weekday, of days that have no E records, and of whole weeks of these that a walk passes at once.
 use calendar::Period;
 ghost use mathlib.Core.Path.{_≡_};
 ghost use mathlib.Core.List.{[]};
@@ -72,7 +72,7 @@ pub fn next_own(sheet: &[u8], at: usize, n: usize, i: u64, e: u64, j: usize) -> 
 }
 
 // The first day from `b` on from which up to `e` no day has E records; `j` is the first record whose day is `e` or later.
-pub fn after_own(sheet: &[u8], at: usize, n: usize, b: u64, e: u64, j: usize) -> u64
+fn after_own(sheet: &[u8], at: usize, n: usize, b: u64, e: u64, j: usize) -> u64
     requires { ⌜ (at + 9 * n ≤ length (now sheet)) × ((x y : ℕ) → x ≤ y → y < n → exceptionDay (now sheet) at x ≤ exceptionDay (now sheet) at y) × FirstFrom (now sheet) at n e j × (b ≤ e) ⌝ }
     ensures { λ r. ⌜ (b ≤ r) × (r ≤ e) × FirstFrom (now (sheet .entry)) at n r j ⌝ }
 {
@@ -92,7 +92,7 @@ fn lesser(a: u64, b: u64) -> u64
     if a < b { a } else { b }
 }
 
-// As many whole weeks of `days` days as have fewer than `left` minutes; the first day's weekday is that of `d`. None where a week has no minutes.
+// As many whole weeks of `days` days in a row as have fewer than `left` minutes; the first day's weekday is that of `d`. None where a week has no minutes.
 fn whole_weeks(totals: [u64; 7], d: u64, days: u64, left: u64) -> Jump
     requires { ⌜ Daily totals × (d ≤ endDay) × (0 < left) ⌝ }
     ensures { λ r. ⌜ Fits totals d days left (r .weeks) (r .minutes) ⌝ }
@@ -134,7 +134,7 @@ pub fn weeks_ahead(
     whole_weeks(totals_of(week), d, days, left)
 }
 
-// The same back from day `e`, whose weekday a week back from it begins with.
+// Whole weeks up to but not day `e`, after the last day before it with E records and within the years that may be read, with fewer than `left` minutes.
 pub fn weeks_back(
     week: [[Period; 8]; 7],
     sheet: &[u8],

@@ -1,8 +1,9 @@
 -- `clock::weeks::whole_weeks` meets its contract: as many weeks as the days have, and as what is left divided by a week's minutes.
+use Prim.Native.Nat.{_*_, _-_, _/_, _≤_}
 use native.Mathlib.Omega.{arith}
 use borrow.Author.Needs.{needs}
 use Rattle.clock.specs.Jumps.{Fits}
-use Rattle.clock.specs.JumpLaws.{fits-none, fits-least}
+use Rattle.clock.specs.JumpLaws.{fits-none, fits-whole}
 use Rattle.clock.proofs.weeks.whole_weeks.Statement.{statement}
 use Rattle.clock.proofs.weeks.whole_weeks.Tie as tie
 
@@ -25,7 +26,9 @@ lesser-requires : tie.Need-lesser-requires
 lesser-requires c κs = search needs
 
 returns-2 : tie.Need-returns-2
-returns-2 c = fits-least _ _ _ _ (c .before .before .before .pre .2) _ _ (c .before .before .plain-work .ensures .0) (c .lesser .ensures)
+returns-2 c =
+    let q = c .lesser .ensures in
+    fits-whole _ _ _ _ (c .before .before .before .pre .2) _ _ (c .before .before .plain-work .ensures .0) (omega (arith, q)) (omega (arith, q))
 
 mul-t7 : tie.Need-mul-t7
 mul-t7 c = omega (arith, returns-2 c .fewer)
