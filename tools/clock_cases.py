@@ -295,6 +295,26 @@ def no_week():
     return c
 
 
+def long_walks(c, times, *works):
+    """Works of many weeks from each time, forward and back."""
+    for t in times:
+        c.of("advance", *((t, n) for n in works))
+        c.of("retreat", *((t, n) for n in works))
+    return c
+
+
+def holidays():
+    """Weeks with E days so far apart that none, one or some whole weeks lie between, and works that end within them, with them and after."""
+    days, day = [], MONDAY
+    for gap in (6, 7, 8, 13, 14, 15, 1, 22, 7, 49):
+        day += gap
+        days.append((day, 0, 600 if gap % 2 else 0))
+    c = Calendar({k: [(480, 960)] for k in range(5)} | {5: [(0, 1440)]}, days)      # 3,840 minutes a week
+    long_walks(c, (at(-30, 0), at(0, 480), at(35, 700)), 10080, 10081, 19200, 38400, 57601)
+    long_walks(c, (at(143, 0), at(150, 1)), 10081, 15360, 26880, 26881, 61440)
+    return c
+
+
 def ends(c, few=False):
     """Both ends of the years that a walk may read, with a calendar that works there."""
     first, end = FIRST * 1440, END * 1440
@@ -305,6 +325,9 @@ def ends(c, few=False):
     c.of("advance", (first - 1, 1), (first - 1, 0), (first, 1), (end - 1, 1), (end - 1, 2), (end, 1), (end, 0), (end - 1440, 480), (end - 1440, 481))
     c.of("retreat", (first, 1), (first + 1, 1), (first + 1, 2), (first + 1440, 480), (first + 1440, 481), (first - 1, 0), (end, 1), (end - 1, 1), (end, 0))
     c.of("shift", (first, -1), (end - 1, 2), (end - 481, 1))
+    # the years end within the weeks passed at once, with them, and after
+    c.of("advance", (end - 70 * 1440, 10081), (end - 70 * 1440, 24000), (end - 70 * 1440, 24001), (end - 71 * 1440, 100800), (end - 71 * 1440, 100801))
+    c.of("retreat", (first + 70 * 1440, 10081), (first + 70 * 1440, 24000), (first + 70 * 1440, 24001), (first + 71 * 1440, 100800), (first + 71 * 1440, 100801))
     c.of("between", (first, first - 1), (first, first + 1440), (end - 1440, end - 1), (end - 1, end), (end, end - 1), (first - 1, first - 1))
     return c
 
@@ -320,7 +343,8 @@ def round_the_clock():
 
 
 def main():
-    calendars = [ends(five_days()), shifts(), nights(), exceptions(), thursdays(), starved(), eights(), no_week(), round_the_clock()]
+    five = long_walks(five_days(), (at(0, 480), at(4, 960), at(5, 720)), 10080, 10081, 23999, 24000, 24001)
+    calendars = [ends(five), shifts(), nights(), exceptions(), holidays(), thursdays(), starved(), eights(), no_week(), round_the_clock()]
     crate = os.path.join(os.path.dirname(os.path.abspath(__file__)), "..", "crates", "clock_cases")
     with open(os.path.join(crate, "data", "cases"), "wb") as out:
         for c in calendars:

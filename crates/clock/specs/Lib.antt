@@ -6,3 +6,5 @@ pub mod Ways
 pub mod Weeks
 pub mod Regular
 pub mod RegularLaws
+pub mod Jumps
+pub mod JumpLaws

@@ -100,20 +100,39 @@ module _ {week : List (List Period)} {s : List ℕ} {at n : ℕ} (valid : Valid 
       let g : regular ts d (suc m) ≡ regular ts d m + getD ts k 0 = rw (add-one m) at (regular-step ts d m) in
       omega (arith, r, e, g, count-regular m (λ j x y. f j x (omega arith)))
 
+-- ---- days between which no E record comes: record j is first from day d on, and from day e on
+module _ {s : List ℕ} {at n j d e : ℕ} (from : FirstFrom s at n d j) (to : FirstFrom s at n e j) (x : ℕ) (low : d ≤ x) where
+  pub none-between : x < e → exceptionsOn s at x n ≡ []
+  unfolding exceptionsOn
+  none-between high =
+      let other : (i : ℕ) → i < n → exceptionDay s at i ≡ x → ⊥ =
+      λ i l z. ⊎-elim (λ q. omega (arith, from .below i q)) (λ q. omega (arith, to .above i q l)) (lt-or-le i j) in
+      let o : 0 + n ≡ n = omega arith in
+      rw o at (on-rest s at x 0 n (λ i _ l. other i (omega arith)))
+
+  pub first-between : x ≤ e → FirstFrom s at n x j
+  first-between high = record {
+    within = from .within;
+    below = λ i l. omega (arith, from .below i l);
+    above = λ i l k. omega (arith, to .above i l k);
+  }
+
 -- ---- the days before the next E record
 module _ (s : List ℕ) (at n i e j : ℕ) (sorted : (x y : ℕ) → x ≤ y → y < n → exceptionDay s at x ≤ exceptionDay s at y) (first : FirstFrom s at n i j) (r : ℕ) where
   pub next-own-is : i ≤ r → r ≤ e → (j < n → r ≤ exceptionDay s at j) → NextOwn s at n i e j r
-  unfolding exceptionsOn
   next-own-is a b c =
-      let other : (d : ℕ) → i ≤ d → d < r → (x : ℕ) → x < n → exceptionDay s at x ≡ d → ⊥ =
-      λ d l u x y z. ⊎-elim (λ q. omega (arith, first .below x q)) (λ q. omega (arith, c (omega arith), sorted j x q y)) (lt-or-le x j) in
-      record {
-        from = a;
-        to = b;
-        none-own = λ d l u. let o : 0 + n ≡ n = omega arith in rw o at (on-rest s at d 0 n (λ x _ y. other d l u x (omega arith)));
-        first = record {
-          within = first .within;
-          below = λ x y. omega (arith, first .below x y);
-          above = λ x y z. omega (arith, c (omega arith), sorted j x y z);
-        };
-      }
+      let last : FirstFrom s at n r j = record {
+        within = first .within;
+        below = λ x y. omega (arith, first .below x y);
+        above = λ x y z. omega (arith, c (omega arith), sorted j x y z);
+      } in
+      record { from = a; to = b; none-own = λ d l u. none-between first last d l u; first = last }
+
+-- ---- the days after the last E record before day e
+module _ (s : List ℕ) (at n e j : ℕ) (sorted : (x y : ℕ) → x ≤ y → y < n → exceptionDay s at x ≤ exceptionDay s at y) (first : FirstFrom s at n e j) (r : ℕ) where
+  pub after-own-is : r ≤ e → (0 < j → exceptionDay s at (j - 1) < r) → FirstFrom s at n r j
+  after-own-is l c = record {
+    within = first .within;
+    below = λ x y. omega (arith, c (omega arith), sorted x (j - 1) (omega arith) (omega (arith, first .within)));
+    above = λ x y z. omega (arith, first .above x y z);
+  }

@@ -22,6 +22,9 @@ const FIRST_DAY: u64 = 2143112061;
 
 const LAST_DAY: u64 = 2150416544;
 
+// The minutes of a week: only a walk of more passes whole weeks at once.
+const WEEK: u64 = 10080;
+
 // The least worked minute at or after `t`.
 pub fn next_start(week: [[Period; 8]; 7], sheet: &[u8], at: usize, n: usize, t: u64) -> Walk
     requires { ⌜ Valid week (now sheet) at n ⌝ }
@@ -185,6 +188,11 @@ pub fn advance(week: [[Period; 8]; 7], sheet: &[u8], at: usize, n: usize, t: u64
         from += hours.n;
         d += 1;
         m = 0;
+        if WEEK < left {
+            let ahead = weeks::weeks_ahead(week, sheet, at, n, d, from, left);
+            left -= ahead.minutes;
+            d += 7 * ahead.weeks;
+        }
     }
     Walk::Refused(TOO_LONG)
 }
@@ -215,6 +223,11 @@ pub fn retreat(week: [[Period; 8]; 7], sheet: &[u8], at: usize, n: usize, t: u64
         to -= hours.n;
         d -= 1;
         m = 1440;
+        if WEEK < left {
+            let back = weeks::weeks_back(week, sheet, at, n, d + 1, to, left);
+            left -= back.minutes;
+            d -= 7 * back.weeks;
+        }
     }
     Walk::Refused(TOO_LONG)
 }

@@ -14,6 +14,7 @@ use Rattle.worktime.specs.Walks.{firstMinute, endMinute}
 use Rattle.worktime.specs.Shift.{advance-zero, advance-out, advance-at, advance-none}
 use Rattle.clock.specs.On.{workedOn}
 use Rattle.clock.specs.Days.{DaySelected, hand-rank, hand-select, count-time, count-next-day}
+use Rattle.clock.specs.JumpLaws.{weeks-passed}
 use Rattle.clock.proofs.advance.Statement.{statement}
 use Rattle.clock.proofs.advance.Tie as tie
 
@@ -69,8 +70,8 @@ sub-today c =
     let ps = periodsOf (c .before .before .hours-from .result) (l .before .before .before .before .before .args .sheet .now) in
     omega (arith, c .before .day-rank .ensures .0, c .day-rank2 .ensures .0, rank-mono ps (l .loop .m) 1440 (omega arith))
 
-mul-t25 : tie.Need-mul-t25 Inv-loop μ-loop
-mul-t25 c = search needs
+mul-t26 : tie.Need-mul-t26 Inv-loop μ-loop
+mul-t26 c = search needs
 
 add-day-select : tie.Need-add-day-select Inv-loop μ-loop
 add-day-select c = omega (arith, sub-today (c .before))
@@ -80,8 +81,8 @@ day-select-requires c κs =
     let q = day-rank-requires (c .before .before .before) κs in
     (q .0, q .1, omega arith, omega (arith, sub-today (c .before), c .before .day-rank2 .ensures .0))
 
-add-t28 : tie.Need-add-t28 Inv-loop μ-loop
-add-t28 c = search needs
+add-t29 : tie.Need-add-t29 Inv-loop μ-loop
+add-t29 c = search needs
 
 returns-3 : tie.Need-returns-3 Inv-loop μ-loop
 returns-3 c =
@@ -108,11 +109,15 @@ add-from c = omega (arith, c .before .before .before .before .hours-from .ensure
 add-d : tie.Need-add-d Inv-loop μ-loop
 add-d c = search needs
 
-loop-less : tie.Need-loop-less Inv-loop μ-loop
-loop-less c = search needs
-
-loop-again : tie.Need-loop-again Inv-loop μ-loop
-loop-again c =
+-- the day is passed: what is left is counted from the next day on
+passed : (c : tie.After-struct-known Inv-loop μ-loop) →
+    let l = c .before .before .before .before .before .before .before in
+    let a = l .before .before .before .before .before .args in
+    let w = workedOn (a .t1) (a .sheet .now) (a .at) (a .n) in
+    let today = c .before .before .day-rank2 .result - c .before .before .before .day-rank .result in
+    (count w ((l .loop .d + 1) * 1440 + 0) + (l .loop .left - today) ≡ count w (a .t) + a .work)
+    × FirstFrom (a .sheet .now) (a .at) (a .n) (l .loop .d + 1) (l .loop .from + c .before .before .before .before .hours-from .result .n)
+passed c =
     let l = c .before .before .before .before .before .before .before in
     let s = l .before .before .before .before .before in
     let a = s .args in
@@ -122,15 +127,46 @@ loop-again c =
     let f = c .before .before .before .before .hours-from .ensures in
     let p = f .0 .is (a .t1) refl in
     let q = hand-rank h d o _ p (l .loop .m) _ (omega arith) (c .before .before .before .day-rank .ensures .0) in
-    let r = hand-rank h d o _ p 1440 _ (omega arith) (c .before .before .day-rank2 .ensures .0) in (
+    let r = hand-rank h d o _ p 1440 _ (omega arith) (c .before .before .day-rank2 .ensures .0) in
+    (omega (arith, sub-today (c .before .before), q, r, count-next-day (worked h) d, l .loop .inv .5), f .1)
+
+weeks-ahead-requires : tie.Need-weeks-ahead-requires Inv-loop μ-loop
+weeks-ahead-requires c κs =
+    let s = c .before .before .before .before .before .before .before .before .before .before .before .before .before in
+    (s .pre, passed (c .before) .1, omega arith, omega arith)
+
+sub-left-2 : tie.Need-sub-left-2 Inv-loop μ-loop
+sub-left-2 c = omega (arith, c .before .weeks-ahead .ensures .0 .fewer)
+
+mul-d : tie.Need-mul-d Inv-loop μ-loop
+mul-d c = omega (arith, c .before .before .weeks-ahead .ensures .1)
+
+add-d-2 : tie.Need-add-d-2 Inv-loop μ-loop
+add-d-2 c = omega (arith, c .before .before .weeks-ahead .ensures .1)
+
+loop-less : tie.Need-loop-less Inv-loop μ-loop
+loop-less c = search needs
+
+loop-again : tie.Need-loop-again Inv-loop μ-loop
+loop-again c =
+    let l = c .before .before .before .before .before .before .before .before .before .before .before in
+    let a = l .before .before .before .before .before .args in
+    let p = passed (c .before .before .before .before) in
+    let j = c .before .before .weeks-ahead .ensures .0 in (
       omega arith,
       omega arith,
       omega arith,
-      omega arith,
-      omega arith,
-      omega (arith, sub-today (c .before .before), q, r, count-next-day (worked h) d, l .loop .inv .5),
-      f .1,
+      omega (arith, j .fewer),
+      omega (arith, j .fewer),
+      weeks-passed (workedOn (a .t1) (a .sheet .now) (a .at) (a .n)) (l .loop .d + 1) _ _ _ _ (p .0) (j .counted) (j .fewer),
+      j .to,
     )
+
+loop-less-2 : tie.Need-loop-less-2 Inv-loop μ-loop
+loop-less-2 c = search needs
+
+loop-again-2 : tie.Need-loop-again-2 Inv-loop μ-loop
+loop-again-2 c = let p = passed (c .before) in (omega arith, omega arith, omega arith, omega arith, omega arith, p .0, p .1)
 
 returns-4 : tie.Need-returns-4 Inv-loop μ-loop
 returns-4 c =
@@ -158,14 +194,20 @@ advance-spec =
     day-rank-requires
     day-rank-requires-2
     sub-today
-    mul-t25
+    mul-t26
     add-day-select
     day-select-requires
-    add-t28
+    add-t29
     returns-3
     sub-left
     add-from
     add-d
+    weeks-ahead-requires
+    sub-left-2
+    mul-d
+    add-d-2
     loop-less
     loop-again
+    loop-less-2
+    loop-again-2
     returns-4)

@@ -14,6 +14,7 @@ use Rattle.worktime.specs.Walks.{firstMinute, endMinute}
 use Rattle.worktime.specs.Shift.{retreat-zero, retreat-out, retreat-at, retreat-none}
 use Rattle.clock.specs.On.{workedOn}
 use Rattle.clock.specs.Days.{DaySelected, hand-rank, hand-select, count-time, count-day-before}
+use Rattle.clock.specs.JumpLaws.{weeks-passed-back}
 use Rattle.clock.proofs.retreat.Statement.{statement}
 use Rattle.clock.proofs.retreat.Tie as tie
 
@@ -63,8 +64,8 @@ day-rank-requires c κs =
     let f = c .hours-to .ensures .0 in
     (f .within, hand-ordered (c .before .before .before .before .before .before .before .before .pre) _ _ (f .is _ refl))
 
-mul-t25 : tie.Need-mul-t25 Inv-loop μ-loop
-mul-t25 c = search needs
+mul-t26 : tie.Need-mul-t26 Inv-loop μ-loop
+mul-t26 c = search needs
 
 add-day-select : tie.Need-add-day-select Inv-loop μ-loop
 add-day-select c = search needs
@@ -76,11 +77,11 @@ day-select-requires c κs =
     let q = day-rank-requires (c .before .before) κs in
     (q .0, q .1, omega arith, omega (arith, c .before .day-rank .ensures .0, rank-mono ps (l .loop .m) 1440 (omega arith)))
 
-add-t29 : tie.Need-add-t29 Inv-loop μ-loop
-add-t29 c = search needs
+add-t30 : tie.Need-add-t30 Inv-loop μ-loop
+add-t30 c = search needs
 
-sub-t30 : tie.Need-sub-t30 Inv-loop μ-loop
-sub-t30 c = search needs
+sub-t31 : tie.Need-sub-t31 Inv-loop μ-loop
+sub-t31 c = search needs
 
 returns-3 : tie.Need-returns-3 Inv-loop μ-loop
 returns-3 c =
@@ -107,11 +108,14 @@ sub-to c = c .before .before .before .hours-to .ensures .1
 sub-d : tie.Need-sub-d Inv-loop μ-loop
 sub-d c = search needs
 
-loop-less : tie.Need-loop-less Inv-loop μ-loop
-loop-less c = search needs
-
-loop-again : tie.Need-loop-again Inv-loop μ-loop
-loop-again c =
+-- the day is passed: what is left is counted back from the end of the day before
+passed : (c : tie.After-struct-known Inv-loop μ-loop) →
+    let l = c .before .before .before .before .before .before in
+    let a = l .before .before .before .before .before .args in
+    let w = workedOn (a .t1) (a .sheet .now) (a .at) (a .n) in
+    (count w ((l .loop .d - 1) * 1440 + 1440) + a .work ≡ count w (a .t) + (l .loop .left - c .before .before .day-rank .result))
+    × FirstFrom (a .sheet .now) (a .at) (a .n) (l .loop .d - 1 + 1) (l .loop .to - c .before .before .before .hours-to .result .n)
+passed c =
     let l = c .before .before .before .before .before .before in
     let s = l .before .before .before .before .before in
     let a = s .args in
@@ -120,15 +124,52 @@ loop-again c =
     let o = s .pre .ordered d in
     let f = c .before .before .before .hours-to .ensures in
     let q = hand-rank h d o _ (f .0 .is (a .t1) refl) (l .loop .m) _ (omega arith) (c .before .before .day-rank .ensures .0) in
-    let e : d - 1 + 1 ≡ d = omega arith in (
+    let e : d - 1 + 1 ≡ d = omega arith in
+    (omega (arith, q, count-day-before (worked h) d (omega arith), l .loop .inv .5), rw e (f .2))
+
+add-weeks-back : tie.Need-add-weeks-back Inv-loop μ-loop
+add-weeks-back c = search needs
+
+weeks-back-requires : tie.Need-weeks-back-requires Inv-loop μ-loop
+weeks-back-requires c κs =
+    let s = c .before .before .before .before .before .before .before .before .before .before .before .before in
+    (s .pre, passed (c .before) .1, omega arith, omega arith, omega arith)
+
+sub-left-2 : tie.Need-sub-left-2 Inv-loop μ-loop
+sub-left-2 c = omega (arith, c .before .weeks-back .ensures .0 .fewer)
+
+mul-d : tie.Need-mul-d Inv-loop μ-loop
+mul-d c = omega (arith, c .before .before .weeks-back .ensures .1)
+
+sub-d-2 : tie.Need-sub-d-2 Inv-loop μ-loop
+sub-d-2 c = omega (arith, c .before .before .weeks-back .ensures .1)
+
+loop-less : tie.Need-loop-less Inv-loop μ-loop
+loop-less c = search needs
+
+loop-again : tie.Need-loop-again Inv-loop μ-loop
+loop-again c =
+    let l = c .before .before .before .before .before .before .before .before .before .before in
+    let a = l .before .before .before .before .before .args in
+    let d = l .loop .d - 1 in
+    let p = passed (c .before .before .before .before) in
+    let b = c .before .before .weeks-back .ensures in
+    let q = c .before .before .weeks-back .result .weeks in
+    let e : d - 7 * q + 1 ≡ d + 1 - 7 * q = omega (arith, sub-d-2 c) in (
       omega arith,
       omega arith,
       omega arith,
-      omega arith,
-      omega arith,
-      omega (arith, q, count-day-before (worked h) d (omega arith), l .loop .inv .5),
-      rw e (f .2),
+      omega (arith, b .0 .fewer),
+      omega (arith, b .0 .fewer),
+      weeks-passed-back (workedOn (a .t1) (a .sheet .now) (a .at) (a .n)) d q _ _ _ _ (p .0) (b .0 .counted) (b .0 .fewer) (sub-d-2 c),
+      rw e (b .0 .from),
     )
+
+loop-less-2 : tie.Need-loop-less-2 Inv-loop μ-loop
+loop-less-2 c = search needs
+
+loop-again-2 : tie.Need-loop-again-2 Inv-loop μ-loop
+loop-again-2 c = let p = passed (c .before) in (omega arith, omega arith, omega arith, omega arith, omega arith, p .0, p .1)
 
 returns-4 : tie.Need-returns-4 Inv-loop μ-loop
 returns-4 c =
@@ -155,15 +196,22 @@ retreat-spec =
     array-copy-out-row
     hours-to-requires
     day-rank-requires
-    mul-t25
+    mul-t26
     add-day-select
     day-select-requires
-    add-t29
-    sub-t30
+    add-t30
+    sub-t31
     returns-3
     sub-left
     sub-to
     sub-d
+    add-weeks-back
+    weeks-back-requires
+    sub-left-2
+    mul-d
+    sub-d-2
     loop-less
     loop-again
+    loop-less-2
+    loop-again-2
     returns-4)

@@ -1,0 +1,22 @@
+-- Whole weeks that a walk passes at once: how many, and what it passes by them.
+use mathlib.Core.Path.{_≡_}
+use mathlib.Core.List.{List}
+use Prim.Native.Nat.{ℕ, _+_, _*_, _≤_, _<_}
+use Rattle.calendar.specs.declared.Period.{Period}
+use Rattle.calendar.specs.Records.{FirstFrom}
+use Rattle.worktime.specs.Worked.{count}
+use Rattle.clock.specs.On.{workedOn}
+use Rattle.clock.specs.Regular.{regular}
+
+-- q whole weeks within so many days, the first day's weekday that of d, have a minutes, fewer than `left`
+pub record Fits (ts : List ℕ) (d days left q a : ℕ) : Type 0 where
+  pub equal : a ≡ q * regular ts d 7
+  pub within : 7 * q ≤ days
+  pub fewer : a < left
+
+-- from day d up to day e a minutes are worked, fewer than `left`, and record j is the first from either day on
+pub record Passed (week : List (List Period)) (s : List ℕ) (at n d e j left a : ℕ) : Type 0 where
+  pub counted : count (workedOn week s at n) (d * 1440) + a ≡ count (workedOn week s at n) (e * 1440)
+  pub fewer : a < left
+  pub from : FirstFrom s at n d j
+  pub to : FirstFrom s at n e j
