@@ -32,8 +32,8 @@ pub enum Kind {
     Century,
     /// Works of 1 to 10 days that dates spread over 100 years.
     Dates,
-    /// Ids that all fall into one bucket.
-    OneBucket,
+    /// Ids whose search is as long as it can be.
+    LongIds,
     /// Eight periods on each of seven days.
     ManyHours,
     /// All calendars, lags on others, every type of link and of constraint.
@@ -57,7 +57,7 @@ impl Case {
             Kind::Months => "months",
             Kind::Century => "century",
             Kind::Dates => "dates",
-            Kind::OneBucket => "one-bucket",
+            Kind::LongIds => "long-ids",
             Kind::ManyHours => "many-hours",
             Kind::Mix => "mix",
         }
@@ -74,7 +74,7 @@ impl Case {
             Kind::Months => {}
             Kind::Century => stretch(&mut s),
             Kind::Dates => date(&mut s),
-            Kind::OneBucket => one_bucket(&mut s),
+            Kind::LongIds => long_ids(&mut s),
             Kind::ManyHours => many_hours(&mut s),
             Kind::Mix => mix(&mut s),
         }
@@ -100,7 +100,7 @@ pub fn cases() -> Vec<Case> {
         }
     }
     let plain = |kind: Kind, size: (usize, usize)| Case { kind, size, exceptions: 0 };
-    made.extend([(512, 1_024), (4_096, 16_384)].map(|size| plain(Kind::OneBucket, size)));
+    made.extend([(512, 1_024), (4_096, 16_384)].map(|size| plain(Kind::LongIds, size)));
     made.push(plain(Kind::ManyHours, (64, 128)));
     made.extend([(64, 128), (512, 1_024)].map(|size| plain(Kind::Mix, size)));
     made
@@ -230,10 +230,12 @@ fn date(s: &mut Sheet) {
     }
 }
 
-/// Ids that are all 0 modulo the count of activities, which is how the index of `ids` chooses a bucket.
-fn one_bucket(s: &mut Sheet) {
-    let count = s.activities.len() as u32;
-    let renamed = |id: u32| ((id - FIRST_ID) / ID_STEP + 1) * count;
+/// How many of their lowest bits the ids share: the index of `ids` goes by bits, from the lowest on.
+pub const SHARED_BITS: u32 = 20;
+
+/// As many ids as there may be activities differ in their highest bits alone.
+fn long_ids(s: &mut Sheet) {
+    let renamed = |id: u32| (((id - FIRST_ID) / ID_STEP) << SHARED_BITS) + 1;
     s.activities.iter_mut().for_each(|a| a.id = renamed(a.id));
     s.links.iter_mut().for_each(|l| (l.predecessor, l.successor) = (renamed(l.predecessor), renamed(l.successor)));
 }
