@@ -8,6 +8,10 @@ use crate::record::{ABSENT, Activity, FIRST_DAY, Hours, LAST_DAY, Link, Record, 
 /// Row 2: a record out of its place, cut, unknown or missing.
 pub fn misplace(r: &mut Random, records: &mut Records) {
     let length = records.len();
+    // A fault before this one may have left nothing, or a single byte at the end.
+    if length == 0 {
+        return;
+    }
     match r.below(10) {
         0 => records.clear(),
         1 => {
@@ -18,7 +22,9 @@ pub fn misplace(r: &mut Random, records: &mut Records) {
         4 => records.insert(r.below(length + 1), Record::Raw(vec![r.pick(&[0u8, b'p', b'Q', b'D', 255])])),
         5 => {
             let mut bytes = encode(&[records.pop().expect("a plan has a P")]);
-            bytes.truncate(1 + r.below(bytes.len() - 1));
+            if bytes.len() > 1 {
+                bytes.truncate(1 + r.below(bytes.len() - 1));
+            }
             records.push(Record::Raw(bytes));
         }
         6 => records.push(Record::C(480)),
