@@ -8,11 +8,12 @@ use crate::record::{ABSENT, Activity, FIRST_DAY, Hours, LAST_DAY, Link, Record, 
 /// Row 2: a record out of its place, cut, unknown or missing.
 pub fn misplace(r: &mut Random, records: &mut Records) {
     let length = records.len();
+    let what = r.below(10);
     // A fault before this one may have left nothing, or a single byte at the end.
-    if length == 0 {
+    if length == 0 && matches!(what, 1 | 3 | 5 | 8 | 9) {
         return;
     }
-    match r.below(10) {
+    match what {
         0 => records.clear(),
         1 => {
             records.remove(0);
