@@ -9,7 +9,7 @@ use crate::in_process::differs;
 use crate::oracle::{Answer, answer};
 use crate::read::MAX_EXCEPTIONS;
 use crate::timing::{Rounds, Time, Times, shown, times};
-use sheets::{Case, GROWTH, Kind, SPANS, START, cases};
+use sheets::{Case, GROWTH, IN_TURN, SPANS, START, cases};
 
 /// Seconds for each call on each sheet, where the command line names none.
 pub const SECONDS: f64 = 0.3;
@@ -45,6 +45,15 @@ fn ratio(ours: Time, rust: Time) -> String {
     format!("{:.2} ({:.2})", ours.least / rust.least, ours.median / rust.median)
 }
 
+/// The finish day, once the answer and all memory are as the oracle's.
+fn compared(schedule: Schedule, case: &Case, bytes: &[u8]) -> Result<i64, String> {
+    let verdict = answer(bytes);
+    let Answer::Accepted { finish, .. } = verdict.answer else {
+        return Err(format!("{}: the oracle refuses it", case.name()));
+    };
+    differs(schedule, bytes, &verdict).map_or(Ok(finish), |what| Err(format!("{}: {what}", case.name())))
+}
+
 /// Times the sheets whose names hold `part`, after comparing the answers and all memory with the oracle.
 pub fn print(schedule: Schedule, seconds: f64, part: &str) -> Result<(), String> {
     if !cfg!(feature = "sched") {
@@ -59,14 +68,8 @@ pub fn print(schedule: Schedule, seconds: f64, part: &str) -> Result<(), String>
     let mut timed: Vec<(Case, Times)> = Vec::new();
     for case in cases().into_iter().filter(|c| c.name().contains(part)) {
         let bytes = case.bytes();
-        let verdict = answer(&bytes);
-        let Answer::Accepted { finish, .. } = verdict.answer else {
-            return Err(format!("{}: the oracle refuses it", case.name()));
-        };
-        if let Some(what) = differs(schedule, &bytes, &verdict) {
-            return Err(format!("{}: {what}", case.name()));
-        }
-        let t = times(schedule, &bytes, Rounds::Seconds(seconds))?;
+        let finish = compared(schedule, &case, &bytes)?;
+        let t = times(schedule, &[&bytes], Rounds::Seconds(seconds))?;
         println!(
             "| {} | {} | {} | {} | {} | {} | {} | {} | {} |",
             case.plan(),
@@ -81,30 +84,51 @@ pub fn print(schedule: Schedule, seconds: f64, part: &str) -> Result<(), String>
         );
         timed.push((case, t));
     }
-    print_growth(&timed);
+    print_growth(schedule, seconds, &timed)?;
     print_load("after");
     Ok(())
 }
 
-/// Prints how many times as long 8 times the activities and links take.
-fn print_growth(timed: &[(Case, Times)]) {
+/// Prints how many times as long 8 times the activities and links take: as eight different plans of the smaller size, called
+/// in turn, and as one of them over and over, which a processor's predictions learn by heart.
+fn print_growth(schedule: Schedule, seconds: f64, timed: &[(Case, Times)]) -> Result<(), String> {
     let find = |case: Case| timed.iter().find(|(c, _)| *c == case).map(|(_, t)| t);
-    let row = |kind: Kind, exceptions: usize, from: (usize, usize), to: (usize, usize)| {
-        let [a, b] = [from, to].map(|size| Case { kind, size, exceptions });
-        let (less, more) = (find(a)?, find(b)?);
-        let times = |of: fn(&Times) -> Time| format!("{:.1}", of(more).least / of(less).least);
-        let (ours, rust, reading) = (times(|t| t.ours), times(|t| t.rust), times(|t| t.with_reading));
-        let (from, to) = (size(from), size(to));
-        Some(format!("| {} | {exceptions} | {from} | {to} | {ours} | {rust} | {reading} |", a.plan()))
-    };
     let sorts = SPANS.into_iter().flat_map(|kind| [(kind, 0), (kind, MAX_EXCEPTIONS)]);
-    let rows: Vec<String> =
-        sorts.flat_map(|(kind, e)| GROWTH.windows(2).filter_map(move |w| row(kind, e, w[0], w[1]))).collect();
+    let mut rows = Vec::new();
+    for (kind, exceptions) in sorts {
+        for step in GROWTH.windows(2) {
+            let [small, large] = [step[0], step[1]].map(|size| Case { kind, size, exceptions });
+            let (Some(alone), Some(more)) = (find(small), find(large)) else { continue };
+            let sheets: Vec<Vec<u8>> = IN_TURN.map(|seed| small.bytes_of(seed)).collect();
+            for bytes in &sheets {
+                compared(schedule, &small, bytes)?;
+            }
+            let sheets: Vec<&[u8]> = sheets.iter().map(Vec::as_slice).collect();
+            let turns = times(schedule, &sheets, Rounds::Seconds(seconds))?;
+            let grown = |of: fn(&Times) -> Time| {
+                let [in_turn, alone] = [&turns, alone].map(|less| of(more).least / of(less).least);
+                format!("{in_turn:.1} ({alone:.1})")
+            };
+            rows.push(format!(
+                "| {} | {exceptions} | {} | {} | {} | {} | {} |",
+                small.plan(),
+                size(small.size),
+                size(large.size),
+                grown(|t| t.ours),
+                grown(|t| t.rust),
+                grown(|t| t.with_reading),
+            ));
+        }
+    }
     if !rows.is_empty() {
-        println!("\nHow many times as long 8 times the activities and links take, by the least times:\n");
+        println!(
+            "\nHow many times as long 8 times the activities and links take, by the least times, as a plan of the"
+        );
+        println!("smaller size: eight different ones in turn (and one of them over and over).\n");
         println!("| plan | E | from | to | ours | Rust `schedule` | Rust with reading |");
         println!("|---|--:|--:|--:|--:|--:|--:|");
         rows.iter().for_each(|r| println!("{r}"));
     }
     println!();
+    Ok(())
 }

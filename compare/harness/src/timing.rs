@@ -1,4 +1,4 @@
-//! Times the Rust's `schedule` and the compared call on the same sheet in one run, their rounds interleaved.
+//! Times the Rust's `schedule` and the compared call on the same sheets in one run, their rounds interleaved.
 
 use std::hint::black_box;
 use std::time::Instant;
@@ -24,7 +24,7 @@ pub struct Time {
     pub median: f64,
 }
 
-/// The times on one sheet.
+/// The times on one sheet, or on several in turn.
 #[derive(Debug, Clone, Copy)]
 pub struct Times {
     /// Of the Rust's `schedule` on a ready `Project`.
@@ -43,6 +43,7 @@ const FEWEST: usize = 3;
 /// A sort of call with its times.
 struct Timed<'a> {
     run: Box<dyn FnMut() + 'a>,
+    sheets: usize,
     /// Calls that are timed together, and how often they are a round.
     batch: usize,
     burst: usize,
@@ -50,9 +51,15 @@ struct Timed<'a> {
 }
 
 impl<'a> Timed<'a> {
+    /// Each call takes the next of so many sheets, so that all are timed alike and none is called twice in a row.
     /// What a call leaves is handed on so that it isn't optimised away; dropping it belongs to its time.
-    fn new<T>(mut run: impl FnMut() -> T + 'a) -> Timed<'a> {
-        Timed { run: Box::new(move || drop(black_box(run()))), batch: 1, burst: 1, seconds: Vec::new() }
+    fn new<T>(sheets: usize, mut run: impl FnMut(usize) -> T + 'a) -> Timed<'a> {
+        let mut next = 0;
+        let run = move || {
+            drop(black_box(run(next)));
+            next = (next + 1) % sheets;
+        };
+        Timed { run: Box::new(run), sheets, batch: sheets, burst: 1, seconds: Vec::new() }
     }
 
     /// Seconds a call.
@@ -74,7 +81,7 @@ impl<'a> Timed<'a> {
         // The first call also warms the machine up; where it is long, that doesn't matter.
         let first = self.once();
         let call = if first < 0.1 { self.once() } else { first };
-        self.batch = (SHORTEST / call.max(1e-9)).ceil().max(1.0) as usize;
+        self.batch = ((SHORTEST / call.max(1e-9)).ceil() as usize).max(1).next_multiple_of(self.sheets);
         call * self.batch as f64
     }
 
@@ -85,18 +92,23 @@ impl<'a> Timed<'a> {
     }
 }
 
-/// Times all three on `bytes`; the lent memory isn't cleared between calls.
-pub fn times(schedule: Schedule, bytes: &[u8], rounds: Rounds) -> Result<Times, String> {
-    let sheet = read(bytes).map_err(|row| format!("refused by row {row}: nothing to time"))?;
-    if sheet.calendars.iter().any(|c| c.week.is_empty()) {
-        return Err("refused by row 5: nothing to time".into());
+/// Times all three on the sheets, one after the other; the lent memory isn't cleared between calls.
+pub fn times(schedule: Schedule, sheets: &[&[u8]], rounds: Rounds) -> Result<Times, String> {
+    let (mut made, mut activities, mut links) = (Vec::new(), 0, 0);
+    for bytes in sheets {
+        let sheet = read(bytes).map_err(|row| format!("refused by row {row}: nothing to time"))?;
+        if sheet.calendars.iter().any(|c| c.week.is_empty()) {
+            return Err("refused by row 5: nothing to time".into());
+        }
+        made.push(project(&sheet));
+        (activities, links) = (activities.max(sheet.activities.len()), links.max(sheet.links.len()));
     }
-    let made = project(&sheet);
-    let mut memory = Memory::zeros(&Lent::need(sheet.activities.len(), sheet.links.len()));
+    let count = sheets.len();
+    let mut memory = Memory::zeros(&Lent::need(activities, links));
     let mut timed = [
-        Timed::new(|| mkperth_sched::schedule(&made)),
-        Timed::new(|| read(bytes).map(|s| mkperth_sched::schedule(&project(&s)))),
-        Timed::new(|| memory.call(schedule, bytes)),
+        Timed::new(count, |k| mkperth_sched::schedule(&made[k])),
+        Timed::new(count, |k| read(sheets[k]).map(|s| mkperth_sched::schedule(&project(&s)))),
+        Timed::new(count, |k| memory.call(schedule, sheets[k])),
     ];
     let rounds = match rounds {
         Rounds::Count(count) => count,

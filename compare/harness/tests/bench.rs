@@ -38,15 +38,15 @@ fn the_sheets_are_what_their_names_say() {
 
 #[test]
 fn times_are_of_as_many_rounds_as_asked_for() {
-    let bytes = cases()[0].bytes();
-    let counted = times(oracle_schedule, &bytes, Rounds::Count(7)).expect("accepted");
+    let [bytes, other] = [1, 2].map(|seed| cases()[0].bytes_of(seed));
+    let counted = times(oracle_schedule, &[&bytes], Rounds::Count(7)).expect("accepted");
     assert_eq!(counted.rounds, 7);
-    let timed = times(oracle_schedule, &bytes, Rounds::Seconds(0.01)).expect("accepted");
+    let timed = times(oracle_schedule, &[&bytes, &other], Rounds::Seconds(0.01)).expect("accepted");
     assert!(timed.rounds > 7);
     for t in [counted.rust, counted.with_reading, counted.ours, timed.rust, timed.with_reading, timed.ours] {
         assert!(0.0 < t.least && t.least <= t.median);
     }
-    assert!(times(oracle_schedule, b"", Rounds::Count(1)).is_err());
+    assert!(times(oracle_schedule, &[&bytes, b""], Rounds::Count(1)).is_err());
     assert_eq!(repeat(oracle_schedule, &bytes, 2)[..3], [0, 19_832, 2]);
 }
 

@@ -16,6 +16,9 @@ pub const CENTURY: i32 = 36_525;
 /// Activities and links; a step of eight times both leads from each of `GROWTH` to the next.
 pub const SIZES: [(usize, usize); 5] = [(2, 1), (64, 128), (512, 1_024), (4_096, 8_192), (4_096, 16_384)];
 pub const GROWTH: [(usize, usize); 3] = [(64, 128), (512, 1_024), (4_096, 8_192)];
+/// The seed of the plan that stands in the tables, and of the first of as many plans as a step of `GROWTH` is times as large.
+const FIRST_SEED: u64 = 1;
+pub const IN_TURN: std::ops::RangeInclusive<u64> = FIRST_SEED..=8;
 /// Works that follow one another; those of a layer go on side by side.
 const LAYERS: usize = 16;
 const DAY: i32 = 480;
@@ -68,8 +71,9 @@ impl Case {
         format!("{}-{}-{}-{}", self.plan(), self.size.0, self.size.1, self.exceptions)
     }
 
-    pub fn sheet(&self) -> Sheet {
-        let mut s = works(1, self.size);
+    /// The sheet of a seed: others have other works and links of the same sort.
+    pub fn sheet(&self, seed: u64) -> Sheet {
+        let mut s = works(seed, self.size);
         match self.kind {
             Kind::Months => {}
             Kind::Century => stretch(&mut s),
@@ -87,7 +91,11 @@ impl Case {
     }
 
     pub fn bytes(&self) -> Vec<u8> {
-        encode(&records(&self.sheet()))
+        self.bytes_of(FIRST_SEED)
+    }
+
+    pub fn bytes_of(&self, seed: u64) -> Vec<u8> {
+        encode(&records(&self.sheet(seed)))
     }
 }
 
