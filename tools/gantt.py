@@ -19,6 +19,9 @@ from sheet_text import ABSENT, EPOCH, LINK_TYPES
 FIELDS = ["id", "es", "ef", "ls", "lf", "total", "free", "total_minutes", "free_minutes", "critical", "path", "status",
           "remaining", "es_minute", "ef_minute"]
 STATUS = ["not started", "in progress", "completed"]
+ROWS = ["a lent slice is too short: more than 64 activities or 128 links", "unknown kind, cut record, wrong order, no P or no C", "field out of range",
+        "record beyond a limit", "calendar with no weekly hours", "id met before", "negative minutes", "too long", "no such calendar",
+        "no such parent", "a milestone is a parent", "parents close a loop", "link to an unknown id", "link to itself", "kept links close a loop"]
 
 
 def date(day):
@@ -50,11 +53,21 @@ class Plan:
         return next(a[1] for a in self.activities if a[0] == number)
 
 
+def refusal(text, names):
+    """A refusal in document 01's words, with the activity that it names."""
+    words = text.split()
+    if len(words) != 3 or words[0] != "refused":
+        return text.strip() or "no answer"
+    row, number = int(words[1]), int(words[2])
+    name = f" ({names[number]})" if number in names else ""
+    return f"refused by row {row}, {ROWS[row - 1]}" + (f": {number}{name}" if number else "")
+
+
 def answer(text):
-    """The words after `plan`, and each activity's row; or None with what was said instead."""
+    """The words after `plan`, and each activity's row; or None twice where it says something else."""
     lines = text.splitlines()
     if not lines or not lines[0].startswith("plan "):
-        return None, text.strip()
+        return None, None
     head = [int(word) for word in lines[0].split()[1:]]
     return head, [dict(zip(FIELDS, map(int, line.split()))) for line in lines[1:]]
 
@@ -91,7 +104,8 @@ def picture(plan, head, rows, names):
     last = max([head[0]] + [max(r["ef"], r["lf"]) for r in rows]) + 2
     width = 900
     scale = width / (last - first)
-    height = TOP + ROW * len(rows) + 16
+    bottom = TOP + ROW * len(rows) + 8
+    height = bottom + 28
     at = {row["id"]: k for k, row in enumerate(rows)}
     svg = []
 
@@ -117,12 +131,12 @@ def picture(plan, head, rows, names):
         svg.append(f'<text x="{px:.1f}" y="{py:.1f}" {extra}>{html.escape(words)}</text>')
 
     for day in ticks(first, last):
-        line(x(day), TOP - 8, x(day), height - 8, "#e3e8ec")
+        line(x(day), TOP - 8, x(day), bottom, "#e3e8ec")
         text(x(day), TOP - 14, date(day)[2:], 'font-size="10" fill="#5b6770" text-anchor="middle"')
     if plan.data != ABSENT:
-        line(x(plan.data), TOP - 8, x(plan.data), height - 8, "#e67e22", 'stroke-width="1.5"')
+        line(x(plan.data), TOP - 8, x(plan.data), bottom, "#e67e22", 'stroke-width="1.5"')
         text(x(plan.data) + 3, TOP - 26, "data day", 'font-size="10" fill="#e67e22"')
-    line(x(head[0] + 1), TOP - 8, x(head[0] + 1), height - 8, "#27632a", 'stroke-dasharray="4 3"')
+    line(x(head[0] + 1), TOP - 8, x(head[0] + 1), bottom, "#27632a", 'stroke-dasharray="4 3"')
     text(x(head[0] + 1), TOP - 26, f"finish {date(head[0])}", 'font-size="10" fill="#27632a" text-anchor="end"')
 
     for row in rows:
@@ -159,6 +173,15 @@ def picture(plan, head, rows, names):
         else:
             svg.append(f'<path d="M{x1:.1f} {y1:.1f} H{turn:.1f} V{y2:.1f} H{x2:.1f}" class="link"/>')
 
+    y, px = bottom + 14, LEFT
+    for colour, thick, dash, words in ((BLUE, 12, "", "early dates"), (RED, 12, "", "critical"), (GREY, 4, "", "late dates"),
+                                       (BLUE, 1, 'stroke-dasharray="1 3"', "total float"), ("#20282e", 3, "", "summary")):
+        line(px, y, px + 24, y, colour, f'stroke-width="{thick}" {dash}')
+        text(px + 30, y + 4, words, 'font-size="10" fill="#5b6770"')
+        px += 110
+    svg.append(f'<path d="M{px:.1f} {y - 7:.1f} l7 7 l-7 7 l-7 -7 z" fill="{BLUE}"/>')
+    text(px + 14, y + 4, "milestone", 'font-size="10" fill="#5b6770"')
+
     return (f'<svg xmlns="http://www.w3.org/2000/svg" width="{LEFT + width + 20}" height="{height}" font-family="sans-serif">'
             f'<style>.link{{fill:none;stroke:{LINE};stroke-width:1;marker-end:url(#tip)}}</style>'
             f'<defs><marker id="tip" viewBox="0 0 6 6" refX="5" refY="3" markerWidth="6" markerHeight="6" orient="auto">'
@@ -178,9 +201,10 @@ def main():
     if args.names:
         with open(args.names, encoding="utf-8") as file:
             names = sheet_text.names_of(file.read())
-    head, rows = answer(sys.stdin.read())
+    said = sys.stdin.read()
+    head, rows = answer(said)
     if head is None:
-        sys.exit(rows or "no answer")
+        sys.exit(refusal(said, names))
     table(plan, head, rows, names)
     if args.svg and rows:
         with open(args.svg, "w", encoding="utf-8") as file:
