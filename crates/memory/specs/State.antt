@@ -19,9 +19,9 @@ pub record State : Type 0 where
 abbrev pub Room : ℕ → ℕ → List ℤ → Type 0
 Room a l xs = 64 * a + 16 * l ≤ length xs
 
--- the cells from base on, as n rows of `size` fields: 0 outside
+-- the cells from base on, as `size` fields, each a column of n rows: 0 outside
 abbrev pub table : ℕ → ℕ → ℕ → List ℤ → ℕ → ℕ → ℤ
-table base size n xs f i = cond (ltb f size) (cond (ltb i n) (cellZ xs (base + size * i + f)) (pos 0)) (pos 0)
+table base size n xs f i = cond (ltb f size) (cond (ltb i n) (cellZ xs (base + f * n + i)) (pos 0)) (pos 0)
 
 unfoldable pub stateOf : ℕ → ℕ → List ℤ → State
 stateOf a l xs = record {

@@ -13,6 +13,7 @@ use Rattle.number.specs.Order.{eq-or-ne, lt-or-le}
 use Rattle.number.specs.Zed.{up}
 use Rattle.cells.specs.Cell.{cell, cellZ, storeZ}
 use Rattle.cells.specs.CellLaws.{cell-up, cellZ-same, cellZ-other}
+use Rattle.memory.specs.Columns.{column-ends, column-apart}
 use Rattle.memory.specs.State.{State, Room, table, stateOf, zeroState, replaced, putAct, putActZ, putLinkZ, filledTo, fillAct}
 
 -- ---- choices
@@ -90,39 +91,39 @@ replaced-up t f i z g j = cond-map up (eqb g f) _ _ ∙ ap (λ (x : ℕ). cond (
 
 -- ---- a table in cells
 module _ (base size n : ℕ) (xs : List ℤ) where
-  pub table-at : (f i : ℕ) → f < size → i < n → table base size n xs f i ≡ cellZ xs (base + size * i + f)
+  pub table-at : (f i : ℕ) → f < size → i < n → table base size n xs f i ≡ cellZ xs (base + f * n + i)
   table-at f i p q = simp (lt-ltb _ _ p, lt-ltb _ _ q)
 
   pub table-past : (f i : ℕ) → n ≤ i → table base size n xs f i ≡ pos 0
   table-past f i h = cond-same (ltb f size) _ _ (simp (le-ltb _ _ h))
 
+  pub table-wide : (f i : ℕ) → size ≤ f → table base size n xs f i ≡ pos 0
+  table-wide f i h = simp (le-ltb _ _ h)
+
   -- a table is as its cells
-  table-same : (ys : List ℤ) (f i : ℕ) → (f < size → i < n → cellZ ys (base + size * i + f) ≡ cellZ xs (base + size * i + f)) → table base size n ys f i ≡ table base size n xs f i
+  table-same : (ys : List ℤ) (f i : ℕ) → (f < size → i < n → cellZ ys (base + f * n + i) ≡ cellZ xs (base + f * n + i)) → table base size n ys f i ≡ table base size n xs f i
   table-same ys f i h = cond-then (ltb f size) _ _ _ (λ p. cond-then (ltb i n) _ _ _ (λ q. h (ltb-true f size p) (ltb-true i n q)))
 
-  -- that rows are apart is what the caller knows of `size`
-  table-put : (f i : ℕ) (z : ℤ) → f < size → i < n → base + size * i + f < length xs
-      → ((g j : ℕ) → g < size → (base + size * j + g ≡ base + size * i + f) → (g ≡ f) × (j ≡ i))
-      → table base size n (storeZ xs (base + size * i + f) z) ≡ replaced (table base size n xs) f i z
-  table-put f i z p q room apart =
-      replaced-is (table base size n xs) f i z (table base size n (storeZ xs (base + size * i + f) z))
-      (at-cell ∙ cellZ-same xs (base + size * i + f) z room)
+  table-put : (f i : ℕ) (z : ℤ) → f < size → i < n → base + size * n ≤ length xs → table base size n (storeZ xs (base + f * n + i) z) ≡ replaced (table base size n xs) f i z
+  table-put f i z p q room =
+      replaced-is (table base size n xs) f i z (table base size n (storeZ xs (base + f * n + i) z))
+      (at-cell ∙ cellZ-same xs (base + f * n + i) z (omega (arith, column-ends n p)))
       (λ g j m.
-      table-same (storeZ xs (base + size * i + f) z) g j
-      (λ s u. cellZ-other xs (base + size * i + f) (base + size * j + g) z (λ e. m (apart g j s e .0) (apart g j s e .1))))
+      table-same (storeZ xs (base + f * n + i) z) g j
+      (λ s u. cellZ-other xs (base + f * n + i) (base + g * n + j) z (λ e. let d = column-apart n base g j f i u q e in m (d .0) (d .1))))
     where
-      at-cell : table base size n (storeZ xs (base + size * i + f) z) f i ≡ cellZ (storeZ xs (base + size * i + f) z) (base + size * i + f)
+      at-cell : table base size n (storeZ xs (base + f * n + i) z) f i ≡ cellZ (storeZ xs (base + f * n + i) z) (base + f * n + i)
       at-cell = simp (lt-ltb _ _ p, lt-ltb _ _ q)
 
 -- ---- a store to a cell is a put
 module _ (a l : ℕ) (xs : List ℤ) (room : Room a l xs) (f i : ℕ) (z : ℤ) where
-  pub state-put-act : f < 64 → i < a → stateOf a l (storeZ xs (64 * i + f) z) ≡ putActZ (stateOf a l xs) f i z
+  pub state-put-act : f < 64 → i < a → stateOf a l (storeZ xs (f * a + i) z) ≡ putActZ (stateOf a l xs) f i z
   unfolding stateOf
   state-put-act p q =
-      let y : 64 * i + f ≡ 0 + 64 * i + f = omega arith in
-      let ys : List ℤ = storeZ xs (0 + 64 * i + f) z in
-      let e : table 0 64 a ys ≡ replaced (table 0 64 a xs) f i z = table-put 0 64 a xs f i z p q (omega arith) (λ g j s w. (omega arith, omega arith)) in
-      let k : (g j : ℕ) → table (64 * a) 16 l ys g j ≡ table (64 * a) 16 l xs g j = λ g j. table-same (64 * a) 16 l xs ys g j (λ s u. cellZ-other xs (0 + 64 * i + f) (64 * a + 16 * j + g) z (λ w. omega arith)) in
+      let y : f * a + i ≡ 0 + f * a + i = omega arith in
+      let ys : List ℤ = storeZ xs (0 + f * a + i) z in
+      let e : table 0 64 a ys ≡ replaced (table 0 64 a xs) f i z = table-put 0 64 a xs f i z p q (omega arith) in
+      let k : (g j : ℕ) → table (64 * a) 16 l ys g j ≡ table (64 * a) 16 l xs g j = λ g j. table-same (64 * a) 16 l xs ys g j (λ s u. cellZ-other xs (0 + f * a + i) (64 * a + g * l + j) z (λ w. omega (arith, column-ends a p))) in
       rw y λ t. record {
         act = λ g j. (ap (λ (c : ℕ → ℕ → ℤ). up (c g j)) e ∙ replaced-up (table 0 64 a xs) f i z g j) t;
         link = λ g j. up (k g j t);
@@ -130,12 +131,12 @@ module _ (a l : ℕ) (xs : List ℤ) (room : Room a l xs) (f i : ℕ) (z : ℤ) 
         linkZ = λ g j. k g j t;
       }
 
-  pub state-put-link : f < 16 → i < l → stateOf a l (storeZ xs (64 * a + 16 * i + f) z) ≡ putLinkZ (stateOf a l xs) f i z
+  pub state-put-link : f < 16 → i < l → stateOf a l (storeZ xs (64 * a + f * l + i) z) ≡ putLinkZ (stateOf a l xs) f i z
   unfolding stateOf
   state-put-link p q =
-      let ys : List ℤ = storeZ xs (64 * a + 16 * i + f) z in
-      let e : table (64 * a) 16 l ys ≡ replaced (table (64 * a) 16 l xs) f i z = table-put (64 * a) 16 l xs f i z p q (omega arith) (λ g j s w. (omega arith, omega arith)) in
-      let k : (g j : ℕ) → table 0 64 a ys g j ≡ table 0 64 a xs g j = λ g j. table-same 0 64 a xs ys g j (λ s u. cellZ-other xs (64 * a + 16 * i + f) (0 + 64 * j + g) z (λ w. omega arith)) in
+      let ys : List ℤ = storeZ xs (64 * a + f * l + i) z in
+      let e : table (64 * a) 16 l ys ≡ replaced (table (64 * a) 16 l xs) f i z = table-put (64 * a) 16 l xs f i z p q room in
+      let k : (g j : ℕ) → table 0 64 a ys g j ≡ table 0 64 a xs g j = λ g j. table-same 0 64 a xs ys g j (λ s u. cellZ-other xs (64 * a + f * l + i) (0 + g * a + j) z (λ w. omega (arith, column-ends a s))) in
       λ t. record {
         act = λ g j. up (k g j t);
         link = λ g j. (ap (λ (c : ℕ → ℕ → ℤ). up (c g j)) e ∙ replaced-up (table (64 * a) 16 l xs) f i z g j) t;
@@ -145,11 +146,11 @@ module _ (a l : ℕ) (xs : List ℤ) (room : Room a l xs) (f i : ℕ) (z : ℤ) 
 
 -- ---- what the state reads
 module _ (a l : ℕ) (xs : List ℤ) (f i : ℕ) where
-  pub actZ-at : f < 64 → i < a → stateOf a l xs .actZ f i ≡ cellZ xs (64 * i + f)
+  pub actZ-at : f < 64 → i < a → stateOf a l xs .actZ f i ≡ cellZ xs (f * a + i)
   unfolding stateOf
-  actZ-at p q = let y : 64 * i + f ≡ 0 + 64 * i + f = omega arith in rw y (table-at 0 64 a xs f i p q)
+  actZ-at p q = let y : f * a + i ≡ 0 + f * a + i = omega arith in rw y (table-at 0 64 a xs f i p q)
 
-  pub linkZ-at : f < 16 → i < l → stateOf a l xs .linkZ f i ≡ cellZ xs (64 * a + 16 * i + f)
+  pub linkZ-at : f < 16 → i < l → stateOf a l xs .linkZ f i ≡ cellZ xs (64 * a + f * l + i)
   unfolding stateOf
   linkZ-at p q = table-at (64 * a) 16 l xs f i p q
 
@@ -161,11 +162,11 @@ module _ (a l : ℕ) (xs : List ℤ) (f i : ℕ) where
   unfolding stateOf
   link-up = refl
 
-  pub act-at : f < 64 → i < a → stateOf a l xs .act f i ≡ cell xs (64 * i + f)
-  act-at p q = act-up ∙ ap up (actZ-at p q) ∙ sym (cell-up xs (64 * i + f))
+  pub act-at : f < 64 → i < a → stateOf a l xs .act f i ≡ cell xs (f * a + i)
+  act-at p q = act-up ∙ ap up (actZ-at p q) ∙ sym (cell-up xs (f * a + i))
 
-  pub link-at : f < 16 → i < l → stateOf a l xs .link f i ≡ cell xs (64 * a + 16 * i + f)
-  link-at p q = link-up ∙ ap up (linkZ-at p q) ∙ sym (cell-up xs (64 * a + 16 * i + f))
+  pub link-at : f < 16 → i < l → stateOf a l xs .link f i ≡ cell xs (64 * a + f * l + i)
+  link-at p q = link-up ∙ ap up (linkZ-at p q) ∙ sym (cell-up xs (64 * a + f * l + i))
 
   -- 0 past the last row
   pub actZ-past : a ≤ i → stateOf a l xs .actZ f i ≡ pos 0
@@ -262,7 +263,7 @@ cellZ-zeros n at =
     (λ (h : n ≤ at). List·getD-eq-default (replicate n (pos 0)) (pos 0) (rw (length-replicate n (pos 0)) h)) (lt-or-le at n)
 
 table-zeros : (base size n m f i : ℕ) → table base size n (replicate m (pos 0)) f i ≡ pos 0
-table-zeros base size n m f i = cond-same (ltb f size) _ _ (cond-same (ltb i n) _ _ (cellZ-zeros m (base + size * i + f)))
+table-zeros base size n m f i = cond-same (ltb f size) _ _ (cond-same (ltb i n) _ _ (cellZ-zeros m (base + f * n + i)))
 
 pub state-zeros : (a l n : ℕ) → stateOf a l (replicate n (pos 0)) ≡ zeroState
 unfolding stateOf

@@ -1,4 +1,4 @@
-// The lent work memory: two tables, of 64 cells for each activity and, after them, 16 for each link.
+// The lent work memory: two tables, of 64 fields of each activity and, after them, 16 of each link; a field is a column of all rows.
 ghost use mathlib.Core.Path.{_≡_};
 ghost use mathlib.Core.Logic.{_≢_};
 ghost use Prim.Native.Nat.{ℕ, _+_, _*_, _^_, _≤_, _<_};
@@ -20,7 +20,7 @@ pub fn get_act_signed(work: &[i64], a: usize, l: usize, i: usize, f: usize) -> i
     requires { ⌜ Room a l (now work) × (i < a) × (f < 64) ⌝ }
     ensures { λ r. ⌜ r ≡ stateOf a l (now (work .entry)) .actZ f i ⌝ }
 {
-    work[64 * i + f]
+    work[f * a + i]
 }
 
 // Field `f` of link `k`: 0 where it is negative.
@@ -35,7 +35,7 @@ pub fn get_link_signed(work: &[i64], a: usize, l: usize, k: usize, f: usize) -> 
     requires { ⌜ Room a l (now work) × (k < l) × (f < 16) ⌝ }
     ensures { λ r. ⌜ r ≡ stateOf a l (now (work .entry)) .linkZ f k ⌝ }
 {
-    work[64 * a + 16 * k + f]
+    work[64 * a + f * l + k]
 }
 
 // Puts `v` into field `f` of activity `i`.
@@ -43,14 +43,14 @@ pub fn put_act(work: &mut [i64], a: usize, l: usize, i: usize, f: usize, v: u64)
     requires { ⌜ Room a l (now work) × (i < a) × (f < 64) × (v < 2 ^ 63) ⌝ }
     ensures { λ _. ⌜ (stateOf a l (now (work .exit)) ≡ putAct (stateOf a l (now (work .entry))) f i v) × (length (now (work .exit)) ≡ length (now (work .entry))) ⌝ }
 {
-    cells::put(work, 64 * i + f, v);
+    cells::put(work, f * a + i, v);
 }
 
 pub fn put_act_signed(work: &mut [i64], a: usize, l: usize, i: usize, f: usize, v: i64)
     requires { ⌜ Room a l (now work) × (i < a) × (f < 64) ⌝ }
     ensures { λ _. ⌜ (stateOf a l (now (work .exit)) ≡ putActZ (stateOf a l (now (work .entry))) f i v) × (length (now (work .exit)) ≡ length (now (work .entry))) ⌝ }
 {
-    cells::put_signed(work, 64 * i + f, v);
+    cells::put_signed(work, f * a + i, v);
 }
 
 // Puts `v` into field `f` of link `k`.
@@ -58,14 +58,14 @@ pub fn put_link(work: &mut [i64], a: usize, l: usize, k: usize, f: usize, v: u64
     requires { ⌜ Room a l (now work) × (k < l) × (f < 16) × (v < 2 ^ 63) ⌝ }
     ensures { λ _. ⌜ (stateOf a l (now (work .exit)) ≡ putLink (stateOf a l (now (work .entry))) f k v) × (length (now (work .exit)) ≡ length (now (work .entry))) ⌝ }
 {
-    cells::put(work, 64 * a + 16 * k + f, v);
+    cells::put(work, 64 * a + f * l + k, v);
 }
 
 pub fn put_link_signed(work: &mut [i64], a: usize, l: usize, k: usize, f: usize, v: i64)
     requires { ⌜ Room a l (now work) × (k < l) × (f < 16) ⌝ }
     ensures { λ _. ⌜ (stateOf a l (now (work .exit)) ≡ putLinkZ (stateOf a l (now (work .entry))) f k v) × (length (now (work .exit)) ≡ length (now (work .entry))) ⌝ }
 {
-    cells::put_signed(work, 64 * a + 16 * k + f, v);
+    cells::put_signed(work, 64 * a + f * l + k, v);
 }
 
 // Puts `v` into field `f` of every activity.

@@ -1,17 +1,19 @@
--- How stretches of memory are cleared: one after another, by a fill, and the stretches of a row.
+-- How memory is cleared: a stretch by a fill, columns one after another, and the columns of each table.
 use mathlib.Core.Path.{_≡_, refl, sym, ap, _∙_}
 use mathlib.Core.Bool.{Bool, true, false, cond}
 use mathlib.Core.Logic.{_≢_, ⊎-elim}
 use mathlib.Core.List.{List}
-use Prim.Native.Nat.{ℕ, zero, suc, _+_, _*_, _-_, _%_, _≤_, _<_}
+use Prim.Native.Nat.{ℕ, zero, suc, _+_, _*_, _-_, _≤_, _<_}
+use native.Mathlib.Nat.{mul-le-mul-right}
 use native.Mathlib.Omega.{arith}
-use borrow.Author.Tests.{ne-eqb, le-leb, lt-leb}
+use borrow.Author.Tests.{ne-eqb, lt-ltb, le-ltb}
 use lib.IntN.{ℤ, pos}
 use lib.ListN.{length}
 use Rattle.number.specs.Order.{eq-or-ne, lt-or-le}
 use Rattle.cells.specs.Cell.{cellZ, filled}
 use Rattle.cells.specs.CellLaws.{store-pos, length-filled, cellZ-same, cellZ-other}
-use Rattle.rest.specs.Stands.{actStands, none, ofActivity, ofLink, Cleared}
+use Rattle.memory.specs.Columns.{column-ends}
+use Rattle.rest.specs.Stands.{actStands, ofActivity, ofLink, Cleared, ColumnsCleared}
 
 -- ---- a fill
 module _ (xs : List ℤ) (base : ℕ) where
@@ -31,7 +33,7 @@ module _ (xs : List ℤ) (base : ℕ) where
       ∙ cellZ-other (filled xs base 0 n) (base + n) j (pos 0) (λ e. h (omega arith) (omega arith))
       ∙ filled-out n j (λ p q. h p (omega arith))
 
-  pub fill-clears : (to : ℕ) → base ≤ to → to ≤ length xs → Cleared none base to xs (filled xs base 0 (to - base))
+  pub fill-clears : (to : ℕ) → base ≤ to → to ≤ length xs → Cleared base to xs (filled xs base 0 (to - base))
   fill-clears to h k = record {
     size = length-filled xs base 0 (to - base);
     inside = λ j p q. filled-in (to - base) j (omega arith) p (omega arith);
@@ -39,38 +41,42 @@ module _ (xs : List ℤ) (base : ℕ) where
     above = λ j p. filled-out (to - base) j (λ q r. omega arith);
   }
 
--- ---- stretches
-module _ (standing : ℕ → Bool) where
+-- the same stretch by other numbers
+pub clear-at : {lo lo′ hi hi′ : ℕ} {xs ys : List ℤ} → lo ≡ lo′ → hi ≡ hi′ → Cleared lo hi xs ys → Cleared lo′ hi′ xs ys
+clear-at e f C = rw (sym e, sym f) C
+
+-- ---- columns
+module _ (base n : ℕ) (standing : ℕ → ℕ → Bool) where
   -- where all cells stand nothing need be done
-  pub clear-nothing : (lo hi : ℕ) (xs : List ℤ) → ((j : ℕ) → lo ≤ j → j < hi → standing j ≡ true) → Cleared standing lo hi xs xs
-  clear-nothing lo hi xs h = record {
+  pub columns-stand : (lo hi : ℕ) (xs : List ℤ) → ((f i : ℕ) → lo ≤ f → f < hi → standing f i ≡ true) → ColumnsCleared base n standing lo hi xs xs
+  columns-stand lo hi xs h = record {
     size = refl;
-    inside = λ j p q. sym (ap (λ (b : Bool). cond b (cellZ xs j) (pos 0)) (h j p q));
+    inside = λ f i p q r. sym (ap (λ (b : Bool). cond b (cellZ xs (base + f * n + i)) (pos 0)) (h f i p q));
     below = λ j p. refl;
     above = λ j p. refl;
   }
 
   -- where none stands all are cleared
-  pub clear-all : {lo hi : ℕ} {xs ys : List ℤ} → ((j : ℕ) → lo ≤ j → j < hi → standing j ≡ false) → Cleared none lo hi xs ys → Cleared standing lo hi xs ys
-  clear-all {lo} {hi} {xs} {ys} h C = record {
+  pub columns-clear : {lo hi : ℕ} {xs ys : List ℤ} → ((f i : ℕ) → lo ≤ f → f < hi → standing f i ≡ false) → Cleared (base + lo * n) (base + hi * n) xs ys → ColumnsCleared base n standing lo hi xs ys
+  columns-clear {lo} {hi} {xs} {ys} h C = record {
     size = C .size;
-    inside = λ j p q. C .inside j p q ∙ sym (ap (λ (b : Bool). cond b (cellZ xs j) (pos 0)) (h j p q));
+    inside = λ f i p q r.
+        C .inside (base + f * n + i) (omega (arith, mul-le-mul-right n p)) (omega (arith, column-ends n q))
+        ∙ sym (ap (λ (b : Bool). cond b (cellZ xs (base + f * n + i)) (pos 0)) (h f i p q));
     below = C .below;
     above = C .above;
   }
 
-  -- the same stretch by other numbers
-  pub clear-at : {lo lo′ hi hi′ : ℕ} {xs ys : List ℤ} → lo ≡ lo′ → hi ≡ hi′ → Cleared standing lo hi xs ys → Cleared standing lo′ hi′ xs ys
-  clear-at e f C = rw (sym e, sym f) C
-
-  pub clear-then : {lo mid hi : ℕ} {xs ys zs : List ℤ} → lo ≤ mid → mid ≤ hi → Cleared standing lo mid xs ys → Cleared standing mid hi ys zs → Cleared standing lo hi xs zs
-  clear-then {lo} {mid} {hi} {xs} {ys} {zs} h k C D = record {
+  pub columns-then : {lo mid hi : ℕ} {xs ys zs : List ℤ} → lo ≤ mid → mid ≤ hi → ColumnsCleared base n standing lo mid xs ys → ColumnsCleared base n standing mid hi ys zs
+      → ColumnsCleared base n standing lo hi xs zs
+  columns-then {lo} {mid} {hi} {xs} {ys} {zs} h k C D = record {
     size = D .size ∙ C .size;
-    inside = λ j p q.
-        ⊎-elim (λ (s : j < mid). D .below j s ∙ C .inside j p s)
-        (λ (s : mid ≤ j). D .inside j s q ∙ ap (λ (z : ℤ). cond (standing j) z (pos 0)) (C .above j s)) (lt-or-le j mid);
-    below = λ j p. D .below j (omega arith) ∙ C .below j p;
-    above = λ j p. D .above j p ∙ C .above j (omega arith);
+    inside = λ f i p q r.
+        ⊎-elim (λ (s : f < mid). D .below (base + f * n + i) (omega (arith, column-ends n s)) ∙ C .inside f i p s r)
+        (λ (s : mid ≤ f).
+        D .inside f i s q r ∙ ap (λ (z : ℤ). cond (standing f i) z (pos 0)) (C .above (base + f * n + i) (omega (arith, mul-le-mul-right n s)))) (lt-or-le f mid);
+    below = λ j p. D .below j (omega (arith, mul-le-mul-right n h)) ∙ C .below j p;
+    above = λ j p. D .above j p ∙ C .above j (omega (arith, mul-le-mul-right n k));
   }
 
 -- ---- the fields
@@ -87,27 +93,30 @@ stands-not f h =
     let ne : (g : ℕ) → 2 ≤ g → g < 8 → f ≢ g = λ g a b e. h (omega arith) (omega arith) in
     simp (ne-eqb f 2 (ne 2 (omega arith) (omega arith)), ne-eqb f 3 (ne 3 (omega arith) (omega arith)), ne-eqb f 4 (ne 4 (omega arith) (omega arith)), ne-eqb f 5 (ne 5 (omega arith) (omega arith)), ne-eqb f 7 (ne 7 (omega arith) (omega arith)))
 
--- ---- the row of an activity: parent to firstOut and orderAt stand
-module _ (i : ℕ) {xs ys zs ws : List ℤ} where
-  pub activity-cleared : Cleared none (64 * i) (64 * i + 2) xs ys → Cleared none (64 * i + 6) (64 * i + 7) ys zs → Cleared none (64 * i + 8) (64 * i + 64) zs ws
-      → Cleared ofActivity (64 * i) (64 * i + 64) xs ws
-  unfolding ofActivity
-  activity-cleared C D E =
-      let S : (ℕ → Bool) = ofActivity in
-      clear-then S (omega arith) (omega arith)
-      (clear-then S (omega arith) (omega arith)
-      (clear-then S (omega arith) (omega arith)
-      (clear-then S (omega arith) (omega arith) (clear-all S (λ j p q. stands-not (j % 64) (λ u v. omega arith)) C)
-      (clear-nothing S (64 * i + 2) (64 * i + 6) ys (λ j p q. stands-some (j % 64) (omega arith) (omega arith))))
-      (clear-all S (λ j p q. let e : j % 64 ≡ 6 = omega arith in rw e) D))
-      (clear-nothing S (64 * i + 7) (64 * i + 8) zs (λ j p q. let e : j % 64 ≡ 7 = omega arith in rw e)))
-      (clear-all S (λ j p q. stands-not (j % 64) (λ u v. omega arith)) E)
+-- ---- the columns of activities: parent to firstOut and orderAt stand
+module _ (a : ℕ) {xs ys zs ws : List ℤ} where
+  pub activities-cleared : Cleared 0 (2 * a) xs ys → Cleared (6 * a) (7 * a) ys zs → Cleared (8 * a) (64 * a) zs ws → ColumnsCleared 0 a ofActivity 0 64 xs ws
+  activities-cleared C D E =
+      let S : (ℕ → ℕ → Bool) = ofActivity in
+      columns-then 0 a S (omega arith) (omega arith)
+      (columns-then 0 a S (omega arith) (omega arith)
+      (columns-then 0 a S (omega arith) (omega arith)
+      (columns-then 0 a S (omega arith) (omega arith)
+      (columns-clear 0 a S (λ f i p q. stands-not f (λ u v. omega arith)) (clear-at {lo′ = 0 + 0 * a} {hi′ = 0 + 2 * a} (omega arith) (omega arith) C))
+      (columns-stand 0 a S 2 6 ys (λ f i p q. stands-some f p q)))
+      (columns-clear 0 a S (λ f i p q. let e : f ≡ 6 = omega arith in rw e) (clear-at {lo′ = 0 + 6 * a} {hi′ = 0 + 7 * a} (omega arith) (omega arith) D)))
+      (columns-stand 0 a S 7 8 zs (λ f i p q. let e : f ≡ 7 = omega arith in rw e)))
+      (columns-clear 0 a S (λ f i p q. stands-not f (λ u v. omega arith)) (clear-at {lo′ = 0 + 8 * a} {hi′ = 0 + 64 * a} (omega arith) (omega arith) E))
 
--- ---- the row of a link: the fields to nextOut stand
-module _ (a k : ℕ) {xs ys : List ℤ} where
-  pub link-cleared : Cleared none (64 * a + 16 * k + 7) (64 * a + 16 * k + 16) xs ys → Cleared (ofLink a) (64 * a + 16 * k) (64 * a + 16 * k + 16) xs ys
-  unfolding ofLink
-  link-cleared C =
-      clear-then (ofLink a) (omega arith) (omega arith)
-      (clear-nothing (ofLink a) (64 * a + 16 * k) (64 * a + 16 * k + 7) xs (λ j p q. le-leb ((j - 64 * a) % 16) 6 (omega arith)))
-      (clear-all (ofLink a) (λ j p q. lt-leb ((j - 64 * a) % 16) 6 (omega arith)) C)
+-- ---- a column of links: the first t rows stand
+pub column-cleared : (base n t f : ℕ) {xs ys : List ℤ} → Cleared (base + f * n + t) (base + f * n + n) xs ys → ColumnsCleared base n (ofLink t) f (f + 1) xs ys
+column-cleared base n t f {xs} {ys} C = record {
+  size = C .size;
+  inside = λ g k p q r.
+      let e : g ≡ f = omega arith in
+      rw e (⊎-elim (λ (s : k < t). C .below (base + f * n + k) (omega arith) ∙ sym (ap (λ (b : Bool). cond b (cellZ xs (base + f * n + k)) (pos 0)) (lt-ltb k t s)))
+      (λ (s : t ≤ k). C .inside (base + f * n + k) (omega arith) (omega arith) ∙ sym (ap (λ (b : Bool). cond b (cellZ xs (base + f * n + k)) (pos 0)) (le-ltb k t s)))
+      (lt-or-le k t));
+  below = λ j p. C .below j (omega arith);
+  above = λ j p. C .above j (omega (arith, column-ends n {f = f} {g = f + 1} (omega arith)));
+}

@@ -1,8 +1,8 @@
 -- Which fields stand for the passes, and the memory with all other cells at 0.
 use mathlib.Core.Path.{_≡_}
-use mathlib.Core.Bool.{Bool, false, cond, _||_}
+use mathlib.Core.Bool.{Bool, cond, _||_}
 use mathlib.Core.List.{List}
-use Prim.Native.Nat.{ℕ, _*_, _-_, _%_, _≤_, _<_}
+use Prim.Native.Nat.{ℕ, _+_, _*_, _≤_, _<_}
 use lib.Dec.{eqb, leb, ltb}
 use lib.IntN.{ℤ, pos}
 use lib.ListN.{length}
@@ -27,19 +27,25 @@ restCleared t S = record {
   linkZ = λ f k. cond (linkStands f) (cond (ltb k t) (S .linkZ f k) (pos 0)) (pos 0);
 }
 
--- ---- by cells: those that stand among none, among the rows of activities, and among the rows of links after a activities
-abbrev pub none : ℕ → Bool
-none j = false
-
-unfoldable pub ofActivity : ℕ → Bool
-ofActivity j = actStands (j % 64)
-
-unfoldable pub ofLink : ℕ → ℕ → Bool
-ofLink a j = linkStands ((j - 64 * a) % 16)
-
--- from xs to ys the cells from lo up to hi are 0 but for those that stand; all others are as they were
-pub record Cleared (standing : ℕ → Bool) (lo hi : ℕ) (xs ys : List ℤ) : Type 0 where
+-- ---- by cells
+-- from xs to ys the cells from lo up to hi are 0; all others are as they were
+pub record Cleared (lo hi : ℕ) (xs ys : List ℤ) : Type 0 where
   pub size : length ys ≡ length xs
-  pub inside : (j : ℕ) → lo ≤ j → j < hi → cellZ ys j ≡ cond (standing j) (cellZ xs j) (pos 0)
+  pub inside : (j : ℕ) → lo ≤ j → j < hi → cellZ ys j ≡ pos 0
   pub below : (j : ℕ) → j < lo → cellZ ys j ≡ cellZ xs j
   pub above : (j : ℕ) → hi ≤ j → cellZ ys j ≡ cellZ xs j
+
+-- ---- by columns of n rows, of which the first is at base: what stands of field f and row i
+abbrev pub ofActivity : ℕ → ℕ → Bool
+ofActivity f i = actStands f
+
+-- among the columns that have fields of kept links
+abbrev pub ofLink : ℕ → ℕ → ℕ → Bool
+ofLink t f k = ltb k t
+
+-- the columns from lo up to hi are 0 but for what stands; all other cells are as they were
+pub record ColumnsCleared (base n : ℕ) (standing : ℕ → ℕ → Bool) (lo hi : ℕ) (xs ys : List ℤ) : Type 0 where
+  pub size : length ys ≡ length xs
+  pub inside : (f i : ℕ) → lo ≤ f → f < hi → i < n → cellZ ys (base + f * n + i) ≡ cond (standing f i) (cellZ xs (base + f * n + i)) (pos 0)
+  pub below : (j : ℕ) → j < base + lo * n → cellZ ys j ≡ cellZ xs j
+  pub above : (j : ℕ) → base + hi * n ≤ j → cellZ ys j ≡ cellZ xs j

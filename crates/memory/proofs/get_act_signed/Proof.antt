@@ -9,30 +9,31 @@ use mir.Facts.{toZ-ofZ}
 use mir.Syntax.{w64}
 use mir.Val.{SFits}
 use Rattle.cells.specs.Cell.{cellZ}
+use Rattle.memory.specs.Columns.{column-ends}
 use Rattle.memory.specs.StateLaws.{actZ-at}
 use Rattle.memory.proofs.get_act_signed.Statement.{statement}
 use Rattle.memory.proofs.get_act_signed.Tie as tie
 
 mul-result : tie.Need-mul-result
-mul-result c = search needs
+mul-result c = let e = column-ends (c .args .a) (c .pre .2) in search needs
 
 add-result : tie.Need-add-result
-add-result c = search needs
+add-result c = let e = column-ends (c .args .a) (c .pre .2) in search needs
 
 mul-result-2 : tie.Need-mul-result-2
-mul-result-2 c = search needs
+mul-result-2 c = let e = column-ends (c .args .a) (c .pre .2) in search needs
 
 shared-slice-copy-out-result : tie.Need-shared-slice-copy-out-result
-shared-slice-copy-out-result c = search needs
+shared-slice-copy-out-result c = let e = column-ends (c .args .a) (c .pre .2) in search needs
 
 -- the value that was read
 abbrev read : tie.After-result → ℤ
 read c =
     let x = c .before .args in
-    getD (x .work .now) (64 * x .i + x .f) (pos 0)
+    getD (x .work .now) (x .f * x .a + x .i) (pos 0)
 
 fits : (c : tie.After-result) → SFits w64 (read c)
-fits c = search needs
+fits c = let e = column-ends (c .before .args .a) (c .before .pre .2) in search needs
 
 returns : tie.Need-returns
 unfolding cellZ

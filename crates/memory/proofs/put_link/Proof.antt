@@ -4,6 +4,7 @@ use mathlib.Core.Path.{ap, _∙_}
 use native.Mathlib.Omega.{arith}
 use lib.IntN.{pos}
 use Rattle.cells.specs.CellLaws.{store-pos}
+use Rattle.memory.specs.Columns.{column-ends}
 use Rattle.memory.specs.State.{stateOf}
 use Rattle.memory.specs.StateLaws.{state-put-link}
 use Rattle.memory.proofs.put_link.Statement.{statement}
@@ -13,16 +14,16 @@ mul-put : tie.Need-mul-put
 mul-put c = search needs
 
 mul-put-2 : tie.Need-mul-put-2
-mul-put-2 c = search needs
+mul-put-2 c = let e = column-ends (c .before .args .l) (c .before .pre .2) in search needs
 
 add-put : tie.Need-add-put
-add-put c = search needs
+add-put c = let e = column-ends (c .before .args .l) (c .before .pre .2) in search needs
 
 add-put-2 : tie.Need-add-put-2
-add-put-2 c = search needs
+add-put-2 c = let e = column-ends (c .before .args .l) (c .before .pre .2) in search needs
 
 put-requires : tie.Need-put-requires
-put-requires c κs = search needs
+put-requires c κs = let e = column-ends (c .before .args .l) (c .before .pre .2) in search needs
 
 same-length : tie.Need-same-length
 same-length c = search needs

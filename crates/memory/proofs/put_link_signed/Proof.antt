@@ -3,6 +3,7 @@ use borrow.Author.Needs.{needs}
 use mathlib.Core.Path.{ap, _∙_}
 use native.Mathlib.Omega.{arith}
 use mir.Facts.{toZ-ofZ}
+use Rattle.memory.specs.Columns.{column-ends}
 use Rattle.memory.specs.State.{stateOf}
 use Rattle.memory.specs.StateLaws.{state-put-link}
 use Rattle.memory.proofs.put_link_signed.Statement.{statement}
@@ -12,16 +13,16 @@ mul-put-signed : tie.Need-mul-put-signed
 mul-put-signed c = search needs
 
 mul-put-signed-2 : tie.Need-mul-put-signed-2
-mul-put-signed-2 c = search needs
+mul-put-signed-2 c = let e = column-ends (c .before .args .l) (c .before .pre .2) in search needs
 
 add-put-signed : tie.Need-add-put-signed
-add-put-signed c = search needs
+add-put-signed c = let e = column-ends (c .before .args .l) (c .before .pre .2) in search needs
 
 add-put-signed-2 : tie.Need-add-put-signed-2
-add-put-signed-2 c = search needs
+add-put-signed-2 c = let e = column-ends (c .before .args .l) (c .before .pre .2) in search needs
 
 put-signed-requires : tie.Need-put-signed-requires
-put-signed-requires c κs = search needs
+put-signed-requires c κs = let e = column-ends (c .before .args .l) (c .before .pre .2) in search needs
 
 same-length : tie.Need-same-length
 same-length c = search needs

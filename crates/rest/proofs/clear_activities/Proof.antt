@@ -1,52 +1,55 @@
--- `rest::clear_activities` meets its contract: after i turns the first i rows are cleared.
+-- `rest::clear_activities` meets its contract: the columns between the three stretches stand.
 use borrow.Author.Needs.{needs}
-use mathlib.Core.Path.{refl}
-use Prim.Native.Nat.{_*_, _-_, _≤_}
 use native.Mathlib.Omega.{arith}
-use Rattle.rest.specs.Stands.{ofActivity, Cleared}
-use Rattle.rest.specs.ClearedLaws.{clear-nothing, clear-at, clear-then}
+use Rattle.rest.specs.ClearedLaws.{clear-at, activities-cleared}
 use Rattle.rest.proofs.clear_activities.Statement.{statement}
 use Rattle.rest.proofs.clear_activities.Tie as tie
 
-abbrev Inv-loop : tie.InvT-loop
-Inv-loop work₀ a i₀ work i = (i ≤ a) × Cleared ofActivity 0 (64 * i) work₀ work
+mul-clear-cells : tie.Need-mul-clear-cells
+mul-clear-cells c = search needs
 
-abbrev μ-loop : tie.MeasureT-loop
-μ-loop work₀ a i₀ work i = a - i
+clear-cells-requires : tie.Need-clear-cells-requires
+clear-cells-requires c κs = search needs
 
-loop-holds : tie.Need-loop-holds Inv-loop μ-loop
-loop-holds c = (omega arith, clear-nothing ofActivity _ _ _ (λ j p q. absurd (omega arith)))
+mul-clear-cells-2 : tie.Need-mul-clear-cells-2
+mul-clear-cells-2 c = search needs
 
-clear-activity-requires : tie.Need-clear-activity-requires Inv-loop μ-loop
-clear-activity-requires c κs = omega (arith, c .before .before .loop .inv .1 .size)
+mul-clear-cells-3 : tie.Need-mul-clear-cells-3
+mul-clear-cells-3 c = search needs
 
-add-i : tie.Need-add-i Inv-loop μ-loop
-add-i c = search needs
+clear-cells-requires-2 : tie.Need-clear-cells-requires-2
+clear-cells-requires-2 c κs = search needs
 
-loop-less : tie.Need-loop-less Inv-loop μ-loop
-loop-less c = search needs
+mul-clear-cells-4 : tie.Need-mul-clear-cells-4
+mul-clear-cells-4 c = search needs
 
-loop-again : tie.Need-loop-again Inv-loop μ-loop
-loop-again c =
-    let L = c .before .before .before .before .loop in
-    (omega arith, clear-then ofActivity (omega arith) (omega arith) (L .inv .1) (clear-at ofActivity refl (omega arith) (c .before .clear-activity .ensures)))
+mul-clear-cells-5 : tie.Need-mul-clear-cells-5
+mul-clear-cells-5 c = search needs
 
-same-length : tie.Need-same-length Inv-loop μ-loop
-same-length c = c .before .loop .inv .1 .size
+clear-cells-requires-3 : tie.Need-clear-cells-requires-3
+clear-cells-requires-3 c κs = search needs
 
-returns : tie.Need-returns Inv-loop μ-loop
-returns c = clear-at ofActivity refl (omega arith) (c .before .loop .inv .1)
+same-length : tie.Need-same-length
+same-length c = search needs
+
+returns : tie.Need-returns
+returns c =
+    let d = c .before .before .before in
+    let e = d .before .before .before in
+    activities-cleared (e .before .before .before .args .a) (clear-at (omega arith) (omega arith) (e .before .clear-cells .ensures))
+    (clear-at (omega arith) (omega arith) (d .before .clear-cells2 .ensures)) (clear-at (omega arith) (omega arith) (c .before .clear-cells3 .ensures))
 
 pub clear-activities-spec : {M : Type 1} → statement M
 clear-activities-spec =
     tie.close
     (tie.spec
-    Inv-loop
-    μ-loop
-    loop-holds
-    clear-activity-requires
-    add-i
-    loop-less
-    loop-again
+    mul-clear-cells
+    clear-cells-requires
+    mul-clear-cells-2
+    mul-clear-cells-3
+    clear-cells-requires-2
+    mul-clear-cells-4
+    mul-clear-cells-5
+    clear-cells-requires-3
     same-length
     returns)

@@ -4,7 +4,7 @@ use mathlib.Core.Path.{sym, subst}
 use mathlib.Core.List.{List}
 use native.Mathlib.Omega.{arith}
 use lib.IntN.{ℤ}
-use Rattle.rest.specs.Stands.{none, Cleared}
+use Rattle.rest.specs.Stands.{Cleared}
 use Rattle.rest.specs.ClearedLaws.{fill-clears}
 use Rattle.rest.proofs.clear_cells.Statement.{statement}
 use Rattle.rest.proofs.clear_cells.Tie as tie
@@ -21,7 +21,7 @@ same-length c = search needs
 returns : tie.Need-returns
 returns c =
     let x = c .before .before .before .args in
-    subst (λ (ys : List ℤ). Cleared none (x .from) (x .to) (x .work .now) ys) (sym (c .before .fill .ensures))
+    subst (λ (ys : List ℤ). Cleared (x .from) (x .to) (x .work .now) ys) (sym (c .before .fill .ensures))
     (fill-clears (x .work .now) (x .from) (x .to) (omega arith) (omega arith))
 
 pub clear-cells-spec : {M : Type 1} → statement M

@@ -3,7 +3,6 @@ use borrow.Author.Needs.{needs}
 use native.Mathlib.Omega.{arith}
 use Prim.Native.Nat.{_+_, _*_}
 use lib.ListN.{length}
-use Rattle.rest.specs.Stands.{none}
 use Rattle.rest.specs.ClearedLaws.{clear-at}
 use Rattle.rest.specs.RestLaws.{rest-is, rest-after, rest-size}
 use Rattle.rest.proofs.clear_rest.Statement.{statement}
@@ -18,11 +17,14 @@ clear-links-requires c κs = search needs
 mul-clear-cells : tie.Need-mul-clear-cells
 mul-clear-cells c = search needs
 
+add-clear-cells : tie.Need-add-clear-cells
+add-clear-cells c = search needs
+
 mul-clear-cells-2 : tie.Need-mul-clear-cells-2
 mul-clear-cells-2 c = search needs
 
-add-clear-cells : tie.Need-add-clear-cells
-add-clear-cells c = search needs
+add-clear-cells-2 : tie.Need-add-clear-cells-2
+add-clear-cells-2 c = search needs
 
 clear-cells-requires : tie.Need-clear-cells-requires
 clear-cells-requires c κs = search needs
@@ -36,10 +38,10 @@ returns c =
     let x = s .args in
     let C = c .before .before .before .before .before .before .before .clear-activities .ensures in
     let D = c .before .before .before .before .clear-links .ensures in
-    let E = clear-at none {lo′ = 64 * x .a + 16 * x .t} {hi′ = length (x .work .now)} (omega arith) (omega (arith, C .size, D .size)) (c .before .clear-cells .ensures) in (
-      rest-is (x .a) (x .l) (x .t) (s .pre .0) (s .pre .1) C D E,
-      rest-after (x .a) (x .l) (x .t) (s .pre .0) (s .pre .1) C D E,
-      rest-size (x .a) (x .l) (x .t) (s .pre .0) (s .pre .1) C D E,
+    let E = clear-at {lo′ = 64 * x .a + 7 * x .l} {hi′ = length (x .work .now)} (omega arith) (omega (arith, C .size, D .size)) (c .before .clear-cells .ensures) in (
+      rest-is (x .a) (x .l) (x .t) (s .pre .0) C D E,
+      rest-after (x .a) (x .l) (x .t) (s .pre .0) C D E,
+      rest-size (x .a) (x .l) (x .t) (s .pre .0) C D E,
     )
 
 pub clear-rest-spec : {M : Type 1} → statement M
@@ -49,8 +51,9 @@ clear-rest-spec =
     clear-activities-requires
     clear-links-requires
     mul-clear-cells
-    mul-clear-cells-2
     add-clear-cells
+    mul-clear-cells-2
+    add-clear-cells-2
     clear-cells-requires
     same-length
     returns)
