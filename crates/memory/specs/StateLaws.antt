@@ -11,8 +11,8 @@ use lib.ListN.{length, replicate, getD-replicate, length-replicate, List·getD-e
 use borrow.Author.Tests.{eq-eqb, ne-eqb, lt-ltb, le-ltb, ltb-true}
 use Rattle.number.specs.Order.{eq-or-ne, lt-or-le}
 use Rattle.number.specs.Zed.{up}
-use Rattle.cells.specs.Cell.{cell, cellZ, storeZ}
-use Rattle.cells.specs.CellLaws.{cell-up, cellZ-same, cellZ-other}
+use Rattle.cells.specs.Cell.{cellZ, storeZ}
+use Rattle.cells.specs.CellLaws.{cellZ-same, cellZ-other}
 use Rattle.memory.specs.Columns.{column-ends, column-apart}
 use Rattle.memory.specs.State.{State, Room, table, stateOf, zeroState, replaced, putAct, putActZ, putLinkZ, filledTo, fillAct}
 
@@ -161,12 +161,6 @@ module _ (a l : ℕ) (xs : List ℤ) (f i : ℕ) where
   pub link-up : stateOf a l xs .link f i ≡ up (stateOf a l xs .linkZ f i)
   unfolding stateOf
   link-up = refl
-
-  pub act-at : f < 64 → i < a → stateOf a l xs .act f i ≡ cell xs (f * a + i)
-  act-at p q = act-up ∙ ap up (actZ-at p q) ∙ sym (cell-up xs (f * a + i))
-
-  pub link-at : f < 16 → i < l → stateOf a l xs .link f i ≡ cell xs (64 * a + f * l + i)
-  link-at p q = link-up ∙ ap up (linkZ-at p q) ∙ sym (cell-up xs (64 * a + f * l + i))
 
   -- 0 past the last row
   pub actZ-past : a ≤ i → stateOf a l xs .actZ f i ≡ pos 0

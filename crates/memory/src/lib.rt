@@ -1,4 +1,4 @@
-// The lent work memory: two tables, of 64 fields of each activity and, after them, 16 of each link; a field is a column of all rows.
+// The lent work memory: two tables, of 64 fields of each activity and, after them, 16 of each link, laid out field by field: a pass reads few fields of many rows.
 ghost use mathlib.Core.Path.{_≡_};
 ghost use mathlib.Core.Logic.{_≢_};
 ghost use Prim.Native.Nat.{ℕ, _+_, _*_, _^_, _≤_, _<_};
