@@ -1,58 +1,53 @@
 -- Weeks by division stay below what is left, and weeks of days without E records are passed by their minutes, forward and back.
-use mathlib.Core.Path.{_≡_, sym, ap, _∙_}
+use mathlib.Core.Path.{_≡_, refl, ap}
 use mathlib.Core.Bool.{Bool}
 use mathlib.Core.List.{List}
 use Prim.Native.Nat.{ℕ, _+_, _-_, _*_, _/_, _≤_, _<_}
 use native.Mathlib.Omega.{arith}
+use lib.ListN.{getD}
 use native.Mathlib.Nat.{div-mul-le-self, mul-le-mul-right}
 use Rattle.calendar.specs.declared.Period.{Period}
 use Rattle.calendar.specs.Records.{Valid, FirstFrom}
 use Rattle.worktime.specs.Worked.{count}
-use Rattle.clock.specs.On.{workedOn}
-use Rattle.clock.specs.Regular.{Totals, regular}
-use Rattle.clock.specs.RegularLaws.{regular-later, regular-weeks, count-regular, none-between, first-between}
+use Rattle.clock.specs.Regular.{Sums}
+use Rattle.clock.specs.RegularLaws.{regular-weeks, count-regular, none-between, first-between}
 use Rattle.clock.specs.Jumps.{Fits, Passed}
 
-module _ (ts : List ℕ) (d days left : ℕ) (l : 0 < left) where
-  pub fits-none : Fits ts d days left 0 0
+module _ (minutes days left : ℕ) (l : 0 < left) where
+  pub fits-none : Fits minutes days left 0 0
   fits-none = record { equal = omega arith; within = omega arith; fewer = l }
 
-  pub fits-whole : (a q : ℕ) → a ≡ regular ts d (d + 7 - d) → 7 * q ≤ days → q ≤ (left - 1) / a → Fits ts d days left q (q * a)
-  fits-whole a q e w f =
-      let s : d + 7 - d ≡ 7 = omega arith in record {
-        equal = ap (λ x. q * x) (e ∙ ap (regular ts d) s);
-        within = w;
-        fewer = omega (arith, mul-le-mul-right a f, div-mul-le-self (left - 1) a);
-      }
+  pub fits-whole : (q : ℕ) → 7 * q ≤ days → q ≤ (left - 1) / minutes → Fits minutes days left q (q * minutes)
+  fits-whole q w f = record {
+    equal = refl;
+    within = w;
+    fewer = omega (arith, mul-le-mul-right minutes f, div-mul-le-self (left - 1) minutes);
+  }
 
 module _ {week : List (List Period)} {s : List ℕ} {at n : ℕ} (valid : Valid week s at n) {j left : ℕ} where
   -- no week at all
   pub passed-none : 0 < left → (x : ℕ) → FirstFrom s at n x j → (d e : ℕ) → d ≡ x → e ≡ x → Passed week s at n d e j left 0
   passed-none l x f d e p q = rw (p, q) (record { counted = omega arith; fewer = l; from = f; to = f })
 
-  module _ {ts : List ℕ} (t : Totals week ts) {d e q a : ℕ} (from : FirstFrom s at n d j) (to : FirstFrom s at n e j) where
+  module _ {ss : List ℕ} (sums : Sums week ss) {d e q a : ℕ} (from : FirstFrom s at n d j) (to : FirstFrom s at n e j) (f : Fits (getD ss 7 0) (e - d) left q a) (l : d ≤ e) where
     -- q weeks from day d on
-    pub passed-ahead : Fits ts d (e - d) left q a → d ≤ e → Passed week s at n d (d + 7 * q) j left a
-    passed-ahead f l =
-        let r = count-regular valid t d (7 * q) (λ x y z. none-between from to x y (omega (arith, f .within))) in record {
-          counted = omega (arith, r, regular-weeks ts d q, f .equal);
+    pub passed-ahead : Passed week s at n d (d + 7 * q) j left a
+    passed-ahead =
+        let r = count-regular sums valid d (7 * q) _ refl (λ x y z. none-between from to x y (omega (arith, f .within))) in record {
+          counted = omega (arith, r, regular-weeks ss d _ q refl, f .equal);
           fewer = f .fewer;
           from = from;
           to = first-between from to (d + 7 * q) (omega arith) (omega (arith, f .within));
         }
 
     -- q weeks back from day e
-    pub passed-back : Fits ts e (e - d) left q a → d ≤ e → Passed week s at n (e - 7 * q) e j left a
-    passed-back f l =
-        let w : ℕ → Bool = workedOn week s at n in
+    pub passed-back : Passed week s at n (e - 7 * q) e j left a
+    passed-back =
         let b : ℕ = e - 7 * q in
         let g : b + 7 * q ≡ e = omega (arith, f .within) in
         let o : d ≤ b = omega (arith, f .within) in
-        let r = count-regular valid t b (7 * q) (λ x y z. none-between from to x (omega arith) (omega arith)) in
-        let k : count w ((b + 7 * q) * 1440) ≡ count w (e * 1440) = ap (λ x. count w (x * 1440)) g in
-        let m : q * regular ts e 7 ≡ q * regular ts b 7 = ap (λ x. q * x) (ap (λ x. regular ts x 7) (sym g) ∙ regular-later ts b q 7) in
-        record {
-          counted = omega (arith, r, k, m, regular-weeks ts b q, f .equal);
+        let r = count-regular sums valid b (7 * q) e g (λ x y z. none-between from to x (omega arith) z) in record {
+          counted = omega (arith, r, regular-weeks ss b e q g, f .equal);
           fewer = f .fewer;
           from = first-between from to b o (omega arith);
           to = to;

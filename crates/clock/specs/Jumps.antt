@@ -6,11 +6,10 @@ use Rattle.calendar.specs.declared.Period.{Period}
 use Rattle.calendar.specs.Records.{FirstFrom}
 use Rattle.worktime.specs.Worked.{count}
 use Rattle.clock.specs.On.{workedOn}
-use Rattle.clock.specs.Regular.{regular}
 
--- q whole weeks within so many days, the first day's weekday that of d, have a minutes, fewer than `left`
-pub record Fits (ts : List ℕ) (d days left q a : ℕ) : Type 0 where
-  pub equal : a ≡ q * regular ts d 7
+-- q whole weeks of so many minutes, within so many days, have a minutes, fewer than `left`
+pub record Fits (minutes days left q a : ℕ) : Type 0 where
+  pub equal : a ≡ q * minutes
   pub within : 7 * q ≤ days
   pub fewer : a < left
 

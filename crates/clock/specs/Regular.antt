@@ -1,26 +1,26 @@
--- Days by their weekdays alone: the minutes of each weekday, their sum over days in a row, and up to where no day has E records.
+-- Days by their weekdays alone: the sums of the weekdays' minutes, those of all days before one, and up to where no day has E records.
 use mathlib.Core.Path.{_≡_}
 use mathlib.Core.List.{List, []}
-use Prim.Native.Nat.{ℕ, zero, suc, _+_, _≤_, _<_}
-use lib.ListN.{length, getD}
+use Prim.Native.Nat.{ℕ, _+_, _*_, _/_, _≤_, _<_}
+use lib.ListN.{getD}
 use Rattle.date.specs.Days.{weekday}
 use Rattle.calendar.specs.declared.Period.{Period}
 use Rattle.calendar.specs.Hours.{rank}
 use Rattle.calendar.specs.Records.{exceptionsOn, FirstFrom}
 
--- no weekday has more minutes than a day
-abbrev pub Daily : List ℕ → Type 0
-Daily ts = (k : ℕ) → getD ts k 0 ≤ 1440
+-- the sums rise, to at most the minutes that a week can have
+abbrev pub Rising : List ℕ → Type 0
+Rising ss = ((i j : ℕ) → i ≤ j → j ≤ 7 → getD ss i 0 ≤ getD ss j 0) × (getD ss 7 0 ≤ 10080)
 
--- ts are the minutes of each weekday of the week
-pub record Totals (week : List (List Period)) (ts : List ℕ) : Type 0 where
-  pub each : (k : ℕ) → k < 7 → getD ts k 0 ≡ rank (getD week k []) 1440
-  pub daily : Daily ts
+-- ss are the sums of the minutes of the weekdays: entry k has those of the first k, from Monday on
+pub record Sums (week : List (List Period)) (ss : List ℕ) : Type 0 where
+  pub none : getD ss 0 0 ≡ 0
+  pub each : (k : ℕ) → k < 7 → getD ss (k + 1) 0 ≡ getD ss k 0 + rank (getD week k []) 1440
+  pub rising : Rising ss
 
--- the minutes of n days from day d on
-unfoldable pub regular : List ℕ → ℕ → ℕ → ℕ
-regular ts d zero = 0
-regular ts d (suc n) = regular ts d n + getD ts (weekday (d + n)) 0
+-- the minutes of the days before day d, each by its weekday, from the Monday before day 0 on
+unfoldable pub regular : List ℕ → ℕ → ℕ
+regular ss d = getD ss 7 0 * ((d + 1) / 7) + getD ss (weekday d) 0
 
 -- from day i up to day r, at most e, no day has E records, and record j is still the first of those that are left
 pub record NextOwn (s : List ℕ) (at n i e j r : ℕ) : Type 0 where

@@ -1,12 +1,12 @@
--- Days in a row without E records are counted by their weekdays, and a week of them is the same from whatever day on.
+-- Days in a row without E records are counted by their weekdays: whole weeks by multiplication, and the days of a part of a week by their sum.
 use mathlib.Core.Path.{_≡_, refl, sym, ap, _∙_}
 use mathlib.Core.Logic.{_⊎_, ⊎-elim}
 use mathlib.Core.List.{List, []}
-use Prim.Native.Nat.{ℕ, zero, suc, _+_, _-_, _*_, _/_, _%_, _≤_, _<_}
+use Prim.Native.Nat.{ℕ, zero, suc, _+_, _-_, _*_, _/_, _≤_, _<_}
 use native.Mathlib.Omega.{arith}
-use native.Mathlib.Nat.{add-zero}
+use native.Mathlib.Nat.{mul-add, mul-le-mul-left, mul-le-mul-right}
 use native.Mathlib.Numerals.{add-one}
-use lib.ListN.{length, getD, List·getD-eq-default}
+use lib.ListN.{getD}
 use Rattle.number.specs.Order.{lt-or-le}
 use Rattle.date.specs.Days.{weekday}
 use Rattle.calendar.specs.declared.Period.{Period}
@@ -16,89 +16,73 @@ use Rattle.calendar.specs.DayLaws.{on-rest, hours-week}
 use Rattle.worktime.specs.Worked.{count}
 use Rattle.clock.specs.On.{workedOn}
 use Rattle.clock.specs.Days.{hand-rank}
-use Rattle.clock.specs.Regular.{Daily, Totals, regular, NextOwn}
+use Rattle.clock.specs.Regular.{Rising, Sums, regular, NextOwn}
 
-module _ (ts : List ℕ) (d : ℕ) where
-  pub regular-none : regular ts d 0 ≡ 0
+pub sums-are : (week : List (List Period)) (ss : List ℕ) → getD ss 0 0 ≡ 0
+    → ((k : ℕ) → k < 7 → getD ss (k + 1) 0 ≡ getD ss k 0 + rank (getD week k []) 1440) → getD ss 7 0 ≤ 10080 → Sums week ss
+sums-are week ss none each high = record { none = none; each = each; rising = (rise, high) }
+  where
+    rise : (i j : ℕ) → i ≤ j → j ≤ 7 → getD ss i 0 ≤ getD ss j 0
+    rise i zero l h = let e : getD ss i 0 ≡ getD ss 0 0 = ap (λ x. getD ss x 0) (omega arith) in omega (arith, e)
+    rise i (suc j) l h =
+        let s : getD ss (suc j) 0 ≡ getD ss j 0 + rank (getD week j []) 1440 = rw (add-one j) at (each j (omega arith)) in
+        ⊎-elim (λ m. omega (arith, s, rise i j (omega arith) (omega arith)))
+        (λ m. let e : getD ss i 0 ≡ getD ss (suc j) 0 = ap (λ x. getD ss x 0) (omega arith) in omega (arith, e)) (lt-or-le i (suc j))
+
+-- the work from day d up to day e, as a week's minutes times the weeks, the days of e's week more and those of d's less
+module _ (ss : List ℕ) (d e : ℕ) (up : Rising ss) (l : d ≤ e) where
+  weeks-between : getD ss 7 0 * ((e + 1) / 7 - (d + 1) / 7) + getD ss 7 0 * ((d + 1) / 7) ≡ getD ss 7 0 * ((e + 1) / 7)
+  weeks-between = let g : (e + 1) / 7 - (d + 1) / 7 + (d + 1) / 7 ≡ (e + 1) / 7 = omega arith in sym (mul-add (getD ss 7 0) _ _) ∙ ap (λ x. getD ss 7 0 * x) g
+
+  pub between-small : getD ss 7 0 * ((e + 1) / 7 - (d + 1) / 7) ≤ 10080 * ((e + 1) / 7 - (d + 1) / 7)
+  between-small = mul-le-mul-right ((e + 1) / 7 - (d + 1) / 7) (up .1)
+
+  pub between-low : getD ss (weekday d) 0 ≤ getD ss 7 0 * ((e + 1) / 7 - (d + 1) / 7) + getD ss (weekday e) 0
+  between-low =
+      ⊎-elim (λ m. omega (arith, up .0 (weekday d) 7 (omega arith) (omega arith), mul-le-mul-left (getD ss 7 0) m))
+      (λ m. omega (arith, up .0 (weekday d) (weekday e) (omega arith) (omega arith))) (lt-or-le 0 ((e + 1) / 7 - (d + 1) / 7))
+
+  pub between-regular : regular ss d + (getD ss 7 0 * ((e + 1) / 7 - (d + 1) / 7) + getD ss (weekday e) 0 - getD ss (weekday d) 0) ≡ regular ss e
   unfolding regular
-  regular-none = refl
+  between-regular = omega (arith, weeks-between, between-low)
 
-  pub regular-step : (n : ℕ) → regular ts d (n + 1) ≡ regular ts d n + getD ts (weekday (d + n)) 0
+-- whole weeks by multiplication
+pub regular-weeks : (ss : List ℕ) (d e q : ℕ) → d + 7 * q ≡ e → regular ss e ≡ regular ss d + q * getD ss 7 0
+unfolding regular
+regular-weeks ss d e q p =
+    let f : (e + 1) / 7 ≡ (d + 1) / 7 + q = omega arith in
+    let g : weekday e ≡ weekday d = omega arith in
+    rw (f, g, mul-add (getD ss 7 0) ((d + 1) / 7) q) (omega arith)
+
+module _ {week : List (List Period)} {ss : List ℕ} (sums : Sums week ss) where
+  -- one day more
+  pub regular-step : (d : ℕ) → regular ss (d + 1) ≡ regular ss d + rank (getD week (weekday d) []) 1440
   unfolding regular
-  regular-step n = rw (add-one n)
+  regular-step d =
+      ⊎-elim
+      (λ l.
+      let f : (d + 1 + 1) / 7 ≡ (d + 1) / 7 = omega arith in
+      let g : weekday (d + 1) ≡ weekday d + 1 = omega arith in
+      rw (f, g) (omega (arith, sums .each (weekday d) (omega arith))))
+      (λ l.
+      let f : (d + 1 + 1) / 7 ≡ (d + 1) / 7 + 1 = omega arith in
+      let g : weekday (d + 1) ≡ 0 = omega arith in
+      let h : weekday d ≡ 6 = omega arith in
+      rw (f, g, h, mul-add (getD ss 7 0) ((d + 1) / 7) 1) (omega (arith, sums .none, sums .each 6 (omega arith)))) (lt-or-le (weekday d) 6)
 
-  pub regular-small : Daily ts → (n : ℕ) → regular ts d n ≤ 1440 * n
-  unfolding regular
-  regular-small h zero = omega arith
-  regular-small h (suc n) = omega (arith, regular-small h n, h (weekday (d + n)))
-
--- the days from d up to i, and day i more
-pub regular-next : (ts : List ℕ) (d i : ℕ) → d ≤ i → regular ts d (i + 1 - d) ≡ regular ts d (i - d) + getD ts (weekday i) 0
-regular-next ts d i l =
-    let e : regular ts d (i + 1 - d) ≡ regular ts d (i - d + 1) = ap (regular ts d) (omega arith) in
-    let f : getD ts (weekday (d + (i - d))) 0 ≡ getD ts (weekday i) 0 = ap (λ x. getD ts (weekday x) 0) (omega arith) in
-    omega (arith, e, f, regular-step ts d (i - d))
-
-pub regular-add : (ts : List ℕ) (d m n : ℕ) → regular ts d (m + n) ≡ regular ts d m + regular ts (d + m) n
-regular-add ts d m zero = let e : m + 0 ≡ m = omega arith in rw e (omega (arith, regular-none ts (d + m)))
-regular-add ts d m (suc n) =
-    let e : regular ts d (m + suc n) ≡ regular ts d (m + n + 1) = ap (regular ts d) (omega arith) in
-    let f : regular ts (d + m) (suc n) ≡ regular ts (d + m) (n + 1) = ap (regular ts (d + m)) (omega arith) in
-    let g : getD ts (weekday (d + (m + n))) 0 ≡ getD ts (weekday (d + m + n)) 0 = ap (λ x. getD ts (weekday x) 0) (omega arith) in
-    omega (arith, e, f, g, regular-step ts d (m + n), regular-step ts (d + m) n, regular-add ts d m n)
-
--- whole weeks later it is the same
-pub regular-later : (ts : List ℕ) (d q n : ℕ) → regular ts (d + 7 * q) n ≡ regular ts d n
-regular-later ts d q zero = regular-none ts (d + 7 * q) ∙ sym (regular-none ts d)
-regular-later ts d q (suc n) =
-    let e : regular ts (d + 7 * q) (suc n) ≡ regular ts (d + 7 * q) (n + 1) = ap (regular ts (d + 7 * q)) (omega arith) in
-    let f : regular ts d (suc n) ≡ regular ts d (n + 1) = ap (regular ts d) (omega arith) in
-    let g : getD ts (weekday (d + 7 * q + n)) 0 ≡ getD ts (weekday (d + n)) 0 = ap (λ x. getD ts x 0) (omega arith) in
-    omega (arith, e, f, g, regular-step ts (d + 7 * q) n, regular-step ts d n, regular-later ts d q n)
-
-pub regular-weeks : (ts : List ℕ) (d q : ℕ) → regular ts d (7 * q) ≡ q * regular ts d 7
-regular-weeks ts d zero = omega (arith, regular-none ts d)
-regular-weeks ts d (suc q) =
-    let e : regular ts d (7 * suc q) ≡ regular ts d (7 * q + 7) = ap (regular ts d) (omega arith) in
-    let f : suc q * regular ts d 7 ≡ q * regular ts d 7 + regular ts d 7 = omega arith in
-    omega (arith, e, f, regular-add ts d (7 * q) 7, regular-later ts d q 7, regular-weeks ts d q)
-
--- the days from d up to e: a are the minutes of a week, b those of the days after the whole weeks
-module _ (ts : List ℕ) (d e a : ℕ) (daily : Daily ts) (l : d ≤ e) (week : a ≡ regular ts d (d + 7 - d)) where
-  weeks-are : (e - d) / 7 * a ≡ regular ts d (7 * ((e - d) / 7))
-  weeks-are =
-      let f : d + 7 - d ≡ 7 = omega arith in
-      ap (λ x. (e - d) / 7 * x) (week ∙ ap (regular ts d) f) ∙ sym (regular-weeks ts d ((e - d) / 7))
-
-  pub weeks-small : (e - d) / 7 * a ≤ 1440 * (e - d)
-  weeks-small = omega (arith, weeks-are, regular-small ts d daily (7 * ((e - d) / 7)))
-
-  pub weeks-whole : (b : ℕ) → b ≡ regular ts (d + 7 * ((e - d) / 7)) (e - (d + 7 * ((e - d) / 7))) → (e - d) / 7 * a + b ≡ regular ts d (e - d)
-  weeks-whole b rest =
-      let q : ℕ = 7 * ((e - d) / 7) in
-      let f : q + (e - (d + q)) ≡ e - d = omega arith in
-      let g : regular ts d (q + (e - (d + q))) ≡ regular ts d (e - d) = ap (regular ts d) f in
-      omega (arith, weeks-are, rest, g, regular-add ts d q (e - (d + q)))
-
-pub totals-are : (week : List (List Period)) (ts : List ℕ) → length ts ≡ 7 → ((k : ℕ) → k < 7 → (getD ts k 0 ≡ rank (getD week k []) 1440) × (getD ts k 0 ≤ 1440)) → Totals week ts
-totals-are week ts seven f = record {
-  each = λ k l. f k l .0;
-  daily = λ k. ⊎-elim (λ l. f k l .1) (λ l. omega (arith, List·getD-eq-default ts 0 {n = k} (omega arith))) (lt-or-le k 7);
-}
-
--- ---- the count of work over them
-module _ {week : List (List Period)} {s : List ℕ} {at n : ℕ} (valid : Valid week s at n) {ts : List ℕ} (t : Totals week ts) (d : ℕ) where
-  pub count-regular : (m : ℕ) → ((j : ℕ) → d ≤ j → j < d + m → exceptionsOn s at j n ≡ [])
-      → count (workedOn week s at n) (d * 1440) + regular ts d m ≡ count (workedOn week s at n) ((d + m) * 1440)
-  count-regular zero f = let e : count (workedOn week s at n) ((d + 0) * 1440) ≡ count (workedOn week s at n) (d * 1440) = ap (count (workedOn week s at n)) (omega arith) in omega (arith, e, regular-none ts d)
-  count-regular (suc m) f =
-      let h : ℕ → List Period = hoursOn week s at n in
-      let k : ℕ = weekday (d + m) in
-      let own : getD week k [] ≡ h (d + m) = sym (hours-week week s at n (d + m) (f (d + m) (omega arith) (omega arith))) in
-      let r = hand-rank h (d + m) (valid .ordered (d + m)) _ own 1440 _ (omega arith) (t .each k (omega arith)) in
-      let e : count (worked h) ((d + m) * 1440 + 1440) ≡ count (worked h) ((d + suc m) * 1440) = ap (count (worked h)) (omega arith) in
-      let g : regular ts d (suc m) ≡ regular ts d m + getD ts k 0 = rw (add-one m) at (regular-step ts d m) in
-      omega (arith, r, e, g, count-regular m (λ j x y. f j x (omega arith)))
+  -- the count of work over m days without E records, from day d up to day e
+  module _ {s : List ℕ} {at n : ℕ} (valid : Valid week s at n) (d : ℕ) where
+    pub count-regular : (m e : ℕ) → d + m ≡ e → ((j : ℕ) → d ≤ j → j < e → exceptionsOn s at j n ≡ [])
+        → count (workedOn week s at n) (d * 1440) + regular ss e ≡ count (workedOn week s at n) (e * 1440) + regular ss d
+    count-regular zero e p f = let o : e ≡ d = omega arith in rw o (omega arith)
+    count-regular (suc m) e p f =
+        let h : ℕ → List Period = hoursOn week s at n in
+        let i : ℕ = d + m in
+        let o : e ≡ i + 1 = omega arith in
+        let own : getD week (weekday i) [] ≡ h i = sym (hours-week week s at n i (f i (omega arith) (omega arith))) in
+        let r = hand-rank h i (valid .ordered i) _ own 1440 _ (omega arith) refl in
+        let g : count (worked h) (i * 1440 + 1440) ≡ count (worked h) ((i + 1) * 1440) = ap (count (worked h)) (omega arith) in
+        rw o (omega (arith, r, g, regular-step i, count-regular m i refl (λ j x y. f j x (omega arith))))
 
 -- ---- days between which no E record comes: record j is first from day d on, and from day e on
 module _ {s : List ℕ} {at n j d e : ℕ} (from : FirstFrom s at n d j) (to : FirstFrom s at n e j) (x : ℕ) (low : d ≤ x) where

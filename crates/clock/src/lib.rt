@@ -294,13 +294,13 @@ fn days_work(
     if d == e {
         return 0;
     }
-    let totals = weeks::totals_of(week);
+    let sums = weeks::sums_of(week);
     let mut sum: u64 = 0;
     let mut i = d;
     let mut j = from;
     while i < e {
         let next = weeks::next_own(sheet, at, n, i, e, j);
-        sum += weeks::regular_work(totals, i, next);
+        sum += weeks::regular_work(sums, i, next);
         if next == e {
             return sum;
         }

@@ -1,13 +1,13 @@
-// Work counted by the week: the minutes of each weekday, of days that have no E records, and of whole weeks of these that a walk passes at once.
+// Work counted by the week: the minutes of days that have no E records, and of whole weeks of these that a walk passes at once.
 use calendar::Period;
 ghost use mathlib.Core.Path.{_≡_};
 ghost use mathlib.Core.List.{[]};
 ghost use Prim.Native.Nat.{ℕ, _+_, _-_, _*_, min, _≤_, _<_};
 ghost use lib.ListN.{length, getD};
-ghost use Rattle.calendar.specs.Hours.{rank, Ordered};
+ghost use Rattle.calendar.specs.Hours.{Ordered};
 ghost use Rattle.calendar.specs.Records.{exceptionDay, Valid, FirstFrom};
 ghost use Rattle.date.specs.Years.{firstDay, endDay};
-ghost use Rattle.clock.specs.Regular.{Totals, Daily, regular, NextOwn};
+ghost use Rattle.clock.specs.Regular.{Sums, Rising, regular, NextOwn};
 ghost use Rattle.clock.specs.Jumps.{Fits, Passed};
 
 // Whole weeks that a walk passes at once, and their minutes.
@@ -16,45 +16,28 @@ pub struct Jump {
     pub minutes: u64,
 }
 
-// The minutes of each weekday.
-pub fn totals_of(week: [[Period; 8]; 7]) -> [u64; 7]
+// The sums of the weekdays' minutes from Monday on: entry `k` has those of the first `k`.
+pub fn sums_of(week: [[Period; 8]; 7]) -> [u64; 8]
     requires { ⌜ ((k : ℕ) → k < 7 → Ordered 0 (getD week k [])) ⌝ }
-    ensures { λ r. ⌜ Totals week r ⌝ }
+    ensures { λ r. ⌜ Sums week r ⌝ }
 {
-    let mut totals = [0u64; 7];
+    let mut sums = [0u64; 8];
     let mut k: usize = 0;
     while k < 7 {
         let row = week[k];
-        totals[k] = calendar::row_rank(row, 1440) as u64;
+        sums[k + 1] = sums[k] + calendar::row_rank(row, 1440) as u64;
         k += 1;
     }
-    totals
+    sums
 }
 
-// The minutes of the days from `d` up to but not `e`, each by its weekday.
-fn plain_work(totals: [u64; 7], d: u64, e: u64) -> u64
-    requires { ⌜ Daily totals × (d ≤ e) × (e < 4294967296) ⌝ }
-    ensures { λ r. ⌜ (r ≡ regular totals d (e - d)) × (r ≤ 1440 * (e - d)) ⌝ }
+// The minutes of the days from `d` up to but not `e`, each by its weekday: without a loop, for any number of days.
+pub fn regular_work(sums: [u64; 8], d: u64, e: u64) -> u64
+    requires { ⌜ Rising sums × (d ≤ e) × (e < 4294967296) ⌝ }
+    ensures { λ r. ⌜ regular sums d + r ≡ regular sums e ⌝ }
 {
-    let mut sum: u64 = 0;
-    let mut i = d;
-    while i < e {
-        sum += totals[((i + 1) % 7) as usize];
-        i += 1;
-    }
-    sum
-}
-
-// The same with whole weeks by multiplication.
-pub fn regular_work(totals: [u64; 7], d: u64, e: u64) -> u64
-    requires { ⌜ Daily totals × (d ≤ e) × (e < 4294967296) ⌝ }
-    ensures { λ r. ⌜ (r ≡ regular totals d (e - d)) × (r ≤ 1440 * (e - d)) ⌝ }
-{
-    let weeks = (e - d) / 7;
-    if weeks == 0 {
-        return plain_work(totals, d, e);
-    }
-    weeks * plain_work(totals, d, d + 7) + plain_work(totals, d + 7 * weeks, e)
+    sums[7] * ((e + 1) / 7 - (d + 1) / 7) + sums[((e + 1) % 7) as usize]
+        - sums[((d + 1) % 7) as usize]
 }
 
 // The first day from `i` on that has E records, or `e` if none before it has; `j` is the first record whose day is `i` or later.
@@ -92,12 +75,11 @@ fn lesser(a: u64, b: u64) -> u64
     if a < b { a } else { b }
 }
 
-// As many whole weeks of `days` days in a row as have fewer than `left` minutes; the first day's weekday is that of `d`. None where a week has no minutes.
-fn whole_weeks(totals: [u64; 7], d: u64, days: u64, left: u64) -> Jump
-    requires { ⌜ Daily totals × (d ≤ endDay) × (0 < left) ⌝ }
-    ensures { λ r. ⌜ Fits totals d days left (r .weeks) (r .minutes) ⌝ }
+// As many whole weeks of so many minutes within `days` days as have fewer than `left` minutes. None where a week has no minutes.
+fn whole_weeks(minutes: u64, days: u64, left: u64) -> Jump
+    requires { ⌜ 0 < left ⌝ }
+    ensures { λ r. ⌜ Fits minutes days left (r .weeks) (r .minutes) ⌝ }
 {
-    let minutes = plain_work(totals, d, d + 7);
     if minutes == 0 {
         return Jump {
             weeks: 0,
@@ -131,7 +113,8 @@ pub fn weeks_ahead(
             minutes: 0,
         };
     }
-    whole_weeks(totals_of(week), d, days, left)
+    let sums = sums_of(week);
+    whole_weeks(sums[7], days, left)
 }
 
 // Whole weeks up to but not day `e`, after the last day before it with E records and within the years that may be read, with fewer than `left` minutes.
@@ -154,5 +137,6 @@ pub fn weeks_back(
             minutes: 0,
         };
     }
-    whole_weeks(totals_of(week), e, days, left)
+    let sums = sums_of(week);
+    whole_weeks(sums[7], days, left)
 }

@@ -1,10 +1,8 @@
 -- `clock::days_work` meets its contract. The sum is what is worked from day `d` up to day `i`, and `j` is the first E record from day `i` on.
-use mathlib.Core.Path.{_≡_, refl, sym, ap, _∙_}
-use mathlib.Core.List.{List}
+use mathlib.Core.Path.{_≡_, refl, ap}
 use native.Mathlib.Omega.{arith}
 use borrow.Author.Needs.{needs}
-use Prim.Native.Nat.{ℕ, _+_, _-_, _*_, _/_, _%_, _≤_, _<_}
-use Rattle.calendar.specs.declared.Period.{Period}
+use Prim.Native.Nat.{_+_, _-_, _*_, _≤_, _<_}
 use Rattle.calendar.specs.Hours.{worked}
 use Rattle.calendar.specs.Records.{hoursOn, FirstFrom}
 use Rattle.calendar.specs.ValidLaws.{hand-ordered}
@@ -13,18 +11,18 @@ use Rattle.worktime.specs.Count.{count-le}
 use Rattle.clock.specs.On.{workedOn}
 use Rattle.clock.specs.Days.{hand-rank}
 use Rattle.clock.specs.Weeks.{row-ordered}
-use Rattle.clock.specs.Regular.{Totals, regular}
+use Rattle.clock.specs.Regular.{Sums}
 use Rattle.clock.specs.RegularLaws.{count-regular}
 use Rattle.clock.proofs.days_work.Statement.{statement}
 use Rattle.clock.proofs.days_work.Tie as tie
 
 abbrev Inv-loop : tie.InvT-loop
-Inv-loop sheet at n d e from week totals sum₀ i₀ j₀ sum i j =
-    (d ≤ i) × (i ≤ e) × FirstFrom sheet at n i j × Totals week totals
+Inv-loop sheet at n d e from week sums sum₀ i₀ j₀ sum i j =
+    (d ≤ i) × (i ≤ e) × FirstFrom sheet at n i j × Sums week sums
     × (count (workedOn week sheet at n) (d * 1440) + sum ≡ count (workedOn week sheet at n) (i * 1440))
 
 abbrev μ-loop : tie.MeasureT-loop
-μ-loop sheet at n d e from week totals sum₀ i₀ j₀ sum i j = e - i
+μ-loop sheet at n d e from week sums sum₀ i₀ j₀ sum i j = e - i
 
 returns : tie.Need-returns Inv-loop μ-loop
 returns c =
@@ -32,11 +30,11 @@ returns c =
     let e : count (workedOn (a .t1) (a .sheet .now) (a .at) (a .n)) (a .d * 1440) ≡ count (workedOn (a .t1) (a .sheet .now) (a .at) (a .n)) (a .e * 1440) = ap (λ k. count (workedOn (a .t1) (a .sheet .now) (a .at) (a .n)) (k * 1440)) (omega arith) in
     (omega (arith, e), omega arith)
 
-totals-of-requires : tie.Need-totals-of-requires Inv-loop μ-loop
-totals-of-requires c κs = row-ordered (c .before .before .pre .0)
+sums-of-requires : tie.Need-sums-of-requires Inv-loop μ-loop
+sums-of-requires c κs = row-ordered (c .before .before .pre .0)
 
 loop-holds : tie.Need-loop-holds Inv-loop μ-loop
-loop-holds c = let p = c .before .before .before .pre in (omega arith, p .1, p .3, c .totals-of .ensures, omega arith)
+loop-holds c = let p = c .before .before .before .pre in (omega arith, p .1, p .3, c .sums-of .ensures, omega arith)
 
 next-own-requires : tie.Need-next-own-requires Inv-loop μ-loop
 next-own-requires c κs =
@@ -47,7 +45,7 @@ next-own-requires c κs =
 regular-work-requires : tie.Need-regular-work-requires Inv-loop μ-loop
 regular-work-requires c κs =
     let l = c .before .before in
-    (l .loop .inv .3 .daily, c .next-own .ensures .from, omega (arith, c .next-own .ensures .to, l .before .before .before .before .pre .2))
+    (l .loop .inv .3 .rising, c .next-own .ensures .from, omega (arith, c .next-own .ensures .to, l .before .before .before .before .pre .2))
 
 -- what the days without E records before the next add
 passed : (c : tie.After-regular-work Inv-loop μ-loop) →
@@ -64,10 +62,8 @@ passed c =
     let i = l .loop .i in
     let o = c .before .next-own .ensures in
     let x = c .before .next-own .result in
-    let g : i + (x - i) ≡ x = omega (arith, o .from) in
-    let r = count-regular (s .pre .0) (l .loop .inv .3) i (x - i) (λ j y z. o .none-own j y (omega (arith, g))) in
-    let e : count w ((i + (x - i)) * 1440) ≡ count w (x * 1440) = ap (λ k. count w (k * 1440)) g in
-    (omega (arith, r, e, c .regular-work .ensures .0, l .loop .inv .4), omega (arith, o .to, s .pre .2))
+    let r = count-regular (l .loop .inv .3) (s .pre .0) i (x - i) x (omega (arith, o .from)) (o .none-own) in
+    (omega (arith, r, c .regular-work .ensures, l .loop .inv .4), omega (arith, o .to, s .pre .2))
 
 add-sum : tie.Need-add-sum Inv-loop μ-loop
 add-sum c =
@@ -156,7 +152,7 @@ days-work-spec =
     Inv-loop
     μ-loop
     returns
-    totals-of-requires
+    sums-of-requires
     loop-holds
     next-own-requires
     regular-work-requires
