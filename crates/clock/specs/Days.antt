@@ -121,6 +121,11 @@ module _ (h : ℕ → List Period) (d : ℕ) (o : Ordered 0 (h d)) (ps : List Pe
 pub count-time : (w : ℕ → Bool) (t : ℕ) → count w (t / 1440 * 1440 + t % 1440) ≡ count w t
 count-time w t = ap (count w) (omega arith)
 
+-- the count up to a time by its day's hours in hand
+pub hand-time : (h : ℕ → List Period) (t : ℕ) → Ordered 0 (h (t / 1440)) → (ps : List Period) → ps ≡ h (t / 1440) → (r : ℕ) → r ≡ rank ps (t % 1440)
+    → count (worked h) t ≡ count (worked h) (t / 1440 * 1440) + r
+hand-time h t o ps e r q = sym (count-time (worked h) t) ∙ hand-rank h (t / 1440) o ps e (t % 1440) r (omega arith) q
+
 pub worked-time : (w : ℕ → Bool) (t : ℕ) → w (t / 1440 * 1440 + t % 1440) ≡ w t
 worked-time w t = ap w (omega arith)
 

@@ -278,6 +278,12 @@ pub fn worked_before(week: [[Period; 8]; 7], sheet: &[u8], at: usize, n: usize, 
     Work::Minutes(calendar::day_rank(hours, sheet, m) as i64)
 }
 
+// The minutes of days in a row, and the first E record whose day comes after them.
+struct Days {
+    minutes: u64,
+    to: usize,
+}
+
 // The minutes worked on the days from `d` up to but not `e`; `from` is the first E record whose day is `d` or later.
 fn days_work(
     week: [[Period; 8]; 7],
@@ -287,13 +293,10 @@ fn days_work(
     d: u64,
     e: u64,
     from: usize,
-) -> u64
+) -> Days
     requires { ⌜ Valid week (now sheet) at n × (d ≤ e) × (e < 4294967296) × FirstFrom (now sheet) at n d from ⌝ }
-    ensures { λ r. ⌜ (count (workedOn week (now (sheet .entry)) at n) (d * 1440) + r ≡ count (workedOn week (now (sheet .entry)) at n) (e * 1440)) × (r ≤ 6184752906240) ⌝ }
+    ensures { λ r. ⌜ (count (workedOn week (now (sheet .entry)) at n) (d * 1440) + r .minutes ≡ count (workedOn week (now (sheet .entry)) at n) (e * 1440)) × (r .minutes ≤ 6184752906240) × FirstFrom (now (sheet .entry)) at n e (r .to) ⌝ }
 {
-    if d == e {
-        return 0;
-    }
     let sums = weeks::sums_of(week);
     let mut sum: u64 = 0;
     let mut i = d;
@@ -302,7 +305,10 @@ fn days_work(
         let next = weeks::next_own(sheet, at, n, i, e, j);
         sum += weeks::regular_work(sums, i, next);
         if next == e {
-            return sum;
+            return Days {
+                minutes: sum,
+                to: j,
+            };
         }
         let row = week[((next + 1) % 7) as usize];
         let hours = calendar::hours_from(row, sheet, at, n, next, j);
@@ -310,7 +316,10 @@ fn days_work(
         i = next + 1;
         j += hours.n;
     }
-    sum
+    Days {
+        minutes: sum,
+        to: j,
+    }
 }
 
 // The minutes worked from `a` up to `b`, both in the years that may be read.
@@ -326,10 +335,14 @@ fn work_to(week: [[Period; 8]; 7], sheet: &[u8], at: usize, n: usize, a: u64, b:
     let from = calendar::first_from(sheet, at, n, d);
     let first_row = week[((d + 1) % 7) as usize];
     let first = calendar::hours_from(first_row, sheet, at, n, d, from);
+    let before = calendar::day_rank(first, sheet, a % 1440);
+    if d == e {
+        return calendar::day_rank(first, sheet, b % 1440) - before;
+    }
     let last_row = week[((e + 1) % 7) as usize];
-    let last = calendar::hours_on(last_row, sheet, at, n, e);
-    days_work(week, sheet, at, n, d, e, from) + calendar::day_rank(last, sheet, b % 1440)
-        - calendar::day_rank(first, sheet, a % 1440)
+    let days = days_work(week, sheet, at, n, d, e, from);
+    let last = calendar::hours_from(last_row, sheet, at, n, e, days.to);
+    days.minutes + calendar::day_rank(last, sheet, b % 1440) - before
 }
 
 // The minutes worked from `a` to `b`: negative where `b` comes first.

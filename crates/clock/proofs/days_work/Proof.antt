@@ -24,39 +24,33 @@ Inv-loop sheet at n d e from week sums sum₀ i₀ j₀ sum i j =
 abbrev μ-loop : tie.MeasureT-loop
 μ-loop sheet at n d e from week sums sum₀ i₀ j₀ sum i j = e - i
 
-returns : tie.Need-returns Inv-loop μ-loop
-returns c =
-    let a = c .before .before .args in
-    let e : count (workedOn (a .t1) (a .sheet .now) (a .at) (a .n)) (a .d * 1440) ≡ count (workedOn (a .t1) (a .sheet .now) (a .at) (a .n)) (a .e * 1440) = ap (λ k. count (workedOn (a .t1) (a .sheet .now) (a .at) (a .n)) (k * 1440)) (omega arith) in
-    (omega (arith, e), omega arith)
-
 sums-of-requires : tie.Need-sums-of-requires Inv-loop μ-loop
-sums-of-requires c κs = row-ordered (c .before .before .pre .0)
+sums-of-requires c κs = row-ordered (c .before .pre .0)
 
 loop-holds : tie.Need-loop-holds Inv-loop μ-loop
-loop-holds c = let p = c .before .before .before .pre in (omega arith, p .1, p .3, c .sums-of .ensures, omega arith)
+loop-holds c = let p = c .before .before .pre in (omega arith, p .1, p .3, c .sums-of .ensures, omega arith)
 
 next-own-requires : tie.Need-next-own-requires Inv-loop μ-loop
 next-own-requires c κs =
     let l = c .before in
-    let p = l .before .before .before .before .pre .0 in
+    let p = l .before .before .before .pre .0 in
     (p .long, p .sorted, l .loop .inv .2, l .loop .inv .1)
 
 regular-work-requires : tie.Need-regular-work-requires Inv-loop μ-loop
 regular-work-requires c κs =
     let l = c .before .before in
-    (l .loop .inv .3 .rising, c .next-own .ensures .from, omega (arith, c .next-own .ensures .to, l .before .before .before .before .pre .2))
+    (l .loop .inv .3 .rising, c .next-own .ensures .from, omega (arith, c .next-own .ensures .to, l .before .before .before .pre .2))
 
 -- what the days without E records before the next add
 passed : (c : tie.After-regular-work Inv-loop μ-loop) →
     let l = c .before .before .before in
-    let s = l .before .before .before .before in
+    let s = l .before .before .before in
     let a = s .args in
     let w = workedOn (a .t1) (a .sheet .now) (a .at) (a .n) in
     (count w (a .d * 1440) + (l .loop .sum + c .regular-work .result) ≡ count w (c .before .next-own .result * 1440)) × (c .before .next-own .result < 4294967296)
 passed c =
     let l = c .before .before .before in
-    let s = l .before .before .before .before in
+    let s = l .before .before .before in
     let a = s .args in
     let w = workedOn (a .t1) (a .sheet .now) (a .at) (a .n) in
     let i = l .loop .i in
@@ -67,17 +61,17 @@ passed c =
 
 add-sum : tie.Need-add-sum Inv-loop μ-loop
 add-sum c =
-    let a = c .before .before .before .before .before .before .before .args in
+    let a = c .before .before .before .before .before .before .args in
     let p = passed c in
     omega (arith, p .0, p .1, count-le (workedOn (a .t1) (a .sheet .now) (a .at) (a .n)) (c .before .next-own .result * 1440))
 
-returns-2 : tie.Need-returns-2 Inv-loop μ-loop
-returns-2 c =
+returns : tie.Need-returns Inv-loop μ-loop
+returns c =
     let p = passed (c .before) in
-    let a = c .before .before .before .before .before .before .before .before .args in
-    let w = workedOn (a .t1) (a .sheet .now) (a .at) (a .n) in
-    let e : count w (c .before .before .next-own .result * 1440) ≡ count w (a .e * 1440) = ap (λ k. count w (k * 1440)) (omega (arith, c .if2 .taken)) in
-    (omega (arith, p .0, e), omega (arith, p .0, p .1, count-le w (c .before .before .next-own .result * 1440)))
+    let a = c .before .before .before .before .before .before .before .args in
+    let o = c .before .before .next-own in
+    let g : o .result ≡ a .e = omega (arith, c .if1 .taken) in
+    (rw g at (p .0), omega (arith, p .0, p .1, count-le (workedOn (a .t1) (a .sheet .now) (a .at) (a .n)) (o .result * 1440)), rw g at (o .ensures .first))
 
 add-row : tie.Need-add-row Inv-loop μ-loop
 add-row c = search needs
@@ -90,25 +84,25 @@ array-copy-out-row c = search needs
 
 hours-from-requires : tie.Need-hours-from-requires Inv-loop μ-loop
 hours-from-requires c κs =
-    let v = c .before .before .before .before .before .before .before .before .before .pre .0 in
+    let v = c .before .before .before .before .before .before .before .before .pre .0 in
     ((v .long, v .sorted), c .before .before .before .next-own .ensures .first)
 
 day-rank-requires : tie.Need-day-rank-requires Inv-loop μ-loop
 day-rank-requires c κs =
-    let s = c .before .before .before .before .before .before .before .before .before .before in
+    let s = c .before .before .before .before .before .before .before .before .before in
     let o = c .hours-from .ensures .0 in
     (o .within, hand-ordered (s .pre .0) _ _ (o .is (s .args .t1) refl))
 
 -- what the day with E records adds
 added : (c : tie.After-day-rank Inv-loop μ-loop) →
     let l = c .before .before .before .before .before .before .before in
-    let a = l .before .before .before .before .args in
+    let a = l .before .before .before .args in
     let w = workedOn (a .t1) (a .sheet .now) (a .at) (a .n) in
     count w (a .d * 1440) + (l .loop .sum + c .before .before .before .before .regular-work .result + c .day-rank .result)
     ≡ count w ((c .before .before .before .before .before .next-own .result + 1) * 1440)
 added c =
     let l = c .before .before .before .before .before .before .before in
-    let s = l .before .before .before .before in
+    let s = l .before .before .before in
     let a = s .args in
     let h = hoursOn (a .t1) (a .sheet .now) (a .at) (a .n) in
     let x = c .before .before .before .before .before .next-own .result in
@@ -118,7 +112,7 @@ added c =
 
 add-sum-2 : tie.Need-add-sum-2 Inv-loop μ-loop
 add-sum-2 c =
-    let a = c .before .before .before .before .before .before .before .before .before .before .before .args in
+    let a = c .before .before .before .before .before .before .before .before .before .before .args in
     let x = c .before .before .before .before .before .next-own .result in
     omega (arith, added c, passed (c .before .before .before .before) .1, count-le (workedOn (a .t1) (a .sheet .now) (a .at) (a .n)) ((x + 1) * 1440))
 
@@ -135,15 +129,14 @@ loop-again : tie.Need-loop-again Inv-loop μ-loop
 loop-again c =
     let l = c .before .before .before .before .before .before .before .before in
     let o = c .before .before .before .before .before .before .next-own .ensures in
-    (omega (arith, o .from, l .loop .inv .0), omega (arith, o .to, c .before .before .before .before .if2 .left), c .before .before .hours-from .ensures .1, l .loop .inv .3, added (c .before))
+    (omega (arith, o .from, l .loop .inv .0), omega (arith, o .to, c .before .before .before .before .if1 .left), c .before .before .hours-from .ensures .1, l .loop .inv .3, added (c .before))
 
-returns-3 : tie.Need-returns-3 Inv-loop μ-loop
-returns-3 c =
+returns-2 : tie.Need-returns-2 Inv-loop μ-loop
+returns-2 c =
     let l = c .before in
-    let a = l .before .before .before .before .args in
-    let w = workedOn (a .t1) (a .sheet .now) (a .at) (a .n) in
-    let e : count w (l .loop .i * 1440) ≡ count w (a .e * 1440) = ap (λ k. count w (k * 1440)) (omega arith) in
-    (omega (arith, e, l .loop .inv .4), omega (arith, l .loop .inv .4, count-le w (l .loop .i * 1440)))
+    let a = l .before .before .before .args in
+    let g : l .loop .i ≡ a .e = omega arith in
+    (rw g at (l .loop .inv .4), omega (arith, l .loop .inv .4, count-le (workedOn (a .t1) (a .sheet .now) (a .at) (a .n)) (l .loop .i * 1440)), rw g at (l .loop .inv .2))
 
 pub days-work-spec : {M : Type 1} → statement M
 days-work-spec =
@@ -151,13 +144,12 @@ days-work-spec =
     (tie.spec
     Inv-loop
     μ-loop
-    returns
     sums-of-requires
     loop-holds
     next-own-requires
     regular-work-requires
     add-sum
-    returns-2
+    returns
     add-row
     mul-row
     array-copy-out-row
@@ -168,4 +160,4 @@ days-work-spec =
     add-j
     loop-less
     loop-again
-    returns-3)
+    returns-2)

@@ -11,7 +11,7 @@ use mir.Facts.{toZ-pos}
 use Rattle.worktime.specs.declared.Work.the-variants.{Minutes}
 use Rattle.date.specs.Years.{years-before, years-after, years-within}
 use Rattle.worktime.specs.Between.{worked-before-out, worked-before-at}
-use Rattle.clock.specs.Days.{hand-rank, count-time}
+use Rattle.clock.specs.Days.{hand-time}
 use borrow.Author.Needs.{needs}
 use Rattle.clock.proofs.worked_before.Statement.{statement}
 use Rattle.clock.proofs.worked_before.Tie as tie
@@ -45,10 +45,9 @@ returns-3 c =
     let s = c .before .before .before .before .before .before in
     let a = s .args in
     let h = hoursOn (a .t1) (a .sheet .now) (a .at) (a .n) in
-    let d = a .t / 1440 in
-    let r = hand-rank h d (s .pre .ordered d) _ (c .before .hours-on .ensures .is (a .t1) refl) (a .t % 1440) _ (omega arith) (c .day-rank .ensures .0) in
+    let r = hand-time h (a .t) (s .pre .ordered (a .t / 1440)) _ (c .before .hours-on .ensures .is (a .t1) refl) _ (c .day-rank .ensures .0) in
     ap Minutes (toZ-pos w64 {n = c .day-rank .result} (omega (arith, c .day-rank .ensures .1)))
-    ∙ sym (worked-before-at (worked h) (a .t) _ (years-within _ (omega arith) (omega arith)) (omega (arith, r, count-time (worked h) (a .t))))
+    ∙ sym (worked-before-at (worked h) (a .t) _ (years-within _ (omega arith) (omega arith)) (omega (arith, r)))
 
 pub worked-before-spec : {M : Type 1} → statement M
 worked-before-spec =
