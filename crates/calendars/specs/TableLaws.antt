@@ -1,4 +1,4 @@
--- The tables of the calendars as they are filled: the places and the day lengths of those found so far.
+-- The tables of the calendars as they are filled: the places, the weeks and the day lengths of those found so far.
 use mathlib.Core.Path.{_≡_, refl, sym, ap, _∙_}
 use mathlib.Core.List.{List}
 use Prim.Native.Nat.{ℕ, _+_, _*_, _≤_, _<_}
@@ -8,60 +8,24 @@ use borrow.Author.Count.{below-more}
 use borrow.Author.Tests.{lt-ltb, le-ltb}
 use lib.Dec.{ltb}
 use lib.ListN.{length, getD, set, length-set}
-use lib.Seq.{getD-set-same, getD-set-other}
+use lib.Seq.{getD-set-same}
 use mathlib.Core.Logic.{⊎-elim}
 use Rattle.number.specs.Order.{lt-or-le}
 use Rattle.worktime.specs.Reads.{on-true, on-false}
 use Rattle.project.specs.Records.{dayLengthAt}
 use Rattle.project.specs.RecordLaws.{day-length-in}
 use Rattle.sheet.specs.declared.Contents.{Contents}
+use Rattle.calendar.specs.declared.Period.{Period}
+use Rattle.calendar.specs.Records.{weekOf}
+use Rattle.calendar.specs.WeekLaws.{week-length, week-row-length}
 use Rattle.sheet.specs.declared.Place.{Place}
-use Rattle.sheet.specs.Known.{SheetRead}
-use Rattle.sheet.specs.Places.{weeksAt, weekCount, exceptionsAt, exceptionCount, nextCalendar, placeAt, calendarAt}
+use Rattle.sheet.specs.Known.{CalendarRead, SheetRead}
+use Rattle.sheet.specs.Places.{weeksAt, weekCount, exceptionsAt, exceptionCount, nextCalendar, placeAt, calendarAt, weekAt}
 use Rattle.order.specs.Plan.{planOf, dayLengthOfCalendar}
-use Rattle.calendars.specs.Calendars.{Places, Lengths}
-use Rattle.calendars.specs.Tables.{placed, Located}
-
-earlier : (l : List ℕ) (i j a : ℕ) → j < i → getD (set l i a) j 0 ≡ getD l j 0
-earlier l i j a h = getD-set-other l i j a 0 (λ e. omega arith)
-
-module _ (xs : List ℕ) (k from : ℕ) (place : Place) where
-  abbrev first : List ℕ
-  first = set xs (4 * k) from
-
-  abbrev second : List ℕ
-  second = set first (4 * k + 1) (place .weeks)
-
-  abbrev third : List ℕ
-  third = set second (4 * k + 2) (place .at)
-
-  pub placed-length : length (placed xs k from place) ≡ length xs
-  placed-length = simp length-set
-
-  pub placed-before : (j : ℕ) → j < 4 * k → getD (placed xs k from place) j 0 ≡ getD xs j 0
-  placed-before j l =
-      earlier third (4 * k + 3) j (place .exceptions) (omega arith) ∙ earlier second (4 * k + 2) j (place .at) (omega arith)
-      ∙ earlier first (4 * k + 1) j (place .weeks) (omega arith) ∙ earlier xs (4 * k) j from l
-
-  module _ (fits : 4 * k + 4 ≤ length xs) where
-    pub placed-weeks-at : getD (placed xs k from place) (4 * k) 0 ≡ from
-    placed-weeks-at =
-        earlier third (4 * k + 3) (4 * k) (place .exceptions) (omega arith) ∙ earlier second (4 * k + 2) (4 * k) (place .at) (omega arith)
-        ∙ earlier first (4 * k + 1) (4 * k) (place .weeks) (omega arith) ∙ getD-set-same xs (4 * k) from 0 (omega arith)
-
-    pub placed-weeks : getD (placed xs k from place) (4 * k + 1) 0 ≡ place .weeks
-    placed-weeks =
-        earlier third (4 * k + 3) (4 * k + 1) (place .exceptions) (omega arith)
-        ∙ earlier second (4 * k + 2) (4 * k + 1) (place .at) (omega arith)
-        ∙ getD-set-same first (4 * k + 1) (place .weeks) 0 (simp length-set (omega arith))
-
-    pub placed-at : getD (placed xs k from place) (4 * k + 2) 0 ≡ place .at
-    placed-at =
-        earlier third (4 * k + 3) (4 * k + 2) (place .exceptions) (omega arith)
-        ∙ getD-set-same second (4 * k + 2) (place .at) 0 (simp length-set (omega arith))
-
-    pub placed-exceptions : getD (placed xs k from place) (4 * k + 3) 0 ≡ place .exceptions
-    placed-exceptions = getD-set-same third (4 * k + 3) (place .exceptions) 0 (simp length-set (omega arith))
+use Rattle.calendars.specs.Packed.{weekIn}
+use Rattle.calendars.specs.PackedLaws.{earlier, week-held, week-same}
+use Rattle.calendars.specs.Calendars.{Located, Lengths}
+use Rattle.calendars.specs.Tables.{WeekPut, CalendarPut}
 
 -- ---- where the next calendar stands
 pub calendar-first : (s : List ℕ) → 21 ≡ calendarAt s 0
@@ -72,32 +36,54 @@ pub calendar-next : (s : List ℕ) (k at : ℕ) (place : Place) → at ≡ calen
 unfolding calendarAt placeAt
 calendar-next s k at place e f = rw add-one (ap (λ (q : Place). q .next) f ∙ ap (nextCalendar s) e)
 
--- ---- the places
+pub place-weeks : (s : List ℕ) (at : ℕ) (place : Place) → place ≡ placeAt s at → place .weeks ≡ weekCount s at
+unfolding placeAt
+place-weeks s at place e = ap (λ (q : Place). q .weeks) e
+
+-- ---- the table
+-- a calendar's two numbers are set, and then its week is put
+pub calendar-put : (xs : List ℕ) (k : ℕ) (place : Place) (week : List (List Period)) (ys : List ℕ)
+    → WeekPut (set (set xs (30 * k) (place .at)) (30 * k + 1) (place .exceptions)) (30 * k + 2) week ys → 30 * k + 30 ≤ length xs
+    → CalendarPut xs k place week ys
+calendar-put xs k place week ys P l = record {
+  size = P .size ∙ simp length-set;
+  before = λ j m. P .before j (omega arith) ∙ earlier one (30 * k + 1) j (place .exceptions) (omega arith) ∙ earlier xs (30 * k) j (place .at) m;
+  at-is = P .before (30 * k) (omega arith) ∙ earlier one (30 * k + 1) (30 * k) (place .exceptions) (omega arith) ∙ getD-set-same xs (30 * k) (place .at) 0 (omega arith);
+  exceptions-is = P .before (30 * k + 1) (omega arith) ∙ getD-set-same one (30 * k + 1) (place .exceptions) 0 (simp length-set (omega arith));
+  holds = P .holds;
+}
+  where
+    one : List ℕ
+    one = set xs (30 * k) (place .at)
+
 pub located-none : (s places : List ℕ) → Located s 0 places
 located-none s places =
-    record { weeks-at = λ k l. absurd (omega arith); weeks = λ k l. absurd (omega arith); exceptions-at = λ k l. absurd (omega arith); exceptions = λ k l. absurd (omega arith) }
+    record { size = omega arith; exceptions-at = λ k l. absurd (omega arith); exceptions = λ k l. absurd (omega arith); week = λ k l. absurd (omega arith) }
 
-module _ {s : List ℕ} {n : ℕ} {xs : List ℕ} (L : Located s n xs) (fits : 4 * n + 4 ≤ length xs) (at : ℕ) (here : at ≡ calendarAt s n) (place : Place) (is : place ≡ placeAt s at) where
-  pub located-more : Located s (n + 1) (placed xs n (at + 3) place)
+module _ {s : List ℕ} {n : ℕ} {xs ys : List ℕ} {place : Place} {week : List (List Period)} (L : Located s n xs) (P : CalendarPut xs n place week ys)
+    (at : ℕ) (here : at ≡ calendarAt s n) (is : place ≡ placeAt s at) (week-is : week ≡ weekOf s (weeksAt at) (weekCount s at)) (read : CalendarRead s at) where
+  put-week : weekIn ys (30 * n + 2) ≡ weekAt s (calendarAt s n)
+  unfolding weekAt
+  put-week =
+      week-held ys (30 * n + 2) week (P .holds) (ap length week-is ∙ week-length s (weeksAt at) (weekCount s at))
+      (λ r l. rw week-is (week-row-length s (weeksAt at) (weekCount s at) r l (read .weeks-few r)))
+      ∙ week-is
+      ∙ ap (weekAt s) here
+
+  pub located-more : 30 * n + 30 ≤ length xs → Located s (n + 1) ys
   unfolding placeAt
-  located-more = record {
-    weeks-at = below-more (λ k. getD (placed xs n (at + 3) place) (4 * k) 0 ≡ weeksAt (calendarAt s k)) n
-        (λ k l. placed-before xs n (at + 3) place (4 * k) (omega arith) ∙ L .weeks-at k l)
-        (placed-weeks-at xs n (at + 3) place fits ∙ ap weeksAt here);
-    weeks = below-more (λ k. getD (placed xs n (at + 3) place) (4 * k + 1) 0 ≡ weekCount s (calendarAt s k)) n
-        (λ k l. placed-before xs n (at + 3) place (4 * k + 1) (omega arith) ∙ L .weeks k l)
-        (placed-weeks xs n (at + 3) place fits ∙ ap (λ (q : Place). q .weeks) is ∙ ap (weekCount s) here);
-    exceptions-at = below-more (λ k. getD (placed xs n (at + 3) place) (4 * k + 2) 0 ≡ exceptionsAt s (calendarAt s k)) n
-        (λ k l. placed-before xs n (at + 3) place (4 * k + 2) (omega arith) ∙ L .exceptions-at k l)
-        (placed-at xs n (at + 3) place fits ∙ ap (λ (q : Place). q .at) is ∙ ap (exceptionsAt s) here);
-    exceptions = below-more (λ k. getD (placed xs n (at + 3) place) (4 * k + 3) 0 ≡ exceptionCount s (calendarAt s k)) n
-        (λ k l. placed-before xs n (at + 3) place (4 * k + 3) (omega arith) ∙ L .exceptions k l)
-        (placed-exceptions xs n (at + 3) place fits ∙ ap (λ (q : Place). q .exceptions) is ∙ ap (exceptionCount s) here);
+  located-more fits = record {
+    size = omega (arith, P .size);
+    exceptions-at = below-more (λ k. getD ys (30 * k) 0 ≡ exceptionsAt s (calendarAt s k)) n
+        (λ k l. P .before (30 * k) (omega arith) ∙ L .exceptions-at k l)
+        (P .at-is ∙ ap (λ (q : Place). q .at) is ∙ ap (exceptionsAt s) here);
+    exceptions = below-more (λ k. getD ys (30 * k + 1) 0 ≡ exceptionCount s (calendarAt s k)) n
+        (λ k l. P .before (30 * k + 1) (omega arith) ∙ L .exceptions k l)
+        (P .exceptions-is ∙ ap (λ (q : Place). q .exceptions) is ∙ ap (exceptionCount s) here);
+    week = below-more (λ k. weekIn ys (30 * k + 2) ≡ weekAt s (calendarAt s k)) n
+        (λ k l. week-same xs ys (30 * n) (P .before) (30 * k + 2) (omega arith) ∙ L .week k l)
+        put-week;
   }
-
-pub located-all : {s : List ℕ} {c : Contents} {places : List ℕ} → Located s (c .calendars) places → 4 * c .calendars ≤ length places → Places s c places
-located-all L size =
-    record { size = size; weeks-at = L .weeks-at; weeks = L .weeks; exceptions-at = L .exceptions-at; exceptions = L .exceptions }
 
 -- ---- the day lengths
 abbrev pub Measured : List ℕ → ℕ → List ℕ → Type 0

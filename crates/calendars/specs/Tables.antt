@@ -1,19 +1,22 @@
--- The tables of the calendars as they are filled.
+-- The table of the calendars as it is filled.
 use mathlib.Core.Path.{_≡_}
 use mathlib.Core.List.{List}
 use Prim.Native.Nat.{ℕ, _+_, _*_, _<_}
-use lib.ListN.{getD, set}
+use lib.ListN.{length, getD}
+use Rattle.calendar.specs.declared.Period.{Period}
 use Rattle.sheet.specs.declared.Place.{Place}
-use Rattle.sheet.specs.Places.{weeksAt, weekCount, exceptionsAt, exceptionCount, calendarAt}
+use Rattle.calendars.specs.Packed.{Holds}
 
--- the table with the four numbers of calendar k, whose W records begin at `from`
-abbrev pub placed : List ℕ → ℕ → ℕ → Place → List ℕ
-placed xs k from place =
-    set (set (set (set xs (4 * k) from) (4 * k + 1) (place .weeks)) (4 * k + 2) (place .at)) (4 * k + 3) (place .exceptions)
+-- ys is the table xs with a week put from `at` on, and what stands before is as it was
+pub record WeekPut (xs : List ℕ) (at : ℕ) (week : List (List Period)) (ys : List ℕ) : Type 0 where
+  pub size : length ys ≡ length xs
+  pub before : (j : ℕ) → j < at → getD ys j 0 ≡ getD xs j 0
+  pub holds : (q : ℕ) → q < 28 → Holds ys at week q
 
--- the first n calendars stand in the table
-pub record Located (s : List ℕ) (n : ℕ) (places : List ℕ) : Type 0 where
-  pub weeks-at : (k : ℕ) → k < n → getD places (4 * k) 0 ≡ weeksAt (calendarAt s k)
-  pub weeks : (k : ℕ) → k < n → getD places (4 * k + 1) 0 ≡ weekCount s (calendarAt s k)
-  pub exceptions-at : (k : ℕ) → k < n → getD places (4 * k + 2) 0 ≡ exceptionsAt s (calendarAt s k)
-  pub exceptions : (k : ℕ) → k < n → getD places (4 * k + 3) 0 ≡ exceptionCount s (calendarAt s k)
+-- ys is the table xs with calendar k put, and the calendars before it are as they were
+pub record CalendarPut (xs : List ℕ) (k : ℕ) (place : Place) (week : List (List Period)) (ys : List ℕ) : Type 0 where
+  pub size : length ys ≡ length xs
+  pub before : (j : ℕ) → j < 30 * k → getD ys j 0 ≡ getD xs j 0
+  pub at-is : getD ys (30 * k) 0 ≡ place .at
+  pub exceptions-is : getD ys (30 * k + 1) 0 ≡ place .exceptions
+  pub holds : (q : ℕ) → q < 28 → Holds ys (30 * k + 2) week q

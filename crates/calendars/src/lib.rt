@@ -1,15 +1,16 @@
-// The plan's calendars: where each stands in the sheet, found once a call, and each as a value.
+// The plan's calendars: where each stands in the sheet, and its week, found once a call, and each as a value.
 use calendar::Period;
 use sheet::Contents;
 use sheet::Place;
 ghost use mathlib.Core.Path.{_≡_};
-ghost use Prim.Native.Nat.{_+_, _*_, _≤_};
+ghost use Prim.Native.Nat.{_+_, _*_, _/_, _≤_};
 ghost use lib.ListN.{length};
 ghost use Rattle.sheet.specs.Known.{SheetRead};
 ghost use Rattle.order.specs.Plan.{planOf, weekOfCalendar, exceptionPlace, exceptionNumber};
 ghost use Rattle.order.specs.Checks.{firstOf, judgeCalendar};
 ghost use Rattle.calendars.specs.Calendars.{Places, Lengths, hoursVerdict};
-ghost use Rattle.calendars.specs.Tables.{placed};
+ghost use Rattle.calendars.specs.Packed.{periodIn, rowIn, weekIn};
+ghost use Rattle.calendars.specs.Tables.{WeekPut, CalendarPut};
 
 // A calendar's E records: `n` from the byte `at` of the sheet on.
 pub struct Exceptions {
@@ -17,32 +18,103 @@ pub struct Exceptions {
     pub n: usize,
 }
 
-// Puts where calendar `k` stands into the table of places; its W records begin at `from`.
-fn put_place(places: &mut [u64], k: usize, from: usize, place: Place)
-    requires { ⌜ 4 * k + 4 ≤ length (now places) ⌝ }
-    ensures { λ _. ⌜ now (places .exit) ≡ placed (now (places .entry)) k from place ⌝ }
+// The period in the low half of a number.
+fn period_in(x: u64) -> Period
+    ensures { λ r. ⌜ r ≡ periodIn x ⌝ }
 {
-    places[4 * k] = from as u64;
-    places[4 * k + 1] = place.weeks as u64;
-    places[4 * k + 2] = place.at as u64;
-    places[4 * k + 3] = place.exceptions as u64;
+    Period {
+        from: (x % 65536) as u16,
+        to: (x / 65536 % 65536) as u16,
+    }
 }
 
-// Finds where the calendars stand, and their day lengths.
+// Two periods in one number, the first in its low half.
+fn packed(a: Period, b: Period) -> u64
+    ensures { λ r. ⌜ (periodIn r ≡ a) × (periodIn (r / 4294967296) ≡ b) ⌝ }
+{
+    a.from as u64
+        + 65536 * (a.to as u64)
+        + 4294967296 * (b.from as u64)
+        + 281474976710656 * (b.to as u64)
+}
+
+// Puts a week into the table, from its number `at` on.
+fn put_week(places: &mut [u64], at: usize, week: [[Period; 8]; 7])
+    requires { ⌜ at + 28 ≤ length (now places) ⌝ }
+    ensures { λ _. ⌜ WeekPut (now (places .entry)) at week (now (places .exit)) ⌝ }
+{
+    let mut i: usize = 0;
+    while i < 28 {
+        let row = week[i / 4];
+        let j = 2 * (i % 4);
+        places[at + i] = packed(row[j], row[j + 1]);
+        i += 1;
+    }
+}
+
+// Puts calendar `k` into the table.
+fn put_calendar(places: &mut [u64], k: usize, place: Place, week: [[Period; 8]; 7])
+    requires { ⌜ 30 * k + 30 ≤ length (now places) ⌝ }
+    ensures { λ _. ⌜ CalendarPut (now (places .entry)) k place week (now (places .exit)) ⌝ }
+{
+    places[30 * k] = place.at as u64;
+    places[30 * k + 1] = place.exceptions as u64;
+    put_week(places, 30 * k + 2, week);
+}
+
+// Finds where the calendars stand, their weeks and their day lengths.
 pub fn locate(sheet: &[u8], contents: Contents, places: &mut [u64], lengths: &mut [u64])
-    requires { ⌜ SheetRead (now sheet) contents × (64 ≤ length (now places)) × (16 ≤ length (now lengths)) ⌝ }
+    requires { ⌜ SheetRead (now sheet) contents × (450 ≤ length (now places)) × (16 ≤ length (now lengths)) ⌝ }
     ensures { λ _. ⌜ Places (now (sheet .entry)) contents (now (places .exit)) × Lengths (planOf (now (sheet .entry)) contents) (now (lengths .exit)) ⌝ }
 {
     let mut at: usize = 21;
     let mut k: usize = 0;
     while k < contents.calendars {
         let place = sheet::calendar(sheet, at);
-        put_place(places, k, at + 3, place);
+        let week = calendar::read_week(sheet, at + 3, place.weeks);
+        put_calendar(places, k, place, week);
         lengths[k] = project::records::read_day_length(sheet, at);
         at = place.next;
         k += 1;
     }
     lengths[k] = 1440;
+}
+
+// The row in the four numbers from `at` on.
+fn row_in(places: &[u64], at: usize) -> [Period; 8]
+    requires { ⌜ at + 4 ≤ length (now places) ⌝ }
+    ensures { λ r. ⌜ r ≡ rowIn (now (places .entry)) at ⌝ }
+{
+    let a = places[at];
+    let b = places[at + 1];
+    let c = places[at + 2];
+    let d = places[at + 3];
+    [
+        period_in(a),
+        period_in(a / 4294967296),
+        period_in(b),
+        period_in(b / 4294967296),
+        period_in(c),
+        period_in(c / 4294967296),
+        period_in(d),
+        period_in(d / 4294967296),
+    ]
+}
+
+// The week in the 28 numbers from `at` on.
+fn week_in(places: &[u64], at: usize) -> [[Period; 8]; 7]
+    requires { ⌜ at + 28 ≤ length (now places) ⌝ }
+    ensures { λ r. ⌜ r ≡ weekIn (now (places .entry)) at ⌝ }
+{
+    [
+        row_in(places, at),
+        row_in(places, at + 4),
+        row_in(places, at + 8),
+        row_in(places, at + 12),
+        row_in(places, at + 16),
+        row_in(places, at + 20),
+        row_in(places, at + 24),
+    ]
 }
 
 // The week of calendar `k`: one of the sheet's, or the round-the-clock one after them.
@@ -51,7 +123,7 @@ pub fn week_of(sheet: &[u8], contents: Contents, places: &[u64], k: usize) -> [[
     ensures { λ r. ⌜ r ≡ weekOfCalendar (now (sheet .entry)) contents k ⌝ }
 {
     if k < contents.calendars {
-        return calendar::read_week(sheet, places[4 * k] as usize, places[4 * k + 1] as usize);
+        return week_in(places, 30 * k + 2);
     }
     calendar::round_the_clock()
 }
@@ -63,8 +135,8 @@ pub fn exceptions_of(sheet: &[u8], contents: Contents, places: &[u64], k: usize)
 {
     if k < contents.calendars {
         return Exceptions {
-            at: places[4 * k + 2] as usize,
-            n: places[4 * k + 3] as usize,
+            at: places[30 * k] as usize,
+            n: places[30 * k + 1] as usize,
         };
     }
     Exceptions { at: 0, n: 0 }

@@ -138,7 +138,7 @@ fn check_read(sheet: &[u8], contents: Contents)
         io::write_all(STDOUT_FILENO, b" no room");
         return;
     }
-    let mut places = [0u64; 64];
+    let mut places = [0u64; 450];
     let mut lengths = [0u64; 16];
     calendars::locate(sheet, contents, &mut places, &mut lengths);
     let mut names = [7u32; 128];

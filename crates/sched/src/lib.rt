@@ -191,7 +191,7 @@ fn plan_sheet(
     requires { ⌜ SheetRead (now sheet) contents × (15 * contents .activities ≤ length (now results)) × (max (contents .activities + 1) (contents .links) ≤ length (now names)) × Room (contents .activities) (contents .links) (now work) ⌝ }
     ensures { λ r. ⌜ endedWith r (now (results .exit)) (now (names .exit)) (now (work .exit)) ≡ planned (record { results = now (results .entry); names = now (names .entry); work = now (work .entry) }) (planOf (now (sheet .entry)) contents) ⌝ }
 {
-    let mut places = [0u64; 64];
+    let mut places = [0u64; 450];
     let mut lengths = [0u64; 16];
     calendars::locate(sheet, contents, &mut places, &mut lengths);
     plan_at(sheet, contents, &places, &lengths, results, names, work)

@@ -8,26 +8,23 @@ use Rattle.calendars.proofs.exceptions_of.Tie as tie
 mul-t6 : tie.Need-mul-t6
 mul-t6 c = search needs
 
-add-t7 : tie.Need-add-t7
-add-t7 c = search needs
+mul-t7 : tie.Need-mul-t7
+mul-t7 c = search needs
 
-mul-t8 : tie.Need-mul-t8
-mul-t8 c = search needs
+shared-slice-read-t9 : tie.Need-shared-slice-read-t9
+shared-slice-read-t9 c = search needs
 
-shared-slice-read-t10 : tie.Need-shared-slice-read-t10
-shared-slice-read-t10 c = search needs
+mul-t11 : tie.Need-mul-t11
+mul-t11 c = search needs
 
-mul-t12 : tie.Need-mul-t12
-mul-t12 c = search needs
+add-t12 : tie.Need-add-t12
+add-t12 c = search needs
 
-add-t13 : tie.Need-add-t13
-add-t13 c = search needs
+mul-t13 : tie.Need-mul-t13
+mul-t13 c = search needs
 
-mul-t14 : tie.Need-mul-t14
-mul-t14 c = search needs
-
-shared-slice-read-t16 : tie.Need-shared-slice-read-t16
-shared-slice-read-t16 c = search needs
+shared-slice-read-t15 : tie.Need-shared-slice-read-t15
+shared-slice-read-t15 c = search needs
 
 returns : tie.Need-returns
 returns c =
@@ -50,12 +47,11 @@ exceptions-of-spec =
     tie.close
     (tie.spec
     mul-t6
-    add-t7
-    mul-t8
-    shared-slice-read-t10
-    mul-t12
-    add-t13
-    mul-t14
-    shared-slice-read-t16
+    mul-t7
+    shared-slice-read-t9
+    mul-t11
+    add-t12
+    mul-t13
+    shared-slice-read-t15
     returns
     returns-2)

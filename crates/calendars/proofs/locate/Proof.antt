@@ -4,8 +4,8 @@ use Prim.Native.Nat.{_+_, _-_, _≤_}
 use native.Mathlib.Omega.{arith}
 use lib.ListN.{length, length-set}
 use Rattle.sheet.specs.Places.{calendarAt}
-use Rattle.calendars.specs.Tables.{Located}
-use Rattle.calendars.specs.TableLaws.{Measured, calendar-first, calendar-next, located-none, located-more, located-all, measured-more, measured-all, placed-length}
+use Rattle.calendars.specs.Calendars.{Located}
+use Rattle.calendars.specs.TableLaws.{Measured, calendar-first, calendar-next, place-weeks, located-none, located-more, measured-more, measured-all}
 use Rattle.calendars.proofs.locate.Statement.{statement}
 use Rattle.calendars.proofs.locate.Tie as tie
 
@@ -27,74 +27,81 @@ calendar-requires c κs =
     let z = b .before .before .before .before in
     rw (b .loop .inv .1) (z .pre .0 .calendar (b .loop .k) (c .if1 .taken))
 
-add-put-place : tie.Need-add-put-place Inv-loop μ-loop
-add-put-place c =
-    let b = c .before .before .before .before in
+add-read-week : tie.Need-add-read-week Inv-loop μ-loop
+add-read-week c =
+    let b = c .before .before .before in
     let z = b .before .before .before .before in
-    let l = c .before .before .if1 .taken in
+    let l = c .before .if1 .taken in
     let C = z .pre .0 .calendar (b .loop .k) l in
     omega (arith, b .loop .inv .1, C .within)
 
-put-place-requires : tie.Need-put-place-requires Inv-loop μ-loop
-put-place-requires c κs =
-    let b = c .before .before .before .before in
+read-week-requires : tie.Need-read-week-requires Inv-loop μ-loop
+read-week-requires c κs =
+    let b = c .before .before .before in
     let z = b .before .before .before .before in
-    let l = c .before .before .if1 .taken in
+    let l = c .before .if1 .taken in
     let C = z .pre .0 .calendar (b .loop .k) l in
+    let e = place-weeks (z .args .sheet .now) (b .loop .at) (c .calendar .result) (c .calendar .ensures) in
+    rw (e, b .loop .inv .1) (C .weeks-within, λ d m. C .weeks-few d)
+
+put-calendar-requires : tie.Need-put-calendar-requires Inv-loop μ-loop
+put-calendar-requires c κs =
+    let b = c .before .before .before .before .before in
+    let z = b .before .before .before .before in
+    let l = c .before .before .before .if1 .taken in
     omega (arith, z .pre .0 .calendars-few, z .pre .1, b .loop .inv .2)
 
 read-day-length-requires : tie.Need-read-day-length-requires Inv-loop μ-loop
 read-day-length-requires c κs =
-    let b = c .before .before .before .before .before .before .before in
+    let b = c .before .before .before .before .before .before .before .before in
     let z = b .before .before .before .before in
-    let l = c .before .before .before .before .before .if1 .taken in
+    let l = c .before .before .before .before .before .before .if1 .taken in
     let C = z .pre .0 .calendar (b .loop .k) l in
     omega (arith, b .loop .inv .1, C .within)
 
 mul-lengths : tie.Need-mul-lengths Inv-loop μ-loop
 mul-lengths c =
-    let b = c .before .before .before .before .before .before .before .before in
+    let b = c .before .before .before .before .before .before .before .before .before in
     let z = b .before .before .before .before in
-    let l = c .before .before .before .before .before .before .if1 .taken in
-    let C = z .pre .0 .calendar (b .loop .k) l in
+    let l = c .before .before .before .before .before .before .before .if1 .taken in
     omega (arith, z .pre .0 .calendars-few, l)
 
 slice-write-lengths : tie.Need-slice-write-lengths Inv-loop μ-loop
 slice-write-lengths c =
-    let b = c .before .before .before .before .before .before .before .before in
+    let b = c .before .before .before .before .before .before .before .before .before in
     let z = b .before .before .before .before in
-    let l = c .before .before .before .before .before .before .if1 .taken in
-    let C = z .pre .0 .calendar (b .loop .k) l in
+    let l = c .before .before .before .before .before .before .before .if1 .taken in
     omega (arith, z .pre .0 .calendars-few, z .pre .2, b .loop .inv .3, l)
 
 add-k : tie.Need-add-k Inv-loop μ-loop
 add-k c =
-    let b = c .before .before .before .before .before .before .before .before in
+    let b = c .before .before .before .before .before .before .before .before .before in
     let z = b .before .before .before .before in
-    let l = c .before .before .before .before .before .before .if1 .taken in
-    let C = z .pre .0 .calendar (b .loop .k) l in
+    let l = c .before .before .before .before .before .before .before .if1 .taken in
     omega (arith, z .pre .0 .calendars-few, l)
 
 loop-less : tie.Need-loop-less Inv-loop μ-loop
-loop-less c =
-    let b = c .before .before .before .before .before .before .before .before in
-    let z = b .before .before .before .before in
-    let l = c .before .before .before .before .before .before .if1 .taken in
-    let C = z .pre .0 .calendar (b .loop .k) l in
-    omega (arith, l)
+loop-less c = omega (arith, c .before .before .before .before .before .before .before .if1 .taken)
 
 loop-again : tie.Need-loop-again Inv-loop μ-loop
 loop-again c =
-    let b = c .before .before .before .before .before .before .before .before in
+    let b = c .before .before .before .before .before .before .before .before .before in
     let z = b .before .before .before .before in
-    let l = c .before .before .before .before .before .before .if1 .taken in
+    let l = c .before .before .before .before .before .before .before .if1 .taken in
     let C = z .pre .0 .calendar (b .loop .k) l in
     let s = z .args .sheet .now in
     let v = b .loop .inv in
-    let q = c .before .before .before .before .before .calendar in
-    let place = q .result in
-    let put = c .before .before .before .put-place .ensures in
-    (omega (arith, l), calendar-next s (b .loop .k) (b .loop .at) place (v .1) (q .ensures), ap length put ∙ placed-length (b .loop .places) (b .loop .k) (b .loop .at + 3) place ∙ v .2, simp length-set (v .3), rw put (located-more (v .4) (omega (arith, z .pre .0 .calendars-few, z .pre .1, v .2, l)) (b .loop .at) (v .1) place (q .ensures)), measured-more s (b .loop .k) (b .loop .lengths) (v .5) (omega (arith, z .pre .0 .calendars-few, z .pre .2, v .3, l)) (b .loop .at) (v .1) (c .read-day-length .result) (c .read-day-length .ensures .0))
+    let q = c .before .before .before .before .before .before .calendar in
+    let w = c .before .before .before .before .before .read-week in
+    let put = c .before .before .before .put-calendar .ensures in
+    let e = place-weeks s (b .loop .at) (q .result) (q .ensures) in (
+      omega (arith, l),
+      calendar-next s (b .loop .k) (b .loop .at) (q .result) (v .1) (q .ensures),
+      put .size ∙ v .2,
+      simp length-set (v .3),
+      located-more (v .4) put (b .loop .at) (v .1) (q .ensures) (rw e at (w .ensures)) (rw (v .1) C) (omega (arith, z .pre .0 .calendars-few, z .pre .1, v .2, l)),
+      measured-more s (b .loop .k) (b .loop .lengths) (v .5) (omega (arith, z .pre .0 .calendars-few, z .pre .2, v .3, l)) (b .loop .at) (v .1) (c .read-day-length .result) (c .read-day-length .ensures .0),
+    )
 
 mul-lengths-2 : tie.Need-mul-lengths-2 Inv-loop μ-loop
 mul-lengths-2 c =
@@ -121,7 +128,7 @@ returns c =
     let x = z .args in
     let v = b .loop .inv in
     let e : b .loop .k ≡ x .contents .calendars = omega (arith, v .0, c .if1 .left) in
-    (located-all (rw e at (v .4)) (omega (arith, z .pre .0 .calendars-few, z .pre .1, v .2)), rw e (measured-all (x .sheet .now) (x .contents) (z .pre .0) (b .loop .lengths) (rw e at (v .5)) (omega (arith, z .pre .0 .calendars-few, z .pre .2, v .3))))
+    (rw e at (v .4), rw e (measured-all (x .sheet .now) (x .contents) (z .pre .0) (b .loop .lengths) (rw e at (v .5)) (omega (arith, z .pre .0 .calendars-few, z .pre .2, v .3))))
 
 pub locate-spec : {M : Type 1} → statement M
 locate-spec =
@@ -131,8 +138,9 @@ locate-spec =
     μ-loop
     loop-holds
     calendar-requires
-    add-put-place
-    put-place-requires
+    add-read-week
+    read-week-requires
+    put-calendar-requires
     read-day-length-requires
     mul-lengths
     slice-write-lengths
