@@ -29,7 +29,7 @@ pub record Located (s : List ℕ) (n : ℕ) (places : List ℕ) : Type 0 where
   pub exceptions : (k : ℕ) → k < n → getD places (30 * k + 1) 0 ≡ exceptionCount s (calendarAt s k)
   pub week : (k : ℕ) → k < n → weekIn places (30 * k + 2) ≡ weekAt s (calendarAt s k)
 
--- all of them
+-- all calendars of the sheet stand there
 abbrev pub Places : List ℕ → Contents → List ℕ → Type 0
 Places s c places = Located s (c .calendars) places
 

@@ -1,4 +1,4 @@
-// The plan's calendars: where each stands in the sheet, and its week, found once a call, and each as a value.
+// The plan's calendars: where each stands in the sheet and what its week is, found once a call; and each as a value.
 use calendar::Period;
 use sheet::Contents;
 use sheet::Place;

@@ -1,6 +1,6 @@
 -- `calendars::locate` meets its contract: the calendars before k stand in both tables, and calendar k stands at `at`.
-use mathlib.Core.Path.{_≡_, refl, ap, _∙_}
-use Prim.Native.Nat.{_+_, _-_, _≤_}
+use mathlib.Core.Path.{_≡_, refl, _∙_}
+use Prim.Native.Nat.{_-_, _≤_}
 use native.Mathlib.Omega.{arith}
 use lib.ListN.{length, length-set}
 use Rattle.sheet.specs.Places.{calendarAt}

@@ -1,5 +1,4 @@
 -- `calendars::put_calendar` meets its contract: the week comes after the two numbers, and leaves them.
-use mathlib.Core.Path.{_≡_, _∙_}
 use native.Mathlib.Omega.{arith}
 use lib.ListN.{length-set}
 use Rattle.calendars.specs.TableLaws.{calendar-put}

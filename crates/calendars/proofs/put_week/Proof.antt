@@ -1,8 +1,7 @@
 -- `calendars::put_week` meets its contract: the numbers before i hold their periods, and what stands before them is as it was.
-use mathlib.Core.Path.{_≡_, refl, sym, _∙_}
-use Prim.Native.Nat.{ℕ, _+_, _*_, _/_, _%_, _-_, _≤_, _<_}
+use mathlib.Core.Path.{_≡_, refl, _∙_}
+use Prim.Native.Nat.{ℕ, _+_, _-_, _≤_, _<_}
 use native.Mathlib.Omega.{arith}
-use borrow.Author.Needs.{needs}
 use lib.ListN.{length, getD, length-set}
 use Rattle.calendars.specs.Packed.{Holds}
 use Rattle.calendars.specs.PackedLaws.{earlier, holds-more}
