@@ -278,7 +278,7 @@ pub fn worked_before(week: [[Period; 8]; 7], sheet: &[u8], at: usize, n: usize, 
     Work::Minutes(calendar::day_rank(hours, sheet, m) as i64)
 }
 
-// The minutes of days in a row, and the first E record whose day comes after them.
+// The minutes of days in a row, and the first E record whose day is after them.
 struct Days {
     minutes: u64,
     to: usize,

@@ -75,7 +75,7 @@ fn lesser(a: u64, b: u64) -> u64
     if a < b { a } else { b }
 }
 
-// As many whole weeks of so many minutes within `days` days as have fewer than `left` minutes. None where a week has no minutes.
+// As many whole weeks of `minutes` each, within `days` days, as have fewer than `left` minutes together. None where a week has no minutes.
 fn whole_weeks(minutes: u64, days: u64, left: u64) -> Jump
     requires { ⌜ 0 < left ⌝ }
     ensures { λ r. ⌜ Fits minutes days left (r .weeks) (r .minutes) ⌝ }
