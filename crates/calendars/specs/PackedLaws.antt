@@ -65,8 +65,8 @@ module _ (a b : Period) (from-a : a .from < 65536) (to-a : a .to < 65536) (from-
 module _ (xs : List ℕ) (at : ℕ) (week : List (List Period)) where
   -- another number is put
   pub holds-more : (n v : ℕ) → at + n < length xs → ((q : ℕ) → q < n → Holds xs at week q)
-      → periodIn v ≡ getD (getD week (n / 4) []) (2 * (n % 4)) none
-      → periodIn (v / 4294967296) ≡ getD (getD week (n / 4) []) (2 * (n % 4) + 1) none
+      → periodIn v ≡ getD (getD week (n / 4) []) (n % 4) none
+      → periodIn (v / 4294967296) ≡ getD (getD week (n / 4) []) (n % 4 + 4) none
       → (q : ℕ) → q < n + 1 → Holds (set xs (at + n) v) at week q
   holds-more n v l H low high =
       below-more (Holds (set xs (at + n) v) at week) n (λ q m. rw (earlier xs (at + n) (at + q) v (omega arith)) (H q m))
@@ -74,13 +74,13 @@ module _ (xs : List ℕ) (at : ℕ) (week : List (List Period)) where
 
   -- all 28 stand there
   module _ (H : (q : ℕ) → q < 28 → Holds xs at week q) where
-    low : (r i j : ℕ) → i ≡ at + (4 * r + j) → r < 7 → j < 4 → periodIn (getD xs i 0) ≡ getD (getD week r []) (2 * j) none
+    low : (r i j : ℕ) → i ≡ at + (4 * r + j) → r < 7 → j < 4 → periodIn (getD xs i 0) ≡ getD (getD week r []) j none
     low r i j e l m =
         let f : (4 * r + j) / 4 ≡ r = omega arith in
         let g : (4 * r + j) % 4 ≡ j = omega arith in
         rw e (rw (f, g) at (H (4 * r + j) (omega arith) .0))
 
-    high : (r i j : ℕ) → i ≡ at + (4 * r + j) → r < 7 → j < 4 → periodIn (getD xs i 0 / 4294967296) ≡ getD (getD week r []) (2 * j + 1) none
+    high : (r i j : ℕ) → i ≡ at + (4 * r + j) → r < 7 → j < 4 → periodIn (getD xs i 0 / 4294967296) ≡ getD (getD week r []) (j + 4) none
     high r i j e l m =
         let f : (4 * r + j) / 4 ≡ r = omega arith in
         let g : (4 * r + j) % 4 ≡ j = omega arith in
@@ -97,7 +97,7 @@ module _ (xs : List ℕ) (at : ℕ) (week : List (List Period)) where
         let h2 = high r (b + 2) 2 (omega arith) l (omega arith) in
         let l3 = low r (b + 3) 3 (omega arith) l (omega arith) in
         let h3 = high r (b + 3) 3 (omega arith) l (omega arith) in
-        (λ i. l0 i ∷ h0 i ∷ l1 i ∷ h1 i ∷ l2 i ∷ h2 i ∷ l3 i ∷ h3 i ∷ []) ∙ sym (eight (getD week r []) m)
+        (λ i. l0 i ∷ l1 i ∷ l2 i ∷ l3 i ∷ h0 i ∷ h1 i ∷ h2 i ∷ h3 i ∷ []) ∙ sym (eight (getD week r []) m)
 
     pub week-held : length week ≡ 7 → ((r : ℕ) → r < 7 → length (getD week r []) ≡ 8) → weekIn xs at ≡ week
     unfolding weekIn

@@ -24,9 +24,6 @@ mul-row c = omega arith
 array-copy-out-row : tie.Need-array-copy-out-row Inv-loop μ-loop
 array-copy-out-row c = omega arith
 
-mul-j : tie.Need-mul-j Inv-loop μ-loop
-mul-j c = omega arith
-
 mul-packed : tie.Need-mul-packed Inv-loop μ-loop
 mul-packed c = omega arith
 
@@ -87,7 +84,6 @@ put-week-spec =
     loop-holds
     mul-row
     array-copy-out-row
-    mul-j
     mul-packed
     array-copy-out-packed
     add-packed
