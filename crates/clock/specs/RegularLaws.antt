@@ -46,6 +46,11 @@ module _ (ss : List ℕ) (d e : ℕ) (up : Rising ss) (l : d ≤ e) where
   unfolding regular
   between-regular = omega (arith, weeks-between, between-low)
 
+-- no day has more than 1,440 minutes
+pub regular-small : (ss : List ℕ) (d : ℕ) → Rising ss → regular ss d ≤ 1440 * d + 20160
+unfolding regular
+regular-small ss d up = omega (arith, mul-le-mul-right ((d + 1) / 7) (up .1), up .0 (weekday d) 7 (omega arith) (omega arith), up .1)
+
 -- whole weeks by multiplication
 pub regular-weeks : (ss : List ℕ) (d e q : ℕ) → d + 7 * q ≡ e → regular ss e ≡ regular ss d + q * getD ss 7 0
 unfolding regular

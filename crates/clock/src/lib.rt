@@ -298,12 +298,11 @@ fn days_work(
     ensures { λ r. ⌜ (count (workedOn week (now (sheet .entry)) at n) (d * 1440) + r .minutes ≡ count (workedOn week (now (sheet .entry)) at n) (e * 1440)) × (r .minutes ≤ 6184752906240) × FirstFrom (now (sheet .entry)) at n e (r .to) ⌝ }
 {
     let sums = weeks::sums_of(week);
-    let mut sum: u64 = 0;
+    let mut sum = weeks::regular_work(sums, d, e);
     let mut i = d;
     let mut j = from;
     while i < e {
         let next = weeks::next_own(sheet, at, n, i, e, j);
-        sum += weeks::regular_work(sums, i, next);
         if next == e {
             return Days {
                 minutes: sum,
@@ -312,7 +311,7 @@ fn days_work(
         }
         let row = week[((next + 1) % 7) as usize];
         let hours = calendar::hours_from(row, sheet, at, n, next, j);
-        sum += calendar::day_rank(hours, sheet, 1440);
+        sum = sum + calendar::day_rank(hours, sheet, 1440) - weeks::weekday_work(sums, next);
         i = next + 1;
         j += hours.n;
     }
