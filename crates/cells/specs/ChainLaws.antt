@@ -1,12 +1,23 @@
 -- How chains are built from the last index to the first, and the turns of a walk along one.
 use mathlib.Core.Path.{_≡_, refl, sym, ap, _∙_}
+use mathlib.Core.Bool.{true, false}
 use mathlib.Core.Logic.{_≢_, ⊎-elim}
 use mathlib.Core.List.{List, [], _∷_}
-use Prim.Native.Nat.{ℕ, suc, _+_, _-_, _≤_, _<_}
+use Prim.Native.Nat.{ℕ, zero, suc, _+_, _-_, _≤_, _<_}
 use native.Mathlib.Omega.{arith}
 use borrow.Author.Tests.{eq-eqb, ne-eqb}
+use lib.Dec.{eqb}
 use Rattle.number.specs.Order.{eq-or-ne}
 use Rattle.cells.specs.Chain.{keyed, after, Stands, Chained, gather}
+
+-- ---- only the keys of the indices that are asked are read
+pub keyed-same : (f g : ℕ → ℕ) (i n k : ℕ) → ((j : ℕ) → j < k + n → f j ≡ g j) → keyed f i n k ≡ keyed g i n k
+unfolding keyed
+keyed-same f g i zero k h = refl
+keyed-same f g i (suc n) k h =
+    let e : f k ≡ g k = h k (omega arith) in
+    let d : keyed f i n (k + 1) ≡ keyed g i n (k + 1) = keyed-same f g i n (k + 1) (λ j b. h j (omega arith)) in
+    λ z. elim (eqb (e z) i) [ true ↦ k ∷ d z | false ↦ d z ]
 
 module _ (key : ℕ → ℕ) (l i : ℕ) where
   pub after-end : (k : ℕ) → l ≤ k → after key l i k ≡ []

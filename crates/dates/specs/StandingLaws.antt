@@ -1,24 +1,22 @@
--- What stands for the passes stays under their frames; the chains list the links of the definitions; the order as loops take it.
-use mathlib.Core.Path.{_≡_, refl, sym, ap, _∙_, subst}
-use mathlib.Core.Bool.{true, false}
-use mathlib.Core.List.{List, [], _∷_, reverse}
-use Prim.Native.Nat.{ℕ, zero, suc, _+_, _-_, _≤_, _<_}
+-- What stands for the passes stays under their frames; the chains list the links of the definitions.
+use mathlib.Core.Path.{_≡_, refl, sym, ap, _∙_}
+use Prim.Native.Nat.{ℕ, _-_, _≤_, _<_}
 use native.Mathlib.Omega.{arith}
-use lib.Dec.{eqb}
-use lib.ListN.{length, getD}
-use Rattle.cells.specs.Chain.{keyed, after, Chained}
+use lib.ListN.{length}
+use Rattle.cells.specs.Chain.{after}
+use Rattle.cells.specs.ChainLaws.{keyed-same}
 use Rattle.memory.specs.State.{State}
 use Rattle.memory.specs.Fields.{fromField, toField, kindField, lagField, lagCalendarField, firstIn, firstOut, nextInto, nextOut, isSummary, parent, orderAt, recordedAs, recordedStart, recordedFinish}
-use Rattle.topology.specs.Frame.{outside, Frame}
+use Rattle.topology.specs.Frame.{Frame}
 use Rattle.topology.specs.FrameLaws.{outside-below}
 use Rattle.topology.specs.Order.{ChainsIn, ChainsOut}
 use Rattle.network.specs.Outgoing.{incoming, outgoing, fromAt, toAt}
 use Rattle.order.specs.Plan.{Plan}
-use Rattle.order.specs.Ties.{Tie, keptBelow, keptLinks, tieOf}
+use Rattle.order.specs.Ties.{Tie, keptLinks, tieOf}
 use Rattle.network.specs.Links.{Link}
 use Rattle.project.specs.Records.{relationshipTypeOf}
 use Rattle.order.specs.TieLaws.{ends-length, ends-at}
-use Rattle.passes.specs.Plan.{tie, tiesInto, tiesOut}
+use Rattle.passes.specs.Plan.{tiesInto, tiesOut}
 use Rattle.dates.specs.Standing.{tieIn, actualOf, Standing, Recorded}
 
 -- ---- under a frame of the dates' fields
@@ -59,14 +57,6 @@ module _ {lo hi : ℕ} {S T : State} (F : Frame lo hi 0 0 S T) where
     recorded-kept e f g R = λ i b. (λ z. actualOf (e z i) (f z i) (g z i)) ∙ R i b
 
 -- ---- the chains list the definitions' links
-keyed-same : (f g : ℕ → ℕ) (i n k : ℕ) → ((j : ℕ) → k ≤ j → j < k + n → f j ≡ g j) → keyed f i n k ≡ keyed g i n k
-unfolding keyed
-keyed-same f g i zero k h = refl
-keyed-same f g i (suc n) k h =
-    let e : f k ≡ g k = h k (omega arith) (omega arith) in
-    let d : keyed f i n (k + 1) ≡ keyed g i n (k + 1) = keyed-same f g i n (k + 1) (λ j a b. h j (omega arith) (omega arith)) in
-    λ z. elim (eqb (e z) i) [ true ↦ k ∷ d z | false ↦ d z ]
-
 module _ (p : Plan) {t : ℕ} {S : State} (W : Standing p t S) where
   kept-count : length (keptLinks p) ≡ t
   kept-count = ends-length p (p .links) ∙ sym (W .count)
@@ -84,10 +74,10 @@ module _ (p : Plan) {t : ℕ} {S : State} (W : Standing p t S) where
   unfolding incoming
   into-is i =
       let e : t - 0 ≡ t = omega arith in
-      rw (e, kept-count) (keyed-same (S .link toField) (toAt (keptLinks p)) i t 0 (λ j a b. to-is j (omega arith)))
+      rw (e, kept-count) (keyed-same (S .link toField) (toAt (keptLinks p)) i t 0 (λ j b. to-is j (omega arith)))
 
   pub out-is : (i : ℕ) → after (S .link fromField) t i 0 ≡ tiesOut p i
   unfolding outgoing
   out-is i =
       let e : t - 0 ≡ t = omega arith in
-      rw (e, kept-count) (keyed-same (S .link fromField) (fromAt (keptLinks p)) i t 0 (λ j a b. from-is j (omega arith)))
+      rw (e, kept-count) (keyed-same (S .link fromField) (fromAt (keptLinks p)) i t 0 (λ j b. from-is j (omega arith)))

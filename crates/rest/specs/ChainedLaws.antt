@@ -1,19 +1,9 @@
 -- Chains stay where keys, heads and nexts do: only those of the rows that they list are read.
-use mathlib.Core.Path.{_≡_, refl, sym, _∙_}
-use mathlib.Core.Bool.{true, false}
-use mathlib.Core.List.{_∷_}
-use Prim.Native.Nat.{ℕ, zero, suc, _+_, _-_, _≤_, _<_}
+use mathlib.Core.Path.{_≡_, sym, _∙_}
+use Prim.Native.Nat.{ℕ, _+_, _-_, _≤_, _<_}
 use native.Mathlib.Omega.{arith}
-use lib.Dec.{eqb}
-use Rattle.cells.specs.Chain.{keyed, after, Stands, Chained}
-
-keyed-same : (f g : ℕ → ℕ) (i n k : ℕ) → ((j : ℕ) → j < k + n → f j ≡ g j) → keyed f i n k ≡ keyed g i n k
-unfolding keyed
-keyed-same f g i zero k h = refl
-keyed-same f g i (suc n) k h =
-    let e : f k ≡ g k = h k (omega arith) in
-    let d : keyed f i n (k + 1) ≡ keyed g i n (k + 1) = keyed-same f g i n (k + 1) (λ j b. h j (omega arith)) in
-    λ z. elim (eqb (e z) i) [ true ↦ k ∷ d z | false ↦ d z ]
+use Rattle.cells.specs.Chain.{after, Stands, Chained}
+use Rattle.cells.specs.ChainLaws.{keyed-same}
 
 module _ {key key′ : ℕ → ℕ} {l : ℕ} (same : (j : ℕ) → j < l → key′ j ≡ key j) where
   after-same : (i k : ℕ) → k ≤ l → after key′ l i k ≡ after key l i k
