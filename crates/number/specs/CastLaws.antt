@@ -1,10 +1,10 @@
 -- The casts of a signed local that was tested against 0: a local holds bits, and what the machine reads back is the number, `toZ w (ofZ w z)`.
 use mathlib.Core.Path.{_≡_, _∙_}
 use mathlib.Core.Bool.{true, false}
-use Prim.Native.Nat.{_+_, _^_, _<_}
+use Prim.Native.Nat.{_^_, _<_}
 use native.Mathlib.Omega.{arith}
 use lib.Dec.{T}
-use lib.IntN.{ℤ, pos, negsuc, negℤ, natAbs, _-ℤ_}
+use lib.IntN.{ℤ, pos, negℤ, natAbs, _-ℤ_}
 use lib.Signed.{ltZ, leZ, nonNeg}
 use mir.Syntax.{Width, w64}
 use mir.Val.{SFits, Fits, toZ, ofZ}
@@ -51,8 +51,3 @@ module _ (z : ℤ) (f : SFits w64 z) (b : dn z < 2 ^ 63) where
   value-dn h =
       let e : dn (negℤ z) ≡ 0 = omega (arith, neg-dn z) in
       rw minus-back (abs-up (negℤ z) e ∙ neg-up z)
-
--- a divisor that is not 0 has bits that are not 0
-pub bits-some : (d : ℤ) → SFits w64 d → 0 < up d + dn d → 0 < ofZ w64 d
-bits-some (pos n) f h = omega arith
-bits-some (negsuc n) f h = omega (arith, f .sfits)

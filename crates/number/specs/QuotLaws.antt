@@ -8,7 +8,7 @@ use lib.Signed.{quotZ}
 use mir.Syntax.{Width}
 use mir.Val.{SFits, hbits}
 use Rattle.number.specs.Zed.{up, dn}
-use Rattle.number.specs.ZedLaws.{neg-up, neg-dn, fits-sides, abs-is}
+use Rattle.number.specs.ZedLaws.{neg-up, neg-dn, up-fits, dn-fits, fits-sides, abs-is}
 
 abs-neg : (n : ℕ) → natAbs (negℤ (pos n)) ≡ n
 abs-neg zero = refl
@@ -49,5 +49,7 @@ module _ (w : Width) where
   pub fits-abs : (z : ℤ) → natAbs z < 2 ^ hbits w → SFits w z
   fits-abs z h = fits-sides w z (omega (arith, abs-is z)) (omega (arith, abs-is z))
 
-  pub quot-fits : (m d : ℤ) → natAbs m < 2 ^ hbits w → SFits w (quotZ m d)
-  quot-fits m d h = fits-abs (quotZ m d) (rw (abs-quot m d) (omega (arith, div-le-self (natAbs m) (natAbs d))))
+  pub quot-fits : (m : ℤ) (d : ℕ) → SFits w m → SFits w (quotZ m (pos d))
+  quot-fits m d f =
+      fits-sides w (quotZ m (pos d)) (omega (arith, quot-up m d, div-le-self (up m) d, up-fits w m f))
+      (omega (arith, quot-dn m d, div-le-self (dn m) d, dn-fits w m f))

@@ -1,8 +1,7 @@
 // Signed arithmetic: each result is the integer's, and what it asks is that the integer fits.
 ghost use mathlib.Core.Path.{_≡_};
-ghost use Prim.Native.Nat.{ℕ, _+_, _^_, _≤_, _<_};
+ghost use Prim.Native.Nat.{_+_, _^_, _≤_, _<_};
 ghost use lib.IntN.{pos, negℤ, _+ℤ_, _-ℤ_};
-ghost use lib.Signed.{quotZ};
 ghost use Rattle.number.specs.Zed.{up, dn};
 ghost use Rattle.number.specs.Sign.{minZ, maxZ, clampZ, percentOf, wholeDays};
 
@@ -48,14 +47,6 @@ pub fn clamp(z: i64, lo: i64, hi: i64) -> i64
     z
 }
 
-// A quotient, rounded toward zero.
-pub fn div_toward_zero(m: i64, d: i64) -> i64
-    requires { ⌜ (0 < up d + dn d) × (dn m < 2 ^ 63) ⌝ }
-    ensures { λ r. ⌜ r ≡ quotZ m d ⌝ }
-{
-    m / d
-}
-
 // A share of a duration, in hundredths of one percent, toward zero.
 pub fn percent(duration: i64, share: i64) -> i64
     requires { ⌜ up duration + dn duration ≤ 48000000 ⌝ }
@@ -67,13 +58,13 @@ pub fn percent(duration: i64, share: i64) -> i64
 
 // Minutes in whole days of `day_length` minutes, toward zero; a day length of 0 counts as 1.
 pub fn whole_days(minutes: i64, day_length: u64) -> i64
-    requires { ⌜ (dn minutes < 2 ^ 63) × («day_length» < 2 ^ 63) ⌝ }
+    requires { ⌜ «day_length» < 2 ^ 63 ⌝ }
     ensures { λ r. ⌜ r ≡ wholeDays minutes «day_length» ⌝ }
 {
     if day_length == 0 {
         return minutes;
     }
-    div_toward_zero(minutes, day_length as i64)
+    minutes / (day_length as i64)
 }
 
 // How far the time `b` lies after the time `a`.

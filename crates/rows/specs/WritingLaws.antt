@@ -2,21 +2,14 @@
 use mathlib.Core.Path.{_≡_, refl, sym, ap, _∙_}
 use mathlib.Core.Bool.{Bool, true, false}
 use mathlib.Core.List.{List, [], _∷_, _++_}
-use Prim.Native.Nat.{ℕ, zero, suc, _+_, _*_, _/_, max, _^_, _≤_, _<_}
+use Prim.Native.Nat.{ℕ, zero, suc, _+_, _*_, _/_, max, _≤_, _<_}
 use native.Mathlib.Numerals.{add-one}
-use native.Mathlib.Nat.{div-le-self}
 use native.Mathlib.Omega.{arith}
-use lib.Dec.{eqb, ltb}
-use lib.IntN.{ℤ, pos}
+use lib.Dec.{ltb}
+use lib.IntN.{ℤ}
 use lib.ListN.{length, take, drop, set, length-append, length-drop}
-use lib.Seq.{sets, sets-eq, length-sets, take-at, drop-at, drop-append-add, drop-drop}
-use lib.Signed.{quotZ}
-use mir.Syntax.{w64}
-use mir.Val.{SFits}
+use lib.Seq.{sets, sets-eq, length-sets, take-at, drop-append-add, drop-drop}
 use Rattle.number.specs.Bit.{bit}
-use Rattle.number.specs.Zed.{up, dn}
-use Rattle.number.specs.ZedLaws.{up-fits, dn-fits, fits-sides}
-use Rattle.number.specs.QuotLaws.{quot-up, quot-dn}
 use Rattle.memory.specs.State.{State, stateOf}
 use Rattle.memory.specs.Fields.{earlyStart, earlyFinish, workLeft}
 use Rattle.sheet.specs.declared.Contents.{Contents}
@@ -116,12 +109,6 @@ module _ (p : Plan) (r : Ran) (S : State) where
   pub day-more : (n d : ℕ) → n < p .activities → d ≡ finishDay p r (shownIn p S) n → max d (shownAt S n .ef) ≡ finishDay p r (shownIn p S) (n + 1)
   unfolding finishDay
   day-more n d l e = rw (add-one n, to-at (p .activities) S n l, e)
-
--- ---- whole days fit
-pub quot-fits : (m : ℤ) (d : ℕ) → SFits w64 m → SFits w64 (quotZ m (pos d))
-quot-fits m d f =
-    fits-sides w64 (quotZ m (pos d)) (omega (arith, quot-up m d, div-le-self (up m) d, up-fits w64 m f))
-    (omega (arith, quot-dn m d, div-le-self (dn m) d, dn-fits w64 m f))
 
 -- ---- a row in hand
 bit-flag : (b : Bool) → ltb 0 (bit b) ≡ b

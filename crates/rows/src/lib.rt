@@ -4,12 +4,9 @@ use results::Shown;
 use sheet::Contents;
 ghost use mathlib.Core.Path.{_≡_};
 ghost use mathlib.Core.Bool.{Bool};
-ghost use mathlib.Core.List.{[], _∷_, _++_};
+ghost use mathlib.Core.List.{_++_};
 ghost use Prim.Native.Nat.{ℕ, _+_, _*_, _^_, _≤_, _<_, max};
-ghost use lib.IntN.{pos};
 ghost use lib.ListN.{length, drop};
-ghost use Rattle.number.specs.Bit.{bit};
-ghost use Rattle.number.specs.Sign.{wholeDays};
 ghost use Rattle.memory.specs.State.{Room, stateOf};
 ghost use Rattle.sheet.specs.Known.{SheetRead};
 ghost use Rattle.order.specs.Plan.{planOf};
@@ -27,17 +24,6 @@ fn signed_day_of(d: u64) -> i64
     ensures { λ r. ⌜ r ≡ signedDayOf d ⌝ }
 {
     number::sign::difference(2147483648, d)
-}
-
-// Minutes in whole days, toward zero; a day length of 0 counts as 1.
-fn in_days(minutes: i64, day_length: u64) -> i64
-    requires { ⌜ «day_length» ≤ 1440 ⌝ }
-    ensures { λ r. ⌜ r ≡ wholeDays minutes «day_length» ⌝ }
-{
-    if day_length == 0 {
-        return minutes;
-    }
-    minutes / (day_length as i64)
 }
 
 fn status_number(actual: Actual) -> u64
@@ -83,8 +69,8 @@ fn write_floats(results: &mut [i64], at: usize, day_length: u64, x: Shown)
 {
     let total = x.total;
     let free = x.free as i64;
-    let total_days = in_days(total, day_length);
-    let free_days = in_days(free, day_length);
+    let total_days = number::sign::whole_days(total, day_length);
+    let free_days = number::sign::whole_days(free, day_length);
     let critical = results::number_of(x.critical) as i64;
     let path = results::number_of(x.path) as i64;
     results[at + 5] = total_days;

@@ -17,11 +17,11 @@ use Rattle.rows.proofs.write_floats.Tie as tie
 cast-free : tie.Need-cast-free
 cast-free c = record { sfits = c .before .before .pre .2 .free }
 
-in-days-requires : tie.Need-in-days-requires
-in-days-requires c κs = c .before .before .pre .1
+whole-days-requires : tie.Need-whole-days-requires
+whole-days-requires c κs = omega (arith, c .before .before .pre .1)
 
-in-days-requires-2 : tie.Need-in-days-requires-2
-in-days-requires-2 c κs = c .before .before .before .pre .1
+whole-days-requires-2 : tie.Need-whole-days-requires-2
+whole-days-requires-2 c κs = omega (arith, c .before .before .before .pre .1)
 
 number-of-requires : tie.Need-number-of-requires
 number-of-requires c κs = search needs
@@ -101,8 +101,8 @@ returns c =
     let e = ap (λ (t : ℤ). wholeDays t (b .args .day-length)) (toZ-ofZ f) in
     let h = ap (λ (t : ℤ). wholeDays t (b .args .day-length)) g in
     λ z. storedFrom (b .args .results .now) (b .args .at) 5 (
-    (toZ-ofZ {w = w64} (record { sfits = c .before .before .before .in-days .ok }) ∙ c .before .before .before .in-days .ensures ∙ e) z
-    ∷ (toZ-ofZ {w = w64} (record { sfits = c .before .before .in-days2 .ok }) ∙ c .before .before .in-days2 .ensures ∙ h) z
+    (toZ-ofZ {w = w64} (record { sfits = c .before .before .before .whole-days .ok }) ∙ c .before .before .before .whole-days .ensures ∙ e) z
+    ∷ (toZ-ofZ {w = w64} (record { sfits = c .before .before .whole-days2 .ok }) ∙ c .before .before .whole-days2 .ensures ∙ h) z
     ∷ toZ-ofZ f z
     ∷ g z
     ∷ (toZ-pos w64 (omega (arith, c .before .number-of .ensures, bit-low (x .critical))) ∙ ap pos (c .before .number-of .ensures)) z
@@ -115,8 +115,8 @@ write-floats-spec =
     tie.close
     (tie.spec
     cast-free
-    in-days-requires
-    in-days-requires-2
+    whole-days-requires
+    whole-days-requires-2
     number-of-requires
     cast-critical
     number-of-requires-2

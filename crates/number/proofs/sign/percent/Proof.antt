@@ -28,7 +28,7 @@ product-fits : (c : tie.After-clamp) → SFits w64 (product c)
 product-fits c = fits-abs w64 (product c) (omega (arith, small c))
 
 fits : (c : tie.After-clamp) → SFits w64 (quotZ (product c) (pos 10000))
-fits c = quot-fits w64 (product c) (pos 10000) (omega (arith, small c))
+fits c = quot-fits w64 (product c) 10000 (product-fits c)
 
 result-fits : (c : tie.After-clamp) → SFits w64 (c .clamp .result)
 result-fits c = record { sfits = c .clamp .ok }
