@@ -2,5 +2,4 @@
 pub mod Finish
 pub mod Stored
 pub mod FinishLaws
-pub mod OrderLaws
 pub mod BackLaws

@@ -9,7 +9,6 @@ use Rattle.number.specs.Zed.{up, dn}
 use Rattle.sheet.specs.declared.Contents.{Contents}
 use Rattle.order.specs.Plan.{planOf}
 use Rattle.order.specs.Ties.{keptBelow}
-use Rattle.order.specs.FineLaws.{PlanFine}
 use Rattle.passes.specs.Plan.{tie}
 use Rattle.dates.specs.Standing.{Ready}
 use Rattle.dates.specs.FineLaws as fine
@@ -23,9 +22,6 @@ unfolding planOf
 links-are s c = refl
 
 module _ {s : List ℕ} {c : Contents} {places : List ℕ} {t : ℕ} {xs : List ℤ} (R : Ready s c places t xs) where
-  pub ready-fine : PlanFine (planOf s c)
-  ready-fine = fine.checked-fine (planOf s c) (R .fine)
-
   -- the number of link records that the kept ones are among
   pub kept-within : t ≤ c .links
   kept-within = omega (arith, R .standing .within, links-are s c)

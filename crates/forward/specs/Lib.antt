@@ -3,4 +3,3 @@ pub mod Linked
 pub mod LinkedLaws
 pub mod RaiseLaws
 pub mod StoreLaws
-pub mod PassLaws

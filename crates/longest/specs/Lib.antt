@@ -5,5 +5,4 @@ pub mod LastLaws
 pub mod OwnLaws
 pub mod DriveLaws
 pub mod MarkLaws
-pub mod OrderLaws
 pub mod WalkLaws

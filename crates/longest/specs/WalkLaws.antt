@@ -24,11 +24,11 @@ use Rattle.dates.specs.declared.Step.the-variants.{Done}
 use Rattle.dates.specs.Columns.{earlyIn, pathIn, ended}
 use Rattle.dates.specs.ColumnLaws.{flags-at}
 use Rattle.dates.specs.Standing.{Standing}
+use Rattle.dates.specs.OrderLaws.{back-length, back-at}
 use Rattle.dates.specs.ThroughLaws.{Through, through-start, through-turn, through-stop, through-end}
 use Rattle.longest.specs.Path.{marks}
 use Rattle.longest.specs.KeptLaws.{early-kept}
 use Rattle.longest.specs.MarkLaws.{marked-chain, path-on, path-off}
-use Rattle.longest.specs.OrderLaws.{reverse-length, back-at}
 
 -- ---- the links into activity i, from the memory S₀ on
 -- link k is next, and the marks stand in S
@@ -97,7 +97,7 @@ module _ (p : Plan) (fine : checked p .number ≡ 0) (S₀ : State) where
     here = at ∙ back-at p fine W q l
 
     inside : q < length (reverse (order p))
-    inside = omega (arith, reverse-length p fine)
+    inside = omega (arith, back-length p fine)
 
     placed : ended (pathIn p T other) r ≡ onPath p (earlyIn p S₀) (pathIn p S other) i
     placed = e ∙ ap (λ (d : Early). onPath p d (pathIn p S other) i) (early-kept p F)
@@ -112,7 +112,7 @@ module _ (p : Plan) (fine : checked p .number ≡ 0) (S₀ : State) where
 
   pub path-end : (S : State) (other : ℕ → Bool) {q : ℕ} → PathDone p S₀ S other q → p .activities ≤ q → leaves (pathIn p S other) ≡ wholePath p S₀ other
   path-end S other B l =
-      through-end (onPath p (earlyIn p S₀)) (reverse (order p)) (pathIn p S₀ other) B (omega (arith, reverse-length p fine))
+      through-end (onPath p (earlyIn p S₀)) (reverse (order p)) (pathIn p S₀ other) B (omega (arith, back-length p fine))
 
 -- ---- the marks of what finishes the project first, and then the pass
 pub pass-is : (p : Plan) (S₀ S : State) → Frame 16 17 0 0 S₀ S → (finish : ℕ) (x : Pass (ℕ → Bool))

@@ -15,7 +15,7 @@ use Rattle.topology.specs.FrameLaws.{frame-refl, frame-then}
 use Rattle.topology.specs.Frame.{Frame}
 use Rattle.memory.specs.State.{stateOf}
 use Rattle.backward.specs.BackLaws.{early-kept, recorded-after, ready-after}
-use Rattle.backward.specs.OrderLaws.{backward-length, backward-at, backward-below}
+use Rattle.dates.specs.OrderLaws.{backward-length, backward-at, backward-below}
 use Rattle.backward.proofs.backward_all.Statement.{statement}
 use Rattle.backward.proofs.backward_all.Tie as tie
 

@@ -12,9 +12,10 @@ use Rattle.order.specs.Plan.{planOf}
 use Rattle.order.specs.Checks.{order}
 use Rattle.passes.specs.Floats.{freeFloat}
 use Rattle.dates.specs.Columns.{lateIn}
+use Rattle.dates.specs.OrderLaws.{backward-at, backward-below, backward-length}
 use Rattle.dates.specs.ThroughLaws.{Through, through-start, through-turn, through-stop, through-end}
 use Rattle.floats.specs.Slack.{freedIn}
-use Rattle.floats.specs.PassLaws.{backward-at, backward-below, backward-length, recorded-after, ready-after, step-kept}
+use Rattle.floats.specs.PassLaws.{recorded-after, ready-after, step-kept}
 use Rattle.floats.proofs.free_each.Statement.{statement}
 use Rattle.floats.proofs.free_each.Tie as tie
 

@@ -5,6 +5,7 @@ use lib.ListN.{length}
 use mathlib.Core.Path.{_≡_, refl, _∙_}
 use native.Mathlib.Omega.{arith}
 use Rattle.dates.specs.Columns.{earlyIn}
+use Rattle.dates.specs.OrderLaws.{order-length, order-at, order-below}
 use Rattle.dates.specs.ThroughLaws.{Through, through-start, through-turn, through-stop, through-end}
 use Rattle.memory.specs.State.{stateOf}
 use Rattle.order.specs.Checks.{order}
@@ -12,7 +13,6 @@ use Rattle.order.specs.Plan.{planOf}
 use Rattle.passes.specs.Forward.{forward}
 use Rattle.topology.specs.Frame.{Frame}
 use Rattle.topology.specs.FrameLaws.{frame-refl, frame-then}
-use Rattle.forward.specs.PassLaws.{order-size, in-order, order-below}
 use Rattle.forward.specs.StoreLaws.{ready-kept, recorded-stays}
 use Rattle.forward.proofs.forward_all.Statement.{statement}
 use Rattle.forward.proofs.forward_all.Tie as tie
@@ -52,7 +52,7 @@ returns c = let s = c .before .before .before .before .before .before .before .b
     let p = planOf (s .args .sheet .now) (s .args .contents) in
     let S = stateOf (s .args .contents .activities) (s .args .contents .links) (s .args .work .now) in
     let d = earlyIn p S in
-    (through-stop (forward p) (order p) d (c .before .before .before .before .before .before .before .before .before .loop .inv .0) _ (c .before .before .before .before .before .before .get-act .ensures .0 ∙ in-order (ready-kept (s .args .sheet .now) (s .args .contents) _ _ (c .before .before .before .before .before .before .before .before .before .loop .inv .1) (c .before .before .before .before .before .before .before .before .before .loop .inv .2) (s .pre .0)) _ (c .before .before .before .before .before .before .before .before .loop-test .taken)) (omega (arith, order-size (s .pre .0), c .before .before .before .before .before .before .before .before .loop-test .taken)) _ _ (c .before .before .before .before .forward-one .ensures .0) d _ (c .before .k .given .1), frame-then 12 15 0 0 (c .before .before .before .before .before .before .before .before .before .loop .inv .1) (c .before .before .before .before .forward-one .ensures .1), c .before .before .before .before .forward-one .ensures .2 ∙ c .before .before .before .before .before .before .before .before .before .loop .inv .2)
+    (through-stop (forward p) (order p) d (c .before .before .before .before .before .before .before .before .before .loop .inv .0) _ (c .before .before .before .before .before .before .get-act .ensures .0 ∙ order-at (ready-kept (s .args .sheet .now) (s .args .contents) _ _ (c .before .before .before .before .before .before .before .before .before .loop .inv .1) (c .before .before .before .before .before .before .before .before .before .loop .inv .2) (s .pre .0)) _ (c .before .before .before .before .before .before .before .before .loop-test .taken)) (omega (arith, order-length (s .pre .0), c .before .before .before .before .before .before .before .before .loop-test .taken)) _ _ (c .before .before .before .before .forward-one .ensures .0) d _ (c .before .k .given .1), frame-then 12 15 0 0 (c .before .before .before .before .before .before .before .before .before .loop .inv .1) (c .before .before .before .before .forward-one .ensures .1), c .before .before .before .before .forward-one .ensures .2 ∙ c .before .before .before .before .before .before .before .before .before .loop .inv .2)
 
 add-q : tie.Need-add-q Inv-loop μ-loop
 add-q c = omega (arith, c .before .before .before .before .before .before .before .loop-test .taken)
@@ -65,7 +65,7 @@ loop-again c = let s = c .before .before .before .before .before .before .before
     let p = planOf (s .args .sheet .now) (s .args .contents) in
     let S = stateOf (s .args .contents .activities) (s .args .contents .links) (s .args .work .now) in
     let d = earlyIn p S in
-    (through-turn (forward p) (order p) d (c .before .before .before .before .before .before .before .before .loop .inv .0) _ (c .before .before .before .before .before .get-act .ensures .0 ∙ in-order (ready-kept (s .args .sheet .now) (s .args .contents) _ _ (c .before .before .before .before .before .before .before .before .loop .inv .1) (c .before .before .before .before .before .before .before .before .loop .inv .2) (s .pre .0)) _ (c .before .before .before .before .before .before .before .loop-test .taken)) (omega (arith, order-size (s .pre .0), c .before .before .before .before .before .before .before .loop-test .taken)) _ _ (c .before .before .before .forward-one .ensures .0) (c .enum-told .given .1), frame-then 12 15 0 0 (c .before .before .before .before .before .before .before .before .loop .inv .1) (c .before .before .before .forward-one .ensures .1), c .before .before .before .forward-one .ensures .2 ∙ c .before .before .before .before .before .before .before .before .loop .inv .2)
+    (through-turn (forward p) (order p) d (c .before .before .before .before .before .before .before .before .loop .inv .0) _ (c .before .before .before .before .before .get-act .ensures .0 ∙ order-at (ready-kept (s .args .sheet .now) (s .args .contents) _ _ (c .before .before .before .before .before .before .before .before .loop .inv .1) (c .before .before .before .before .before .before .before .before .loop .inv .2) (s .pre .0)) _ (c .before .before .before .before .before .before .before .loop-test .taken)) (omega (arith, order-length (s .pre .0), c .before .before .before .before .before .before .before .loop-test .taken)) _ _ (c .before .before .before .forward-one .ensures .0) (c .enum-told .given .1), frame-then 12 15 0 0 (c .before .before .before .before .before .before .before .before .loop .inv .1) (c .before .before .before .forward-one .ensures .1), c .before .before .before .forward-one .ensures .2 ∙ c .before .before .before .before .before .before .before .before .loop .inv .2)
 
 same-length-2 : tie.Need-same-length-2 Inv-loop μ-loop
 same-length-2 c = search needs
@@ -75,7 +75,7 @@ returns-2 c = let s = c .before .before .before .before in
     let p = planOf (s .args .sheet .now) (s .args .contents) in
     let S = stateOf (s .args .contents .activities) (s .args .contents .links) (s .args .work .now) in
     let d = earlyIn p S in
-    (through-end (forward p) (order p) d (c .before .loop .inv .0) (omega (arith, order-size (s .pre .0), c .loop-test .left)), c .before .loop .inv .1, c .before .loop .inv .2)
+    (through-end (forward p) (order p) d (c .before .loop .inv .0) (omega (arith, order-length (s .pre .0), c .loop-test .left)), c .before .loop .inv .1, c .before .loop .inv .2)
 
 pub forward-all-spec : {M : Type 1} → statement M
 forward-all-spec =

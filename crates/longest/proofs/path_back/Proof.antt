@@ -12,7 +12,7 @@ use Rattle.topology.specs.FrameLaws.{frame-refl, frame-then}
 use Rattle.order.specs.Plan.{planOf}
 use Rattle.bounds.specs.ReadyLaws.{activities-are}
 use Rattle.longest.specs.KeptLaws.{lent-kept, stays}
-use Rattle.longest.specs.OrderLaws.{back-below}
+use Rattle.dates.specs.OrderLaws.{back-below}
 use Rattle.longest.specs.WalkLaws.{PathDone, path-start, path-turn, path-stop, path-end}
 use Rattle.longest.proofs.path_back.Statement.{statement}
 use Rattle.longest.proofs.path_back.Tie as tie
