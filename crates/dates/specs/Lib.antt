@@ -3,6 +3,7 @@ pub mod Columns
 pub mod Standing
 pub mod ColumnLaws
 pub mod StandingLaws
+pub mod KeptLaws
 pub mod OrderLaws
 pub mod ThroughLaws
 pub mod ReadLaws

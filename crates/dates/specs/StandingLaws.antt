@@ -1,12 +1,14 @@
--- What stands for the passes stays under their frames; the chains list the links of the definitions.
+-- What stands for the passes stays under their frames; what is recorded is no refusal; the chains list the links of the definitions.
 use mathlib.Core.Path.{_≡_, refl, sym, ap, _∙_}
+use mathlib.Core.Bool.{Bool, true, false}
 use Prim.Native.Nat.{ℕ, _-_, _≤_, _<_}
 use native.Mathlib.Omega.{arith}
+use lib.Dec.{eqb}
 use lib.ListN.{length}
 use Rattle.cells.specs.Chain.{after}
 use Rattle.cells.specs.ChainLaws.{keyed-same}
 use Rattle.memory.specs.State.{State}
-use Rattle.memory.specs.Fields.{fromField, toField, kindField, lagField, lagCalendarField, firstIn, firstOut, nextInto, nextOut, isSummary, parent, orderAt, recordedAs, recordedStart, recordedFinish}
+use Rattle.memory.specs.Fields.{fromField, toField, kindField, lagField, lagCalendarField, firstIn, firstOut, nextInto, nextOut, isSummary, parent, orderAt}
 use Rattle.topology.specs.Frame.{Frame}
 use Rattle.topology.specs.FrameLaws.{outside-below}
 use Rattle.topology.specs.Order.{ChainsIn, ChainsOut}
@@ -15,9 +17,11 @@ use Rattle.order.specs.Plan.{Plan}
 use Rattle.order.specs.Ties.{Tie, keptLinks, tieOf}
 use Rattle.network.specs.Links.{Link}
 use Rattle.project.specs.Records.{relationshipTypeOf}
+use Rattle.placing.specs.declared.Actual.{Actual}
+use Rattle.placing.specs.declared.Actual.the-variants.{Unstarted, Begun, Completed}
 use Rattle.order.specs.TieLaws.{ends-length, ends-at}
 use Rattle.passes.specs.Plan.{tiesInto, tiesOut}
-use Rattle.dates.specs.Standing.{tieIn, actualOf, Standing, Recorded}
+use Rattle.dates.specs.Standing.{tieIn, actualOf, Standing}
 
 -- ---- under a frame of the dates' fields
 module _ {lo hi : ℕ} {S T : State} (F : Frame lo hi 0 0 S T) where
@@ -52,9 +56,15 @@ module _ {lo hi : ℕ} {S T : State} (F : Frame lo hi 0 0 S T) where
       ordered = λ q b. ap (λ (c : ℕ → ℕ). c q) (act-kept orderAt (omega arith)) ∙ W .ordered q b;
     }
 
-    -- where the fields 17 to 19 stay
-    pub recorded-kept : T .act recordedAs ≡ S .act recordedAs → T .act recordedStart ≡ S .act recordedStart → T .act recordedFinish ≡ S .act recordedFinish → Recorded p S → Recorded p T
-    recorded-kept e f g R = λ i b. (λ z. actualOf (e z i) (f z i) (g z i)) ∙ R i b
+-- what the memory records is never a refusal
+pub never-refused : (how start finish k : ℕ) → actualOf how start finish ≡ Actual.Refused k → ⊥
+unfolding actualOf
+never-refused how start finish k e = by (eqb how 0) (eqb how 1) e
+  where
+    by : (a b : Bool) → elim a [ true ↦ Unstarted | false ↦ elim b [ true ↦ Begun start | false ↦ Completed start finish ] ] ≡ Actual.Refused k → ⊥
+    by true b q = let z : _≡_ {A = ℕ} 0 1 = cc in omega arith
+    by false true q = let z : _≡_ {A = ℕ} 0 1 = cc in omega arith
+    by false false q = let z : _≡_ {A = ℕ} 0 1 = cc in omega arith
 
 -- ---- the chains list the definitions' links
 module _ (p : Plan) {t : ℕ} {S : State} (W : Standing p t S) where

@@ -2,12 +2,8 @@
 use mathlib.Core.Path.{_≡_, refl, sym, ap, _∙_}
 use mathlib.Core.List.{List}
 use Prim.Native.Nat.{ℕ}
-use native.Mathlib.Omega.{arith}
-use lib.IntN.{ℤ}
-use lib.ListN.{length}
-use Rattle.memory.specs.State.{State, stateOf, fillAct}
+use Rattle.memory.specs.State.{State, fillAct}
 use Rattle.memory.specs.Fields as fields
-use Rattle.memory.specs.Fields.{lateStart, lateFinish, recordedAs, recordedStart, recordedFinish}
 use Rattle.topology.specs.Frame.{Frame}
 use Rattle.sheet.specs.declared.Contents.{Contents}
 use Rattle.calendar.specs.declared.Period.{Period}
@@ -18,9 +14,7 @@ use Rattle.passes.specs.Dates.{Late, Freed, through}
 use Rattle.passes.specs.Floats.{freeFloat}
 use Rattle.dates.specs.declared.Step.{Step}
 use Rattle.dates.specs.Columns.{earlyIn, lateIn, ended}
-use Rattle.dates.specs.ColumnLaws.{column-same}
-use Rattle.dates.specs.Standing.{Ready, Recorded}
-use Rattle.dates.specs.StandingLaws.{standing-kept, recorded-kept}
+use Rattle.dates.specs.KeptLaws.{late-kept}
 use Rattle.bounds.specs.ReadyLaws.{activities-are}
 use Rattle.floats.specs.Slack.{freedIn, Own}
 use Rattle.floats.specs.StoreLaws.{free-cleared}
@@ -36,33 +30,11 @@ own-is s c i activity week at n e w x y =
       calendar = record { week-is = w ∙ ap (weekOfCalendar s c) k; at-is = x ∙ ap (exceptionPlace s c) k; n-is = y ∙ ap (exceptionNumber s c) k };
     }
 
--- ---- under a frame of the early dates and the free float
-module _ {S T : State} (F : Frame 12 16 0 0 S T) (p : Plan) where
-  pub late-kept : (e : ℕ) → lateIn p T e ≡ lateIn p S e
-  late-kept e = λ z. record {
-    ls = column-same (p .activities) (λ i. e) lateStart S T (F .acts lateStart refl) z;
-    lf = column-same (p .activities) (λ i. e) lateFinish S T (F .acts lateFinish refl) z;
-  }
-
-  pub recorded-after : Recorded p S → Recorded p T
-  recorded-after = recorded-kept F p (F .acts recordedAs refl) (F .acts recordedStart refl) (F .acts recordedFinish refl)
-
-pub ready-after : {s : List ℕ} {c : Contents} {places : List ℕ} {t : ℕ} {xs ys : List ℤ} → Ready s c places t xs
-    → Frame 12 16 0 0 (stateOf (c .activities) (c .links) xs) (stateOf (c .activities) (c .links) ys) → length ys ≡ length xs
-    → Ready s c places t ys
-ready-after {s} {c} R F e = record {
-  read = R .read;
-  room = omega (arith, R .room, e);
-  located = R .located;
-  fine = R .fine;
-  standing = standing-kept F (planOf s c) (omega arith) (R .standing);
-}
-
 -- one step, with the late dates as they were before the pass
 pub step-kept : {S T : State} → Frame 12 16 0 0 S T → (p : Plan) (finish i : ℕ) (y : Freed) (r : Step)
     → ((e : ℕ) → ended y r ≡ freeFloat p finish (lateIn p T e) (freedIn p T) i)
     → (e : ℕ) → ended y r ≡ freeFloat p finish (lateIn p S e) (freedIn p T) i
-step-kept {S} {T} F p finish i y r h e = h e ∙ ap (λ (l : Late). freeFloat p finish l (freedIn p T) i) (late-kept F p e)
+step-kept {S} {T} F p finish i y r h e = h e ∙ ap (λ (l : Late). freeFloat p finish l (freedIn p T) i) (late-kept F p refl refl e)
 
 -- the pass from no free float on
 pub pass-cleared : (s : List ℕ) (c : Contents) {S T : State} → Frame 12 16 0 0 S T → T ≡ fillAct S fields.freeFloat (c .activities) 0
@@ -74,5 +46,5 @@ pass-cleared s c {S} {T} F h finish rows e =
     let x : freedIn p T ≡ record { early = earlyIn p S; free = λ i. 0 } =
     ap (freedIn p) (h ∙ ap (λ (n : ℕ). fillAct S fields.freeFloat n 0) (sym (activities-are s c))) ∙ free-cleared p S
     in
-    let y = late-kept F p e in
+    let y = late-kept F p refl refl e in
     λ z. through (freeFloat p finish (y z)) rows (x z)

@@ -1,15 +1,12 @@
 -- What is stored of an activity is what the definition leaves, and the rest stands.
 use mathlib.Core.Path.{_≡_, refl, sym, ap, _∙_}
-use mathlib.Core.Bool.{Bool, true, false}
 use mathlib.Core.List.{List}
 use Prim.Native.Nat.{ℕ, _<_}
 use native.Mathlib.Omega.{arith}
-use lib.Dec.{eqb}
-use lib.IntN.{ℤ, pos}
-use lib.ListN.{length}
+use lib.IntN.{pos}
 use Rattle.placing.specs.declared.Actual.{Actual}
 use Rattle.placing.specs.declared.Actual.the-variants.{Unstarted, Begun, Completed}
-use Rattle.memory.specs.State.{State, stateOf, putAct, fillAct}
+use Rattle.memory.specs.State.{State, putAct, fillAct}
 use Rattle.memory.specs.Fields.{earlyStart, earlyFinish, workLeft}
 use Rattle.topology.specs.Frame.{Frame}
 use Rattle.topology.specs.FrameLaws.{frame-then, frame-put, frame-fill}
@@ -24,8 +21,8 @@ use Rattle.dates.specs.declared.Step.{Step}
 use Rattle.dates.specs.declared.Step.the-variants.{Done}
 use Rattle.dates.specs.Columns.{column, earlyIn, leftIn, ended}
 use Rattle.dates.specs.ColumnLaws.{column-at, column-same, column-put, column-fill}
-use Rattle.dates.specs.Standing.{actualOf, actualIn, Ready, Recorded}
-use Rattle.dates.specs.StandingLaws.{standing-kept, recorded-kept}
+use Rattle.dates.specs.Standing.{actualIn}
+use Rattle.dates.specs.StandingLaws.{never-refused}
 use Rattle.bounds.specs.ReadyLaws.{activities-are}
 use Rattle.early.specs.declared.Placement.{Placement}
 use Rattle.early.specs.InHand.{placedAs}
@@ -80,15 +77,6 @@ settled-refused i S k x e = record {
 }
 
 -- ---- by what is recorded
-never : (b c : Bool) (s f k : ℕ) → elim b [ true ↦ Unstarted | false ↦ elim c [ true ↦ Begun s | false ↦ Completed s f ] ] ≡ Actual.Refused k → ⊥
-never true c s f k e = let z : _≡_ {A = ℕ} 0 1 = cc in omega arith
-never false true s f k e = let z : _≡_ {A = ℕ} 0 1 = cc in omega arith
-never false false s f k e = let z : _≡_ {A = ℕ} 0 1 = cc in omega arith
-
-never-refused : (h s f k : ℕ) → actualOf h s f ≡ Actual.Refused k → ⊥
-unfolding actualOf
-never-refused h s f k e = never (eqb h 0) (eqb h 1) s f k e
-
 module _ (p : Plan) (d : Early) (i : ℕ) where
   by-links : (a : Actual) → ((s f : ℕ) → a ≡ Completed s f → ⊥) → ((k : ℕ) → a ≡ Actual.Refused k → ⊥) → afterLinks p d i a ≡ forwardBy p d i a
   by-links Unstarted h n = refl
@@ -119,21 +107,6 @@ module _ (p : Plan) (S T : State) (i s f m : ℕ) (l : i < p .activities) (h : T
 
 pub in-plan : (s : List ℕ) (c : Contents) (i : ℕ) → i < c .activities → i < planOf s c .activities
 in-plan s c i l = omega (arith, activities-are s c)
-
--- ---- what the pass is lent stands under its frame
-module _ (s : List ℕ) (c : Contents) (xs ys : List ℤ)
-    (F : Frame 12 15 0 0 (stateOf (c .activities) (c .links) xs) (stateOf (c .activities) (c .links) ys)) where
-  pub ready-kept : {places : List ℕ} {t : ℕ} → length ys ≡ length xs → Ready s c places t xs → Ready s c places t ys
-  ready-kept e R = record {
-    read = R .read;
-    room = omega (arith, R .room);
-    located = R .located;
-    fine = R .fine;
-    standing = standing-kept F (planOf s c) (omega arith) (R .standing);
-  }
-
-  pub recorded-stays : Recorded (planOf s c) (stateOf (c .activities) (c .links) xs) → Recorded (planOf s c) (stateOf (c .activities) (c .links) ys)
-  recorded-stays N = recorded-kept F (planOf s c) (F .acts 17 refl) (F .acts 18 refl) (F .acts 19 refl) N
 
 -- ---- the dates before the pass: the origin throughout
 early-filled : (p : Plan) (S : State)

@@ -20,7 +20,7 @@ use Rattle.passes.specs.Floats.{isCompleted, lastOnes}
 use Rattle.dates.specs.Columns.{flags, earlyIn}
 use Rattle.dates.specs.ColumnLaws.{put-is, column-at, flags-past, flags-more}
 use Rattle.dates.specs.Standing.{actualIn, Standing, Recorded}
-use Rattle.longest.specs.KeptLaws.{early-kept}
+use Rattle.dates.specs.KeptLaws.{early-kept}
 
 -- ---- whether activity i is one of them
 module _ (p : Plan) (S : State) (t : ℕ) (W : Standing p t S) (R : Recorded p S) (finish i : ℕ) (l : i < p .activities) where
@@ -82,7 +82,7 @@ module _ (p : Plan) (S₀ S T : State) (F : Frame 16 17 0 0 S₀ S) (finish n v 
   last-turn g h =
       let other = lastOnes p (earlyIn p S₀) finish in
       ap (λ (U : State). flags (n + 1) other U longestPath) (e ∙ ap (putAct S longestPath n) f)
-      ∙ marks-more other S n b g (h ∙ ap (λ (d : Early). lastOnes p d finish n) (early-kept p F))
+      ∙ marks-more other S n b g (h ∙ ap (λ (d : Early). lastOnes p d finish n) (early-kept F p refl refl refl))
 
 pub frame-mark : {S₀ S T : State} → Frame 16 17 0 0 S₀ S → (n v : ℕ) → T ≡ putAct S longestPath n v → Frame 16 17 0 0 S₀ T
 frame-mark {S₀} {S} F n v e = rw e (frame-then 16 17 0 0 F (frame-put 16 17 0 0 longestPath (omega arith) (omega arith) S n (pos v)))

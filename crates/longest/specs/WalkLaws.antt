@@ -24,10 +24,10 @@ use Rattle.dates.specs.declared.Step.the-variants.{Done}
 use Rattle.dates.specs.Columns.{earlyIn, pathIn, ended}
 use Rattle.dates.specs.ColumnLaws.{flags-at}
 use Rattle.dates.specs.Standing.{Standing}
+use Rattle.dates.specs.KeptLaws.{early-kept}
 use Rattle.dates.specs.OrderLaws.{back-length, back-at}
 use Rattle.dates.specs.ThroughLaws.{Through, through-start, through-turn, through-stop, through-end}
 use Rattle.longest.specs.Path.{marks}
-use Rattle.longest.specs.KeptLaws.{early-kept}
 use Rattle.longest.specs.MarkLaws.{marked-chain, path-on, path-off}
 
 -- ---- the links into activity i, from the memory S₀ on
@@ -48,7 +48,7 @@ module _ (p : Plan) {t : ℕ} {S₀ : State} (W : Standing p t S₀) (i : ℕ) w
     module _ (other : ℕ → Bool) (C : Marking p t S₀ i S other k) (T : State) (r : Step)
         (e : (go : (ℕ → Bool) → Pass (ℕ → Bool)) → after (ended (pathIn p T other) r) go ≡ marks p (earlyIn p S) i (pathIn p S other) k go) where
       step : (go : (ℕ → Bool) → Pass (ℕ → Bool)) → marks p (earlyIn p S₀) i (pathIn p S other) k go ≡ after (ended (pathIn p T other) r) go
-      step go = ap (λ (d : Early). marks p d i (pathIn p S other) k go) (sym (early-kept p F)) ∙ sym (e go)
+      step go = ap (λ (d : Early). marks p d i (pathIn p S other) k go) (sym (early-kept F p refl refl refl)) ∙ sym (e go)
 
       pub marking-turn : Frame 16 17 0 0 S T → r ≡ Done → (k′ : ℕ) → k′ ≡ T .link nextInto k → Marking p t S₀ i T other k′
       marking-turn G d k′ f =
@@ -100,7 +100,7 @@ module _ (p : Plan) (fine : checked p .number ≡ 0) (S₀ : State) where
     inside = omega (arith, back-length p fine)
 
     placed : ended (pathIn p T other) r ≡ onPath p (earlyIn p S₀) (pathIn p S other) i
-    placed = e ∙ ap (λ (d : Early). onPath p d (pathIn p S other) i) (early-kept p F)
+    placed = e ∙ ap (λ (d : Early). onPath p d (pathIn p S other) i) (early-kept F p refl refl refl)
 
     pub path-turn : r ≡ Done → PathDone p S₀ T other (q + 1)
     path-turn d =
@@ -120,4 +120,4 @@ pub pass-is : (p : Plan) (S₀ S : State) → Frame 16 17 0 0 S₀ S → (finish
     → x ≡ through (onPath p (earlyIn p S)) (reverse (order p)) (pathIn p S (lastOnes p (earlyIn p S₀) finish))
     → x ≡ pathPass p finish (earlyIn p S₀)
 unfolding pathPass
-pass-is p S₀ S F finish x e f = f ∙ (λ z. through (onPath p (early-kept p F z)) (reverse (order p)) (e z))
+pass-is p S₀ S F finish x e f = f ∙ (λ z. through (onPath p (early-kept F p refl refl refl z)) (reverse (order p)) (e z))

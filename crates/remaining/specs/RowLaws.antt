@@ -1,25 +1,22 @@
 -- A row that is kept, one that is refused, and the rows of a loop over all activities.
 use mathlib.Core.Path.{_≡_, refl, sym, ap, _∙_}
 use mathlib.Core.Logic.{_≢_, ⊎-elim}
-use mathlib.Core.List.{List}
 use Prim.Native.Nat.{ℕ, zero, suc, _+_, _≤_, _<_}
 use native.Mathlib.Omega.{arith}
 use native.Mathlib.Numerals.{add-one}
-use lib.IntN.{ℤ, pos}
-use lib.ListN.{length}
+use lib.IntN.{pos}
 use Rattle.number.specs.Order.{eq-or-ne}
 use Rattle.worktime.specs.declared.Walk.{Walk}
 use Rattle.worktime.specs.declared.Walk.the-variants.{At, Refused}
 use Rattle.placing.specs.declared.Actual.{Actual}
 use Rattle.placing.specs.declared.Actual.the-variants.{Unstarted, Begun, Completed}
 use Rattle.placing.specs.Placing.{via}
-use Rattle.memory.specs.State.{State, putAct, stateOf}
-use Rattle.sheet.specs.declared.Contents.{Contents}
+use Rattle.memory.specs.State.{State, putAct}
 use Rattle.memory.specs.StateLaws.{act-same, act-row}
 use Rattle.memory.specs.Fields.{workLeft, recordedAs, recordedStart, recordedFinish}
 use Rattle.topology.specs.Frame.{Frame}
 use Rattle.topology.specs.FrameLaws.{frame-refl, frame-then, frame-put}
-use Rattle.order.specs.Plan.{Plan, planOf}
+use Rattle.order.specs.Plan.{Plan}
 use Rattle.passes.specs.Plan.{recorded}
 use Rattle.passes.specs.Dates.{Pass, leaves, refused, put}
 use Rattle.passes.specs.Forward.{leftOf, leftBelow}
@@ -28,8 +25,7 @@ use Rattle.dates.specs.declared.Step.{Step}
 use Rattle.dates.specs.declared.Step.the-variants.{Done}
 use Rattle.dates.specs.Columns.{leftIn, ended}
 use Rattle.dates.specs.ColumnLaws.{column-none, column-same, column-more}
-use Rattle.dates.specs.Standing.{actualOf, actualIn, Ready, Recorded}
-use Rattle.dates.specs.StandingLaws.{standing-kept}
+use Rattle.dates.specs.Standing.{actualOf, actualIn, Recorded}
 use Rattle.remaining.specs.Rows.{howOf, startOf, finishOf, kept, leftTo, Row, Passed}
 
 -- the three cells say what is recorded
@@ -111,17 +107,6 @@ module _ (p : Plan) (i : ℕ) (S : State) where
     others = λ j h. refl;
     frame = frame-refl 14 20 0 0 S;
   }
-
--- ---- what was lent stays
-pub ready-kept : (s : List ℕ) (c : Contents) (places : List ℕ) (t : ℕ) (xs ys : List ℤ) → Ready s c places t xs → length ys ≡ length xs
-    → Frame 14 20 0 0 (stateOf (c .activities) (c .links) xs) (stateOf (c .activities) (c .links) ys) → Ready s c places t ys
-ready-kept s c places t xs ys R e F = record {
-  read = R .read;
-  room = omega (arith, R .room);
-  located = R .located;
-  fine = R .fine;
-  standing = standing-kept F (planOf s c) (omega arith) (R .standing);
-}
 
 -- ---- all rows
 module _ (p : Plan) where

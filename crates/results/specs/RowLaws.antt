@@ -31,7 +31,7 @@ use Rattle.dates.specs.declared.Step.{Step}
 use Rattle.dates.specs.declared.Step.the-variants.{Done}
 use Rattle.dates.specs.Columns.{ended}
 use Rattle.dates.specs.Standing.{Ready, Recorded}
-use Rattle.dates.specs.StandingLaws.{recorded-kept}
+use Rattle.dates.specs.KeptLaws.{recorded-kept}
 use Rattle.results.specs.declared.Shown.{Shown}
 use Rattle.results.specs.declared.Times.{Times}
 use Rattle.results.specs.declared.Showing.{Showing}
@@ -70,9 +70,8 @@ module _ {s : List ℕ} {c : Contents} {places lengths : List ℕ} {xs : List �
     days = W .days;
     named = W .named;
     recorded =
-        recorded-kept F (planOf s c) (F .acts recordedAs (outside-below lo hi recordedAs (omega arith)))
-        (F .acts recordedStart (outside-below lo hi recordedStart (omega arith))) (F .acts recordedFinish (outside-below lo hi recordedFinish (omega arith)))
-        (W .recorded);
+        recorded-kept F (planOf s c) (outside-below lo hi recordedAs (omega arith)) (outside-below lo hi recordedStart (omega arith))
+        (outside-below lo hi recordedFinish (omega arith)) (W .recorded);
   }
 
 -- ---- what a row shows

@@ -11,13 +11,14 @@ use Rattle.number.specs.Bit.{bit}
 use Rattle.worktime.specs.Reads.{on-true, on-false}
 use Rattle.memory.specs.State.{State}
 use Rattle.memory.specs.Fields.{lateStart, lateFinish, earlyStart, earlyFinish, workLeft, freeFloat, longestPath}
-use Rattle.topology.specs.Frame.{Frame}
+use Rattle.topology.specs.Frame.{outside, Frame}
 use Rattle.topology.specs.FrameLaws.{outside-below}
 use Rattle.order.specs.Plan.{Plan}
 use Rattle.passes.specs.Dates.{put}
 use Rattle.passes.specs.Run.{Ran}
 use Rattle.passes.specs.Plan.{origin}
-use Rattle.dates.specs.ColumnLaws.{put-is, column-at, column-same, flags-at, flags-same}
+use Rattle.dates.specs.ColumnLaws.{put-is, column-at, flags-at, flags-same}
+use Rattle.dates.specs.KeptLaws.{early-kept, late-kept, free-kept}
 use Rattle.results.specs.declared.Shown.{Shown}
 use Rattle.results.specs.Results.{nothing}
 use Rattle.results.specs.View.{ranIn, timesOf, timesIn, shownAt, shownTo, shownIn, putShown}
@@ -98,21 +99,11 @@ times-in p S e other i l = λ z. record {
 module _ {lo hi : ℕ} {S T : State} (F : Frame lo hi 0 0 S T) where
   pub ran-kept : (p : Plan) (e : ℕ) (other : ℕ → Bool) → 17 ≤ lo → ranIn p T e other ≡ ranIn p S e other
   ran-kept p e other l = λ z. record {
-    early = record {
-      es = column-same n (λ i. origin p) earlyStart S T (kept earlyStart (omega arith)) z;
-      ef = column-same n (λ i. origin p) earlyFinish S T (kept earlyFinish (omega arith)) z;
-      left = column-same n (λ i. 0) workLeft S T (kept workLeft (omega arith)) z;
-    };
-    late = record {
-      ls = column-same n (λ i. e) lateStart S T (kept lateStart (omega arith)) z;
-      lf = column-same n (λ i. e) lateFinish S T (kept lateFinish (omega arith)) z;
-    };
-    free = column-same n (λ i. 0) freeFloat S T (kept freeFloat (omega arith)) z;
-    path = flags-same n other longestPath S T (kept longestPath (omega arith)) z;
+    early = early-kept F p (kept earlyStart (omega arith)) (kept earlyFinish (omega arith)) (kept workLeft (omega arith)) z;
+    late = late-kept F p (kept lateStart (omega arith)) (kept lateFinish (omega arith)) e z;
+    free = free-kept F p (kept freeFloat (omega arith)) z;
+    path = flags-same (p .activities) other longestPath S T (F .acts longestPath (kept longestPath (omega arith))) z;
   }
     where
-      n : ℕ
-      n = p .activities
-
-      kept : (f : ℕ) → f < 17 → T .act f ≡ S .act f
-      kept f b = F .acts f (outside-below lo hi f (omega arith))
+      kept : (f : ℕ) → f < 17 → outside lo hi f ≡ true
+      kept f b = outside-below lo hi f (omega arith)

@@ -17,11 +17,11 @@ use Rattle.passes.specs.Run.{Ran, remaining, forwardPass, backwardPass, pathPas
 use Rattle.dates.specs.declared.Step.{Step}
 use Rattle.dates.specs.declared.Step.the-variants.{Done}
 use Rattle.dates.specs.Columns.{leftIn, earlyIn, lateIn, freeIn, pathIn, ended}
+use Rattle.dates.specs.KeptLaws.{early-kept, late-kept, free-kept}
 use Rattle.run.specs.declared.Late as code
 use Rattle.run.specs.declared.Late.the-variants.{By}
 use Rattle.run.specs.Stages.{Floated, earlyDates, freeDates, floatDates, LateIn, floatedIn, ranIn, RanTo, RunIn}
 use Rattle.run.specs.StageLaws.{early-refused, late-refused, floats-refused, run-done, end-refused, end-at, left-refused, left-leaves, free-refused, path-refused, path-done}
-use Rattle.run.specs.KeptLaws.{early-after, late-after, free-after}
 
 -- a pass by its answer
 stopped : {A : Type 0} (x : A) (q : Pass A) (r : Step) (k : ℕ) → ended x r ≡ q → r ≡ Step.Refused k → q ≡ refused k
@@ -61,7 +61,7 @@ module _ (p : Plan) where
         freely e = left freed (freeDates p f (earlyIn p S) (lateIn p S e)) r (free e) d
 
         same : earlyIn p T ≡ earlyIn p T₁
-        same = early-after p F refl refl refl
+        same = early-kept F p refl refl refl
 
         by-path : (q : Step) (e : ℕ) → ended (pathIn p T (lastOnes p (earlyIn p T₁) f)) q ≡ pathPass p f (earlyIn p T₁)
             → ended (record { early = earlyIn p T₁; free = freeIn p T₁; path = pathIn p T (lastOnes p (earlyIn p T₁) f) }) q ≡ floatDates p f (earlyIn p S) (lateIn p S e)
@@ -75,7 +75,7 @@ module _ (p : Plan) where
         floats-go q g e =
             ap
             (λ (x : Floated). ended x q)
-            (λ z. record { early = same z; free = free-after p F refl z; path = pathIn p T (lastOnes p (same z) f) })
+            (λ z. record { early = same z; free = free-kept F p refl z; path = pathIn p T (lastOnes p (same z) f) })
             ∙ by-path q e g
 
   -- ---- late dates
@@ -102,7 +102,7 @@ module _ (p : Plan) where
     module _ (T₁ T : State) (last : ℕ) (F₁ : Frame 10 12 0 0 S T₁) (F : Frame 12 17 0 0 T₁ T) (late : LateIn p (earlyIn p S) T₁ (By last)) (f : ℕ) (finish-is : f ≡ finish p (earlyIn p S)) where
       -- the late stage left the early dates
       start-same : earlyIn p T₁ ≡ earlyIn p S
-      start-same = early-after p F₁ refl refl refl
+      start-same = early-kept F₁ p refl refl refl
 
       module _ (q : Step) (floats : (e : ℕ) → ended (floatedIn p f T) q ≡ floatDates p f (earlyIn p T₁) (lateIn p T₁ e)) where
         floated : ended (floatedIn p f T) q ≡ floatDates p (finish p (earlyIn p S)) (earlyIn p S) (lateIn p T₁ last)
@@ -118,7 +118,7 @@ module _ (p : Plan) where
               run-done p (earlyIn p S) made (lateIn p T₁ last) late (floatedIn p f T) (left (floatedIn p f T) _ q floated d)
               ∙ ap
               (λ (l : Late). leaves (record { early = earlyIn p T; late = l; free = freeIn p T; path = pathIn p T (lastOnes p (earlyIn p T) f) }))
-              (sym (late-after p F refl refl last));
+              (sym (late-kept F p refl refl last));
         }
 
   pub run-early : (S T : State) (r : Step) (k : ℕ) → ended (earlyIn p S) r ≡ earlyDates p → r ≡ Step.Refused k → RunIn p T (code.Late.Refused k)

@@ -1,6 +1,5 @@
 -- The scheduling call.
 pub mod Outcome
 pub mod CallLaws
-pub mod ShownLaws
 pub mod InC
 pub mod InCLaws

@@ -14,7 +14,7 @@ use Rattle.order.specs.Plan.{planOf}
 use Rattle.topology.specs.FrameLaws.{frame-refl, frame-then}
 use Rattle.topology.specs.Frame.{Frame}
 use Rattle.memory.specs.State.{stateOf}
-use Rattle.backward.specs.BackLaws.{early-kept, recorded-after, ready-after}
+use Rattle.dates.specs.KeptLaws.{ready-kept, recorded-kept, early-kept}
 use Rattle.dates.specs.OrderLaws.{backward-length, backward-at, backward-below}
 use Rattle.backward.proofs.backward_all.Statement.{statement}
 use Rattle.backward.proofs.backward_all.Tie as tie
@@ -57,8 +57,8 @@ backward-one-requires c κs =
     let p = planOf (s .args .sheet .now) C in
     let S = stateOf (C .activities) (C .links) (s .args .work .now) in
     let L = c .before .before .before .before .loop in
-    let R = ready-after (s .pre .0) (L .inv .2) (L .inv .1) in
-    (R, recorded-after (L .inv .2) p (s .pre .1), omega (arith, c .before .get-act .ensures .0, backward-below R (L .q) (c .before .before .before .loop-test .taken)))
+    let R = ready-kept (s .pre .0) (L .inv .2) (L .inv .1) (omega arith) in
+    (R, recorded-kept (L .inv .2) p refl refl refl (s .pre .1), omega (arith, c .before .get-act .ensures .0, backward-below R (L .q) (c .before .before .before .loop-test .taken)))
 
 enum-told : tie.Need-enum-told Inv-loop μ-loop
 enum-told c = search needs
@@ -76,7 +76,7 @@ returns c =
     let p = planOf (s .args .sheet .now) C in
     let S = stateOf (C .activities) (C .links) (s .args .work .now) in
     let L = c .before .before .before .before .before .before .before .before .before .loop in
-    let R = ready-after (s .pre .0) (L .inv .2) (L .inv .1) in
+    let R = ready-kept (s .pre .0) (L .inv .2) (L .inv .1) (omega arith) in
     let T = stateOf (C .activities) (C .links) (L .work) in
     let U = stateOf (C .activities) (C .links) (c .before .before .before .before .backward-one .last .1 .1 .1 .1 .0) in
     let last = s .args .last in
@@ -84,7 +84,7 @@ returns c =
     let i = c .before .before .before .before .before .before .get-act .result in
     let at = c .before .before .before .before .before .before .get-act .ensures .0 ∙ backward-at R (L .q) (c .before .before .before .before .before .before .before .before .loop-test .taken) in
     let l : L .q < length (reverse (order p)) = omega (arith, c .before .before .before .before .before .before .before .before .loop-test .taken, backward-length R) in
-    let e = b .0 ∙ ap (λ (d : Early). backward p d last (lateIn p T last) i) (early-kept (L .inv .2) p) in (
+    let e = b .0 ∙ ap (λ (d : Early). backward p d last (lateIn p T last) i) (early-kept (L .inv .2) p refl refl refl) in (
       through-stop (backward p (earlyIn p S) last) (reverse (order p)) (lateIn p S last) (L .inv .3) i at l (lateIn p U last) (c .before .before .before .before .backward-one .result) e (lateIn p U last) _ (c .before .k .given .1),
       frame-then 10 12 0 0 (L .inv .2) (b .1),
       b .2 ∙ L .inv .1,
@@ -103,7 +103,7 @@ loop-again c =
     let p = planOf (s .args .sheet .now) C in
     let S = stateOf (C .activities) (C .links) (s .args .work .now) in
     let L = c .before .before .before .before .before .before .before .before .loop in
-    let R = ready-after (s .pre .0) (L .inv .2) (L .inv .1) in
+    let R = ready-kept (s .pre .0) (L .inv .2) (L .inv .1) (omega arith) in
     let T = stateOf (C .activities) (C .links) (L .work) in
     let U = stateOf (C .activities) (C .links) (c .before .before .before .backward-one .last .1 .1 .1 .1 .0) in
     let last = s .args .last in
@@ -111,7 +111,7 @@ loop-again c =
     let i = c .before .before .before .before .before .get-act .result in
     let at = c .before .before .before .before .before .get-act .ensures .0 ∙ backward-at R (L .q) (c .before .before .before .before .before .before .before .loop-test .taken) in
     let l : L .q < length (reverse (order p)) = omega (arith, c .before .before .before .before .before .before .before .loop-test .taken, backward-length R) in
-    let e = b .0 ∙ ap (λ (d : Early). backward p d last (lateIn p T last) i) (early-kept (L .inv .2) p) in (
+    let e = b .0 ∙ ap (λ (d : Early). backward p d last (lateIn p T last) i) (early-kept (L .inv .2) p refl refl refl) in (
       omega (arith, c .before .before .before .before .before .before .before .loop-test .taken),
       b .2 ∙ L .inv .1,
       frame-then 10 12 0 0 (L .inv .2) (b .1),

@@ -1,6 +1,4 @@
 -- `backward::backward_one` meets its contract, by what is recorded.
--- the `else`
--- the `else`
 use borrow.Author.Needs.{needs}
 use mathlib.Core.List.{[], _∷_}
 use mathlib.Core.Path.{_≡_, sym, ap, _∙_}
@@ -10,6 +8,7 @@ use types.Run.{OneOf, miss}
 use denote.Enum.Declared.{tagOf}
 use Rattle.bounds.specs.ReadyLaws.{activities-are}
 use Rattle.dates.specs.Columns.{earlyIn, lateIn}
+use Rattle.dates.specs.StandingLaws.{never-refused}
 use Rattle.passes.specs.Backward.{late}
 use Rattle.passes.specs.Dates.{leaves}
 use Rattle.order.specs.Plan.{planOf}
@@ -18,7 +17,7 @@ use Rattle.memory.specs.State.{State, stateOf}
 use Rattle.placing.specs.declared.Actual.the-variants.{Unstarted, Begun, Completed}
 use Rattle.placing.specs.declared.Actual.{Actual}
 use Rattle.placing.proofs.Actual.{the-type}
-use Rattle.backward.specs.BackLaws.{stored-late, stored-frame, back-completed, back-unfinished, not-refused}
+use Rattle.backward.specs.BackLaws.{stored-late, stored-frame, back-completed, back-unfinished}
 use Rattle.backward.specs.FinishLaws.{start-at, finish-at}
 use Rattle.backward.proofs.backward_one.Statement.{statement}
 use Rattle.backward.proofs.backward_one.Tie as tie
@@ -54,7 +53,7 @@ returns c =
       c .before .place-unfinished .ensures .0
           ∙ sym
           (back-unfinished p (earlyIn p S) (s .args .last) (lateIn p S (s .args .last)) (s .args .i) (c .before .before .before .before .recorded-at .result) (a ∙ s .pre .1 (s .args .i) b)
-          (not-completed (c .before .before .before .before .recorded-at .result) (c .before .before .before .match .keys2)) (λ k e. not-refused _ _ _ k (sym a ∙ e))),
+          (not-completed (c .before .before .before .before .recorded-at .result) (c .before .before .before .match .keys2)) (λ k e. never-refused _ _ _ k (sym a ∙ e))),
       c .before .place-unfinished .ensures .1,
       c .before .place-unfinished .ensures .2,
     )

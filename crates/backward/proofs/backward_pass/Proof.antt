@@ -1,6 +1,6 @@
 -- `backward::backward_pass` meets its contract: all late dates are the end before the first activity is taken.
 use mathlib.Core.List.{reverse}
-use mathlib.Core.Path.{_≡_, sym, ap, _∙_}
+use mathlib.Core.Path.{_≡_, refl, sym, ap, _∙_}
 use Prim.Native.Nat.{ℕ}
 use native.Mathlib.Omega.{arith}
 use Rattle.memory.specs.State.{State, stateOf, fillAct}
@@ -12,9 +12,10 @@ use Rattle.order.specs.Checks.{order}
 use Rattle.passes.specs.Dates.{through}
 use Rattle.passes.specs.Backward.{backward}
 use Rattle.dates.specs.Columns.{lateIn}
+use Rattle.dates.specs.KeptLaws.{ready-kept, recorded-kept, early-kept}
 use Rattle.bounds.specs.ReadyLaws.{activities-are}
 use Rattle.backward.specs.Stored.{filled}
-use Rattle.backward.specs.BackLaws.{filled-late, filled-frame, early-kept, recorded-after, ready-after}
+use Rattle.backward.specs.BackLaws.{filled-late, filled-frame}
 use Rattle.backward.proofs.backward_pass.Statement.{statement}
 use Rattle.backward.proofs.backward_pass.Tie as tie
 
@@ -34,7 +35,7 @@ backward-all-requires c κs =
     let T = stateOf (C .activities) (C .links) (c .before .before .fill-act2 .last .0) in
     let E : T ≡ filled S (C .activities) last = c .before .before .fill-act2 .ensures .0 ∙ ap (λ (W : State). fillAct W lateFinish (C .activities) (s .args .last)) (c .before .before .before .before .before .fill-act .ensures .0) in
     let F : Frame 10 12 0 0 S T = rw E (filled-frame p S last (C .activities)) in
-    (ready-after (s .pre .0) F (c .before .before .fill-act2 .ensures .1 ∙ c .before .before .before .before .before .fill-act .ensures .1), recorded-after F p (s .pre .1))
+    (ready-kept (s .pre .0) F (c .before .before .fill-act2 .ensures .1 ∙ c .before .before .before .before .before .fill-act .ensures .1) (omega arith), recorded-kept F p refl refl refl (s .pre .1))
 
 same-length : tie.Need-same-length
 same-length c = c .before .backward-all .ensures .2 ∙ c .before .before .before .before .fill-act2 .ensures .1 ∙ c .before .before .before .before .before .before .before .fill-act .ensures .1
@@ -52,7 +53,7 @@ returns c =
     let b = c .before .backward-all .ensures in
     let x : lateIn p T last ≡ record { ls = λ i. last; lf = λ i. last } =
     ap (λ (W : State). lateIn p W last) (E ∙ ap (λ (n : ℕ). filled S n last) (sym (activities-are (s .args .sheet .now) C))) ∙ filled-late p S last in (
-      b .0 ∙ (λ z. through (backward p (early-kept F p z) last) (reverse (order p)) (x z)),
+      b .0 ∙ (λ z. through (backward p (early-kept F p refl refl refl z) last) (reverse (order p)) (x z)),
       frame-then 10 12 0 0 F (b .1),
       b .2 ∙ c .before .before .before .before .fill-act2 .ensures .1 ∙ c .before .before .before .before .before .before .before .fill-act .ensures .1,
     )

@@ -12,10 +12,11 @@ use Rattle.order.specs.Plan.{planOf}
 use Rattle.order.specs.Checks.{order}
 use Rattle.passes.specs.Floats.{freeFloat}
 use Rattle.dates.specs.Columns.{lateIn}
+use Rattle.dates.specs.KeptLaws.{ready-kept, recorded-kept}
 use Rattle.dates.specs.OrderLaws.{backward-at, backward-below, backward-length}
 use Rattle.dates.specs.ThroughLaws.{Through, through-start, through-turn, through-stop, through-end}
 use Rattle.floats.specs.Slack.{freedIn}
-use Rattle.floats.specs.PassLaws.{recorded-after, ready-after, step-kept}
+use Rattle.floats.specs.PassLaws.{step-kept}
 use Rattle.floats.proofs.free_each.Statement.{statement}
 use Rattle.floats.proofs.free_each.Tie as tie
 
@@ -53,7 +54,7 @@ get-act-requires c κs =
     let p = planOf (x .sheet .now) (x .contents) in
     let S = stateOf (x .contents .activities) (x .contents .links) (x .work .now) in
     let L = c .before .before .loop in
-    let R = ready-after (s .pre .0) (L .inv .1) (L .inv .0) in
+    let R = ready-kept (s .pre .0) (L .inv .1) (L .inv .0) (omega arith) in
     (R .room, omega arith, omega arith)
 
 free-at-requires : tie.Need-free-at-requires Inv-loop μ-loop
@@ -63,8 +64,8 @@ free-at-requires c κs =
     let p = planOf (x .sheet .now) (x .contents) in
     let S = stateOf (x .contents .activities) (x .contents .links) (x .work .now) in
     let L = c .before .before .before .before .loop in
-    let R = ready-after (s .pre .0) (L .inv .1) (L .inv .0) in
-    (R, recorded-after (L .inv .1) p (s .pre .1), omega (arith, backward-below R (L .q) (c .before .before .before .loop-test .taken), c .before .get-act .ensures .0))
+    let R = ready-kept (s .pre .0) (L .inv .1) (L .inv .0) (omega arith) in
+    (R, recorded-kept (L .inv .1) p refl refl refl (s .pre .1), omega (arith, backward-below R (L .q) (c .before .before .before .loop-test .taken), c .before .get-act .ensures .0))
 
 enum-told : tie.Need-enum-told Inv-loop μ-loop
 enum-told c = search needs
@@ -82,7 +83,7 @@ returns c =
     let p = planOf (x .sheet .now) (x .contents) in
     let S = stateOf (x .contents .activities) (x .contents .links) (x .work .now) in
     let L = c .before .before .before .before .before .before .before .before .before .loop in
-    let R = ready-after (s .pre .0) (L .inv .1) (L .inv .0) in
+    let R = ready-kept (s .pre .0) (L .inv .1) (L .inv .0) (omega arith) in
     let y = freedIn p (stateOf (x .contents .activities) (x .contents .links) (c .before .before .before .before .free-at .last .1 .1 .1 .1 .0)) in
     let r = c .before .before .before .before .free-at .result in (
       λ e. through-stop (freeFloat p (x .finish) (lateIn p S e)) (reverse (order p)) (freedIn p S) (L .inv .2 e) _ (c .before .before .before .before .before .before .get-act .ensures .0 ∙ backward-at R (L .q) (c .before .before .before .before .before .before .before .before .loop-test .taken)) (omega (arith, backward-length R, c .before .before .before .before .before .before .before .before .loop-test .taken)) y r
@@ -104,7 +105,7 @@ loop-again c =
     let p = planOf (x .sheet .now) (x .contents) in
     let S = stateOf (x .contents .activities) (x .contents .links) (x .work .now) in
     let L = c .before .before .before .before .before .before .before .before .loop in
-    let R = ready-after (s .pre .0) (L .inv .1) (L .inv .0) in
+    let R = ready-kept (s .pre .0) (L .inv .1) (L .inv .0) (omega arith) in
     let y = freedIn p (stateOf (x .contents .activities) (x .contents .links) (c .before .before .before .free-at .last .1 .1 .1 .1 .0)) in
     let r = c .before .before .before .free-at .result in (
       c .before .before .before .free-at .ensures .2 ∙ L .inv .0,
@@ -123,7 +124,7 @@ returns-2 c =
     let p = planOf (x .sheet .now) (x .contents) in
     let S = stateOf (x .contents .activities) (x .contents .links) (x .work .now) in
     let L = c .before .loop in
-    let R = ready-after (s .pre .0) (L .inv .1) (L .inv .0) in
+    let R = ready-kept (s .pre .0) (L .inv .1) (L .inv .0) (omega arith) in
     (λ e. through-end (freeFloat p (x .finish) (lateIn p S e)) (reverse (order p)) (freedIn p S) (L .inv .2 e) (omega (arith, backward-length R, c .loop-test .left)), L .inv .1, L .inv .0)
 
 pub free-each-spec : {M : Type 1} → statement M

@@ -1,5 +1,5 @@
 -- `floats::free_pass` meets its contract.
-use mathlib.Core.Path.{_∙_}
+use mathlib.Core.Path.{refl, _∙_}
 use native.Mathlib.Omega.{arith}
 use mathlib.Core.List.{reverse}
 use Rattle.memory.specs.State.{stateOf}
@@ -8,7 +8,8 @@ use Rattle.topology.specs.Frame.{Frame}
 use Rattle.topology.specs.FrameLaws.{frame-fill, frame-then}
 use Rattle.order.specs.Plan.{planOf}
 use Rattle.order.specs.Checks.{order}
-use Rattle.floats.specs.PassLaws.{recorded-after, ready-after, pass-cleared}
+use Rattle.dates.specs.KeptLaws.{ready-kept, recorded-kept}
+use Rattle.floats.specs.PassLaws.{pass-cleared}
 use Rattle.floats.proofs.free_pass.Statement.{statement}
 use Rattle.floats.proofs.free_pass.Tie as tie
 
@@ -23,7 +24,7 @@ free-each-requires c κs =
     let T = stateOf (x .contents .activities) (x .contents .links) (c .before .before .fill-act .last .0) in
     let h = c .before .before .fill-act .ensures in
     let F : Frame 12 16 0 0 S T = rw (h .0) (frame-fill 12 16 0 0 freeFloat (omega arith) (omega arith) S (x .contents .activities) 0) in
-    (ready-after (s .pre .0) F (h .1), recorded-after F (planOf (x .sheet .now) (x .contents)) (s .pre .1))
+    (ready-kept (s .pre .0) F (h .1) (omega arith), recorded-kept F (planOf (x .sheet .now) (x .contents)) refl refl refl (s .pre .1))
 
 same-length : tie.Need-same-length
 same-length c = c .before .free-each .ensures .2 ∙ c .before .before .before .before .fill-act .ensures .1

@@ -5,6 +5,7 @@ use lib.ListN.{length}
 use mathlib.Core.Path.{_≡_, refl, _∙_}
 use native.Mathlib.Omega.{arith}
 use Rattle.dates.specs.Columns.{earlyIn}
+use Rattle.dates.specs.KeptLaws.{ready-kept, recorded-kept}
 use Rattle.dates.specs.OrderLaws.{order-length, order-at, order-below}
 use Rattle.dates.specs.ThroughLaws.{Through, through-start, through-turn, through-stop, through-end}
 use Rattle.memory.specs.State.{stateOf}
@@ -13,7 +14,6 @@ use Rattle.order.specs.Plan.{planOf}
 use Rattle.passes.specs.Forward.{forward}
 use Rattle.topology.specs.Frame.{Frame}
 use Rattle.topology.specs.FrameLaws.{frame-refl, frame-then}
-use Rattle.forward.specs.StoreLaws.{ready-kept, recorded-stays}
 use Rattle.forward.proofs.forward_all.Statement.{statement}
 use Rattle.forward.proofs.forward_all.Tie as tie
 
@@ -35,8 +35,8 @@ get-act-requires c κs = (omega (arith, c .before .before .before .before .befor
 
 forward-one-requires : tie.Need-forward-one-requires Inv-loop μ-loop
 forward-one-requires c κs = let s = c .before .before .before .before .before .before .before in
-    let kept = ready-kept (s .args .sheet .now) (s .args .contents) _ _ (c .before .before .before .before .loop .inv .1) (c .before .before .before .before .loop .inv .2) (s .pre .0) in
-    (kept, recorded-stays (s .args .sheet .now) (s .args .contents) _ _ (c .before .before .before .before .loop .inv .1) (s .pre .1), omega (arith, c .before .get-act .ensures .0, order-below kept _ (c .before .before .before .loop-test .taken)))
+    let kept = ready-kept (s .pre .0) (c .before .before .before .before .loop .inv .1) (c .before .before .before .before .loop .inv .2) (omega arith) in
+    (kept, recorded-kept (c .before .before .before .before .loop .inv .1) (planOf (s .args .sheet .now) (s .args .contents)) refl refl refl (s .pre .1), omega (arith, c .before .get-act .ensures .0, order-below kept _ (c .before .before .before .loop-test .taken)))
 
 enum-told : tie.Need-enum-told Inv-loop μ-loop
 enum-told c = search needs
@@ -52,7 +52,7 @@ returns c = let s = c .before .before .before .before .before .before .before .b
     let p = planOf (s .args .sheet .now) (s .args .contents) in
     let S = stateOf (s .args .contents .activities) (s .args .contents .links) (s .args .work .now) in
     let d = earlyIn p S in
-    (through-stop (forward p) (order p) d (c .before .before .before .before .before .before .before .before .before .loop .inv .0) _ (c .before .before .before .before .before .before .get-act .ensures .0 ∙ order-at (ready-kept (s .args .sheet .now) (s .args .contents) _ _ (c .before .before .before .before .before .before .before .before .before .loop .inv .1) (c .before .before .before .before .before .before .before .before .before .loop .inv .2) (s .pre .0)) _ (c .before .before .before .before .before .before .before .before .loop-test .taken)) (omega (arith, order-length (s .pre .0), c .before .before .before .before .before .before .before .before .loop-test .taken)) _ _ (c .before .before .before .before .forward-one .ensures .0) d _ (c .before .k .given .1), frame-then 12 15 0 0 (c .before .before .before .before .before .before .before .before .before .loop .inv .1) (c .before .before .before .before .forward-one .ensures .1), c .before .before .before .before .forward-one .ensures .2 ∙ c .before .before .before .before .before .before .before .before .before .loop .inv .2)
+    (through-stop (forward p) (order p) d (c .before .before .before .before .before .before .before .before .before .loop .inv .0) _ (c .before .before .before .before .before .before .get-act .ensures .0 ∙ order-at (ready-kept (s .pre .0) (c .before .before .before .before .before .before .before .before .before .loop .inv .1) (c .before .before .before .before .before .before .before .before .before .loop .inv .2) (omega arith)) _ (c .before .before .before .before .before .before .before .before .loop-test .taken)) (omega (arith, order-length (s .pre .0), c .before .before .before .before .before .before .before .before .loop-test .taken)) _ _ (c .before .before .before .before .forward-one .ensures .0) d _ (c .before .k .given .1), frame-then 12 15 0 0 (c .before .before .before .before .before .before .before .before .before .loop .inv .1) (c .before .before .before .before .forward-one .ensures .1), c .before .before .before .before .forward-one .ensures .2 ∙ c .before .before .before .before .before .before .before .before .before .loop .inv .2)
 
 add-q : tie.Need-add-q Inv-loop μ-loop
 add-q c = omega (arith, c .before .before .before .before .before .before .before .loop-test .taken)
@@ -65,7 +65,7 @@ loop-again c = let s = c .before .before .before .before .before .before .before
     let p = planOf (s .args .sheet .now) (s .args .contents) in
     let S = stateOf (s .args .contents .activities) (s .args .contents .links) (s .args .work .now) in
     let d = earlyIn p S in
-    (through-turn (forward p) (order p) d (c .before .before .before .before .before .before .before .before .loop .inv .0) _ (c .before .before .before .before .before .get-act .ensures .0 ∙ order-at (ready-kept (s .args .sheet .now) (s .args .contents) _ _ (c .before .before .before .before .before .before .before .before .loop .inv .1) (c .before .before .before .before .before .before .before .before .loop .inv .2) (s .pre .0)) _ (c .before .before .before .before .before .before .before .loop-test .taken)) (omega (arith, order-length (s .pre .0), c .before .before .before .before .before .before .before .loop-test .taken)) _ _ (c .before .before .before .forward-one .ensures .0) (c .enum-told .given .1), frame-then 12 15 0 0 (c .before .before .before .before .before .before .before .before .loop .inv .1) (c .before .before .before .forward-one .ensures .1), c .before .before .before .forward-one .ensures .2 ∙ c .before .before .before .before .before .before .before .before .loop .inv .2)
+    (through-turn (forward p) (order p) d (c .before .before .before .before .before .before .before .before .loop .inv .0) _ (c .before .before .before .before .before .get-act .ensures .0 ∙ order-at (ready-kept (s .pre .0) (c .before .before .before .before .before .before .before .before .loop .inv .1) (c .before .before .before .before .before .before .before .before .loop .inv .2) (omega arith)) _ (c .before .before .before .before .before .before .before .loop-test .taken)) (omega (arith, order-length (s .pre .0), c .before .before .before .before .before .before .before .loop-test .taken)) _ _ (c .before .before .before .forward-one .ensures .0) (c .enum-told .given .1), frame-then 12 15 0 0 (c .before .before .before .before .before .before .before .before .loop .inv .1) (c .before .before .before .forward-one .ensures .1), c .before .before .before .forward-one .ensures .2 ∙ c .before .before .before .before .before .before .before .before .loop .inv .2)
 
 same-length-2 : tie.Need-same-length-2 Inv-loop μ-loop
 same-length-2 c = search needs

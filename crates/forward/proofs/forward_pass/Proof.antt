@@ -1,10 +1,12 @@
 -- `forward::forward_pass` meets its contract. The dates are the origin throughout before the pass.
 use borrow.Author.Needs.{needs}
-use mathlib.Core.Path.{sym, _∙_}
+use mathlib.Core.Path.{refl, sym, _∙_}
+use native.Mathlib.Omega.{arith}
+use Rattle.dates.specs.KeptLaws.{ready-kept, recorded-kept}
 use Rattle.bounds.specs.ReadyLaws.{activities-are}
 use Rattle.order.specs.Plan.{planOf}
 use Rattle.topology.specs.FrameLaws.{frame-then}
-use Rattle.forward.specs.StoreLaws.{ready-kept, recorded-stays, filled-frame, filled-pass}
+use Rattle.forward.specs.StoreLaws.{filled-frame, filled-pass}
 use Rattle.forward.proofs.forward_pass.Statement.{statement}
 use Rattle.forward.proofs.forward_pass.Tie as tie
 
@@ -21,7 +23,7 @@ forward-all-requires : tie.Need-forward-all-requires
 forward-all-requires c κs = let s = c .before .before .before .before .before .before .before .before .before .before in
     let p = planOf (s .args .sheet .now) (s .args .contents) in
     let frame = filled-frame p _ _ _ _ _ (c .before .before .before .before .before .fill-act .ensures .0) (c .before .before .fill-act2 .ensures .0) in
-    (ready-kept (s .args .sheet .now) (s .args .contents) _ _ frame (c .before .before .fill-act2 .ensures .1 ∙ c .before .before .before .before .before .fill-act .ensures .1) (s .pre .0), recorded-stays (s .args .sheet .now) (s .args .contents) _ _ frame (s .pre .1))
+    (ready-kept (s .pre .0) frame (c .before .before .fill-act2 .ensures .1 ∙ c .before .before .before .before .before .fill-act .ensures .1) (omega arith), recorded-kept frame p refl refl refl (s .pre .1))
 
 same-length : tie.Need-same-length
 same-length c = search needs

@@ -11,7 +11,8 @@ use Rattle.order.specs.Plan.{Plan}
 use Rattle.passes.specs.Floats.{lastOnes}
 use Rattle.dates.specs.Columns.{flags, earlyIn}
 use Rattle.dates.specs.Standing.{Standing, Recorded}
-use Rattle.longest.specs.KeptLaws.{stays, stays-recorded}
+use Rattle.dates.specs.StandingLaws.{standing-kept}
+use Rattle.dates.specs.KeptLaws.{recorded-kept}
 use Rattle.longest.specs.LastLaws.{bit-fits, marks-none, last-turn, frame-mark}
 use Rattle.longest.proofs.mark_last.Statement.{statement}
 use Rattle.longest.proofs.mark_last.Tie as tie
@@ -60,7 +61,7 @@ loop-again c =
     let e = c .before .put-act .ensures in
     let f = c .before .before .before .flag in
     let g = c .before .before .before .before .is-last in
-    (omega (arith, c .before .before .before .before .before .before .loop-test .taken), e .1 ∙ v .1, frame-mark (v .2) (b .loop .i) (f .result) (e .0), λ p t a W R. last-turn p S₀ S T (v .2) (x .finish) (b .loop .i) (f .result) (g .result) (e .0) (f .ensures) (v .3 p t a W R) (g .ensures p t a (stays p (v .2) W) (stays-recorded p (v .2) R)))
+    (omega (arith, c .before .before .before .before .before .before .loop-test .taken), e .1 ∙ v .1, frame-mark (v .2) (b .loop .i) (f .result) (e .0), λ p t a W R. last-turn p S₀ S T (v .2) (x .finish) (b .loop .i) (f .result) (g .result) (e .0) (f .ensures) (v .3 p t a W R) (g .ensures p t a (standing-kept (v .2) p (omega arith) W) (recorded-kept (v .2) p refl refl refl R)))
 
 same-length : tie.Need-same-length Inv-loop μ-loop
 same-length c = c .before .loop .inv .1

@@ -10,8 +10,9 @@ use Rattle.memory.specs.Fields.{orderAt}
 use Rattle.topology.specs.Frame.{Frame}
 use Rattle.topology.specs.FrameLaws.{frame-refl, frame-then}
 use Rattle.order.specs.Plan.{planOf}
+use Rattle.dates.specs.StandingLaws.{standing-kept}
 use Rattle.bounds.specs.ReadyLaws.{activities-are}
-use Rattle.longest.specs.KeptLaws.{lent-kept, stays}
+use Rattle.longest.specs.KeptLaws.{lent-kept}
 use Rattle.dates.specs.OrderLaws.{back-below}
 use Rattle.longest.specs.WalkLaws.{PathDone, path-start, path-turn, path-stop, path-end}
 use Rattle.longest.proofs.path_back.Statement.{statement}
@@ -100,7 +101,7 @@ returns c =
     let q = b .loop .q in
     let e = activities-are (x .sheet .now) (x .contents) in
     let g : c .before .before .before .before .before .before .get-act .result ≡ S .act orderAt (p .activities - (q + 1)) = rw e (c .before .before .before .before .before .before .get-act .ensures .0) in
-    let w = stays p (v .2) (z .pre .ready .standing) in (
+    let w = standing-kept (v .2) p (omega arith) (z .pre .ready .standing) in (
       λ other.
           path-stop p (z .pre .ready .fine) S₀ w (v .2) (omega (arith, e, c .before .before .before .before .before .before .before .before .loop-test .taken)) other (v .3 other) (c .before .before .before .before .before .before .get-act .result) g T (m .result) (m .ensures .0 other) (c .before .r .given .0 .0) (c .before .r .given .1),
       frame-then 16 17 0 0 (v .2) (m .ensures .1),
@@ -132,7 +133,7 @@ loop-again c =
     let q = b .loop .q in
     let e = activities-are (x .sheet .now) (x .contents) in
     let g : c .before .before .before .before .before .get-act .result ≡ S .act orderAt (p .activities - (q + 1)) = rw e (c .before .before .before .before .before .get-act .ensures .0) in
-    let w = stays p (v .2) (z .pre .ready .standing) in (
+    let w = standing-kept (v .2) p (omega arith) (z .pre .ready .standing) in (
       omega (arith, c .before .before .before .before .before .before .before .loop-test .taken),
       m .ensures .2 ∙ v .1,
       frame-then 16 17 0 0 (v .2) (m .ensures .1),

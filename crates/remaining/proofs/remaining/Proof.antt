@@ -9,8 +9,9 @@ use Rattle.topology.specs.Frame.{Frame}
 use Rattle.topology.specs.FrameLaws.{frame-refl, frame-then}
 use Rattle.order.specs.Plan.{planOf}
 use Rattle.placing.specs.PlacingSound.{clash}
+use Rattle.dates.specs.KeptLaws.{ready-kept}
 use Rattle.remaining.specs.Rows.{Passed}
-use Rattle.remaining.specs.RowLaws.{ready-kept, passed-start, passed-turn, passed-stop, passed-end}
+use Rattle.remaining.specs.RowLaws.{passed-start, passed-turn, passed-stop, passed-end}
 use Rattle.remaining.proofs.remaining.Statement.{statement}
 use Rattle.remaining.proofs.remaining.Tie as tie
 
@@ -32,9 +33,7 @@ loop-holds c =
 record-one-requires : tie.Need-record-one-requires Inv-loop μ-loop
 record-one-requires c κs =
     let L = c .before .before .loop in
-    let S = c .before .before .before .before .before in
-    let x = S .args in
-    (ready-kept (x .sheet .now) (x .contents) (x .places .now) (x .t) (x .work .now) (L .work) (S .pre) (L .inv .1) (L .inv .2), omega arith)
+    (ready-kept (c .before .before .before .before .before .pre) (L .inv .2) (L .inv .1) (omega arith), omega arith)
 
 enum-told : tie.Need-enum-told Inv-loop μ-loop
 enum-told c = search needs

@@ -5,7 +5,7 @@ use native.Mathlib.Omega.{arith}
 use Rattle.memory.specs.State.{stateOf}
 use Rattle.topology.specs.FrameLaws.{frame-acts, frame-then}
 use Rattle.order.specs.Plan.{planOf}
-use Rattle.run.specs.KeptLaws.{ready-after, recorded-after}
+use Rattle.dates.specs.KeptLaws.{ready-kept, recorded-kept}
 use Rattle.run.specs.RunLaws.{not-done, early-stops, early-goes}
 use Rattle.run.proofs.early_dates.Statement.{statement}
 use Rattle.run.proofs.early_dates.Tie as tie
@@ -41,7 +41,7 @@ forward-pass-requires c κs =
     let s = c .before .before .before .before .before .before .before .before in
     let x = s .args in
     let call = c .before .before .before .before .remaining in (
-      ready-after (x .sheet .now) (x .contents) (x .places .now) (x .t) (x .work .now) (call .last .1 .1 .1 .1 .0) (omega arith) (s .pre) (call .ensures .3) (call .ensures .2),
+      ready-kept (s .pre) (call .ensures .2) (call .ensures .3) (omega arith),
       call .ensures .1 (c .before .enum-told .given .1),
     )
 
@@ -59,7 +59,7 @@ returns-2 c =
     let T₁ = stateOf (x .contents .activities) (x .contents .links) (first .last .1 .1 .1 .1 .0) in
     let T = stateOf (x .contents .activities) (x .contents .links) (second .last .1 .1 .1 .1 .0) in (
       early-goes p T₁ T (first .result) (second .result) (first .ensures .0) (told .1) (second .ensures .0),
-      λ d. recorded-after p (second .ensures .1) refl refl refl (first .ensures .1 (told .1)),
+      λ d. recorded-kept (second .ensures .1) p refl refl refl (first .ensures .1 (told .1)),
       frame-then 12 20 0 0 (frame-acts 12 20 0 0 14 20 (omega arith) (omega arith) (first .ensures .2)) (frame-acts 12 20 0 0 12 15 (omega arith) (omega arith) (second .ensures .1)),
       second .ensures .2 ∙ first .ensures .3,
     )

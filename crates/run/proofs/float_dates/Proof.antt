@@ -5,7 +5,7 @@ use native.Mathlib.Omega.{arith}
 use Rattle.memory.specs.State.{stateOf}
 use Rattle.order.specs.Plan.{planOf}
 use Rattle.topology.specs.FrameLaws.{frame-acts, frame-then}
-use Rattle.run.specs.KeptLaws.{ready-after, recorded-after}
+use Rattle.dates.specs.KeptLaws.{ready-kept, recorded-kept}
 use Rattle.run.specs.RunLaws.{floats-stop, floats-go}
 use Rattle.run.proofs.float_dates.Statement.{statement}
 use Rattle.run.proofs.float_dates.Tie as tie
@@ -40,8 +40,8 @@ path-pass-requires c κs =
     let x = s .args in
     let call = c .before .before .before .before .free-pass in
     let a = call .ensures in (
-      ready-after (x .sheet .now) (x .contents) (x .places .now) (x .t) (x .work .now) (call .last .1 .1 .1 .1 .0) (omega arith) (s .pre .0) (a .2) (a .1),
-      recorded-after (planOf (x .sheet .now) (x .contents)) (a .1) refl refl refl (s .pre .1),
+      ready-kept (s .pre .0) (a .1) (a .2) (omega arith),
+      recorded-kept (a .1) (planOf (x .sheet .now) (x .contents)) refl refl refl (s .pre .1),
     )
 
 same-length-2 : tie.Need-same-length-2

@@ -7,7 +7,7 @@ use Rattle.topology.specs.FrameLaws.{frame-acts, frame-then}
 use Rattle.order.specs.Plan.{planOf}
 use Rattle.dates.specs.Columns.{earlyIn}
 use Rattle.run.specs.Stages.{LateIn}
-use Rattle.run.specs.KeptLaws.{ready-after, recorded-after}
+use Rattle.dates.specs.KeptLaws.{ready-kept, recorded-kept}
 use Rattle.run.specs.RunLaws.{run-late, run-floats, run-whole}
 use Rattle.run.proofs.late_and_floats.Statement.{statement}
 use Rattle.run.proofs.late_and_floats.Tie as tie
@@ -46,8 +46,8 @@ float-dates-requires c κs =
     let s = c .before .before .before .before .before .before .before .before .before .before .before in
     let x = s .args in
     let call = c .before .before .before .before .before .late-dates in (
-      ready-after (x .sheet .now) (x .contents) (x .places .now) (x .t) (x .work .now) (call .last .1 .1 .1 .1 .0) (omega arith) (s .pre .0) (call .ensures .2) (call .ensures .1),
-      recorded-after (planOf (x .sheet .now) (x .contents)) (call .ensures .1) refl refl refl (s .pre .1),
+      ready-kept (s .pre .0) (call .ensures .1) (call .ensures .2) (omega arith),
+      recorded-kept (call .ensures .1) (planOf (x .sheet .now) (x .contents)) refl refl refl (s .pre .1),
     )
 
 enum-known-k-2 : tie.Need-enum-known-k-2

@@ -8,7 +8,7 @@ use Rattle.order.specs.Plan.{planOf}
 use Rattle.dates.specs.declared.Step.{Step}
 use Rattle.dates.specs.Columns.{earlyIn, ended}
 use Rattle.run.specs.Stages.{earlyDates}
-use Rattle.run.specs.KeptLaws.{ready-after, recorded-after}
+use Rattle.dates.specs.KeptLaws.{ready-kept, recorded-kept}
 use Rattle.run.specs.RunLaws.{not-by, run-early}
 use Rattle.run.proofs.run.Statement.{statement}
 use Rattle.run.proofs.run.Tie as tie
@@ -47,7 +47,7 @@ late-and-floats-requires c κs =
     let call = c .before .before .before .before .early-dates in
     let told = c .before .enum-told .given in
     let T = stateOf (x .contents .activities) (x .contents .links) (call .last .1 .1 .1 .1 .0) in (
-      ready-after (x .sheet .now) (x .contents) (x .places .now) (x .t) (x .work .now) (call .last .1 .1 .1 .1 .0) (omega arith) (s .pre) (call .ensures .3) (call .ensures .2),
+      ready-kept (s .pre) (call .ensures .2) (call .ensures .3) (omega arith),
       call .ensures .1 (told .1),
       subst (λ (r : Step). ended (earlyIn p T) r ≡ earlyDates p) (told .1) (call .ensures .0),
     )
@@ -64,7 +64,7 @@ returns-2 c =
     let second = c .before .late-and-floats in
     let told = c .before .before .before .enum-told .given in (
       second .ensures .0,
-      λ e d. recorded-after p (second .ensures .1) refl refl refl (first .ensures .1 (told .1)),
+      λ e d. recorded-kept (second .ensures .1) p refl refl refl (first .ensures .1 (told .1)),
       frame-then 10 20 0 0 (frame-acts 10 20 0 0 12 20 (omega arith) (omega arith) (first .ensures .2)) (frame-acts 10 20 0 0 10 17 (omega arith) (omega arith) (second .ensures .1)),
       second .ensures .2 ∙ first .ensures .3,
     )

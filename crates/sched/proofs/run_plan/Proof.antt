@@ -5,7 +5,7 @@ use native.Mathlib.Omega.{arith}
 use Rattle.memory.specs.State.{stateOf}
 use Rattle.order.specs.Plan.{planOf}
 use Rattle.run.specs.Stages.{RunIn}
-use Rattle.run.specs.KeptLaws.{ready-after}
+use Rattle.dates.specs.KeptLaws.{ready-kept}
 use Rattle.sched.specs.CallLaws.{run-refuses}
 use Rattle.sched.proofs.run_plan.Statement.{statement}
 use Rattle.sched.proofs.run_plan.Tie as tie
@@ -47,7 +47,7 @@ show-plan-requires c κs =
     let p = planOf (x .sheet .now) (x .contents) in
     let ran = c .before .before .before .before .before .before .before .run in
     let g = c .before .before .before .before .last .given in (
-      ready-after (x .sheet .now) (x .contents) (x .places .now) (x .t) (x .work .now) (ran .last .1 .1 .1 .1 .0) (omega arith) (s .pre .0) (ran .ensures .3) (ran .ensures .2),
+      ready-kept (s .pre .0) (ran .ensures .2) (ran .ensures .3) (omega arith),
       ran .ensures .1 (g .0 .0) (g .1),
       s .pre .1,
       s .pre .2,

@@ -7,10 +7,10 @@ use Rattle.order.specs.Plan.{planOf}
 use Rattle.passes.specs.Run.{Ran}
 use Rattle.dates.specs.Columns.{ended}
 use Rattle.results.specs.View.{ranIn, shownIn}
+use Rattle.results.specs.ViewLaws.{ran-kept}
 use Rattle.rows.specs.WritingLaws.{to-write}
-use Rattle.run.specs.KeptLaws.{ready-after, recorded-after}
+use Rattle.dates.specs.KeptLaws.{ready-kept, recorded-kept}
 use Rattle.sched.specs.CallLaws.{AcceptedAs, show-refuses, show-accepts}
-use Rattle.sched.specs.ShownLaws.{ran-kept}
 use Rattle.sched.proofs.show_plan.Statement.{statement}
 use Rattle.sched.proofs.show_plan.Tie as tie
 
@@ -53,8 +53,8 @@ accept-requires c κs =
     let x = s .args in
     let shown = c .before .before .before .before .before .results in (
       to-write
-          (ready-after (x .sheet .now) (x .contents) (x .places .now) (x .t) (x .work .now) (shown .last .1 .1 .1 .1 .1 .0) (omega arith) (s .pre .0) (shown .ensures .2) (shown .ensures .1))
-          (s .pre .2) (recorded-after (planOf (x .sheet .now) (x .contents)) (shown .ensures .1) refl refl refl (s .pre .1)),
+          (ready-kept (s .pre .0) (shown .ensures .1) (shown .ensures .2) (omega arith))
+          (s .pre .2) (recorded-kept (shown .ensures .1) (planOf (x .sheet .now) (x .contents)) refl refl refl (s .pre .1)),
       s .pre .3,
     )
 
@@ -77,7 +77,7 @@ returns-2 c =
     let T = stateOf (x .contents .activities) (x .contents .links) (shown .last .1 .1 .1 .1 .1 .0) in
     let ran = ranIn p S (x .last) other in
     let f = shownIn p T in
-    let A = subst (λ (q : Ran). AcceptedAs p q f (x .ignored) (x .ends) (x .results .now) (call .last .1 .1 .1 .0) (call .result)) (ran-kept p (shown .ensures .1) (x .last) other) (call .ensures .0 (x .last) other) in
+    let A = subst (λ (q : Ran). AcceptedAs p q f (x .ignored) (x .ends) (x .results .now) (call .last .1 .1 .1 .0) (call .result)) (ran-kept (shown .ensures .1) p (x .last) other (omega arith)) (call .ensures .0 (x .last) other) in
     λ m L.
     show-accepts m p L (s .pre .0 .fine) ran (s .pre .6 .is) f (sym (shown .ensures .0 (x .last) other) ∙ ap (ended f) (told .1)) (call .result) (A .day) (p .activities) (x .ignored) (x .ends) (call .last .1 .1 .1 .0)
     (shown .last .1 .1 .1 .1 .1 .0) (call .last .1 .1 .1 .1 .0) (A .is) (A .day-is) refl (s .pre .4) (s .pre .5) (A .rows-is) (shown .ensures .2) (call .ensures .1)
