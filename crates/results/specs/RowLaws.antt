@@ -19,9 +19,6 @@ use Rattle.project.specs.declared.ActivityKind.{ActivityKind}
 use Rattle.project.specs.declared.Project.{Project}
 use Rattle.placing.specs.declared.Actual.{Actual}
 use Rattle.order.specs.Plan.{Plan, planOf}
-use Rattle.order.specs.Checks.{checked, beforeOrdering, judgeOrder}
-use Rattle.order.specs.VerdictLaws.{or-fine}
-use Rattle.order.specs.FineLaws.{PlanFine, plan-fine}
 use Rattle.passes.specs.Plan.{own, kindOf, recorded}
 use Rattle.passes.specs.Dates.{Pass, leaves, refused, after, put}
 use Rattle.passes.specs.Floats.{dayOf}
@@ -31,6 +28,7 @@ use Rattle.dates.specs.declared.Step.{Step}
 use Rattle.dates.specs.declared.Step.the-variants.{Done}
 use Rattle.dates.specs.Columns.{ended}
 use Rattle.dates.specs.Standing.{Ready, Recorded}
+use Rattle.dates.specs.FineLaws.{checked-fine}
 use Rattle.dates.specs.KeptLaws.{recorded-kept}
 use Rattle.results.specs.declared.Shown.{Shown}
 use Rattle.results.specs.declared.Times.{Times}
@@ -44,10 +42,6 @@ use Rattle.results.specs.ShowingLaws.{shown-is}
 use Rattle.results.specs.Row.{ToShow, rowShown}
 
 -- ---- what is lent
-pub plan-is-fine : (p : Plan) → checked p .number ≡ 0 → PlanFine p
-unfolding checked
-plan-is-fine p e = plan-fine p .0 (or-fine (beforeOrdering p) (judgeOrder p) .0 e .0)
-
 module _ {s : List ℕ} {c : Contents} {places lengths : List ℕ} {xs : List ℤ} where
   pub to-show : {t : ℕ} → Ready s c places t xs → Lengths (planOf s c) lengths → Recorded (planOf s c) (stateOf (c .activities) (c .links) xs) → ToShow s c places lengths xs
   unfolding planOf
@@ -56,7 +50,7 @@ module _ {s : List ℕ} {c : Contents} {places lengths : List ℕ} {xs : List �
     room = R .room;
     located = R .located;
     days = L;
-    named = λ i b. plan-is-fine (planOf s c) (R .fine) .activities i b .calendar;
+    named = λ i b. checked-fine (planOf s c) (R .fine) .activities i b .calendar;
     recorded = D;
   }
 

@@ -23,10 +23,10 @@ use Rattle.dates.specs.declared.Step.{Step}
 use Rattle.dates.specs.declared.Step.the-variants.{Done}
 use Rattle.dates.specs.Columns.{ended}
 use Rattle.dates.specs.Standing.{Ready}
+use Rattle.dates.specs.FineLaws.{checked-fine}
 use Rattle.results.specs.declared.Shown.{Shown}
 use Rattle.results.specs.Results.{nothing, shownBelow, deepestFirst, rolled, results}
 use Rattle.results.specs.View.{shownTo}
-use Rattle.results.specs.RowLaws.{plan-is-fine}
 use Rattle.rollup.specs.Chained.{LinkedIn, KeysIn}
 use Rattle.rollup.specs.Depths.{depthKey, DepthsTo}
 use Rattle.rollup.specs.Prepared.{Prepared}
@@ -122,7 +122,7 @@ pub to-roll : {s : List ℕ} {c : Contents} {places : List ℕ} {t : ℕ} {xs : 
 to-roll {s} {c} R = record {
   parents = R .standing .parents;
   marks = R .standing .marks;
-  within = parent-le (planOf s c) (plan-is-fine (planOf s c) (R .fine) .parents);
+  within = parent-le (planOf s c) (checked-fine (planOf s c) (R .fine) .parents);
 }
 
 module _ (p : Plan) (r : Ran) where

@@ -22,12 +22,12 @@ use Rattle.passes.specs.Run.{Ran}
 use Rattle.calendars.specs.Calendars.{Lengths}
 use Rattle.dates.specs.ColumnLaws.{column-at}
 use Rattle.dates.specs.Standing.{Ready, Recorded}
+use Rattle.dates.specs.FineLaws.{checked-fine}
 use Rattle.results.specs.declared.Shown.{Shown}
 use Rattle.results.specs.Results.{finishDay}
 use Rattle.results.specs.Rows.{minuteOf, rowOf, rowsBelow}
 use Rattle.results.specs.View.{ranIn, shownIn, shownAt}
 use Rattle.results.specs.ViewLaws.{to-at}
-use Rattle.results.specs.RowLaws.{plan-is-fine}
 use Rattle.rows.specs.Writing.{storedFrom, rowFields, rowWith, rowIn, rowsIn, ToWrite}
 
 -- ---- what is lent
@@ -38,7 +38,7 @@ to-write {s} {c} R L D = record {
   read = R .read;
   room = R .room;
   days = L;
-  named = λ i b. plan-is-fine (planOf s c) (R .fine) .activities i b .calendar;
+  named = λ i b. checked-fine (planOf s c) (R .fine) .activities i b .calendar;
   marks = R .standing .marks;
   recorded = D;
 }
