@@ -14,10 +14,17 @@ use sheets::{Case, GROWTH, IN_TURN, SPANS, START, cases};
 /// Seconds for each call on each sheet, where the command line names none.
 pub const SECONDS: f64 = 0.3;
 
-/// Writes the sheets, each in a file of its name.
+/// Writes the sheets, each in a file of its name; those that are called in turn have their seed after it, but for the first.
 pub fn write(folder: &str) -> std::io::Result<()> {
     std::fs::create_dir_all(folder)?;
-    cases().iter().try_for_each(|c| std::fs::write(Path::new(folder).join(c.name() + ".sheet"), c.bytes()))
+    let put = |name: String, bytes: Vec<u8>| std::fs::write(Path::new(folder).join(name + ".sheet"), bytes);
+    for case in cases() {
+        put(case.name(), case.bytes())?;
+        if SPANS.contains(&case.kind) && GROWTH[..GROWTH.len() - 1].contains(&case.size) {
+            IN_TURN.skip(1).try_for_each(|seed| put(format!("{}-{seed}", case.name()), case.bytes_of(seed)))?;
+        }
+    }
+    Ok(())
 }
 
 /// How busy the machine is, where it says so.

@@ -111,11 +111,14 @@ pub fn invoke(
     }
 }
 
-/// Calls so many times and does nothing else that takes time, for a profiler; gives the last call's answer.
-pub fn repeat(schedule: Schedule, sheet: &[u8], rounds: usize) -> Vec<i64> {
-    let need = read(sheet).map_or(Lent::need(0, 0), |s| Lent::need(s.activities.len(), s.links.len()));
-    let mut memory = Memory::zeros(&need);
-    (0..rounds).for_each(|_| memory.call(schedule, sheet));
+/// Calls the sheets in turn so many times and does nothing else that takes time, for a profiler; gives the last call's answer.
+pub fn repeat(schedule: Schedule, sheets: &[Vec<u8>], rounds: usize) -> Vec<i64> {
+    let sizes = sheets.iter().filter_map(|s| read(s).ok()).map(|s| (s.activities.len(), s.links.len()));
+    let (activities, links) = sizes.fold((0, 0), |(a, l), (b, k)| (a.max(b), l.max(k)));
+    let mut memory = Memory::zeros(&Lent::need(activities, links));
+    for _ in 0..rounds {
+        sheets.iter().for_each(|sheet| memory.call(schedule, sheet));
+    }
     memory.answer
 }
 

@@ -22,8 +22,9 @@ compare minimise (PROGRAM | --library | --fault NAME) [SHEET]   a smaller sheet 
 compare ratio ROUNDS [SHEET]               times of `schedule` and of the linked library, and ours/Rust
 compare bench [SECONDS [PART]]             tables of such ratios over plans of many sizes and spans: SECONDS (0.3) for
                                            each call on each sheet, only sheets whose names hold PART
-compare bench --sheets FOLDER              writes the benchmark's sheets, named PLAN-ACTIVITIES-LINKS-EXCEPTIONS
-compare call ROUNDS [SHEET]                only calls the linked library, to be profiled, say by
+compare bench --sheets FOLDER              writes the benchmark's sheets, named PLAN-ACTIVITIES-LINKS-EXCEPTIONS, those
+                                           that are called in turn with -2 to -8 after it
+compare call ROUNDS [SHEET..]              only calls the linked library with the sheets in turn, to be profiled, say by
                                            `valgrind --tool=callgrind --toggle-collect=neakspuoy_schedule`
 compare record FILE                        writes the recorded answers
 A CORPUS is a file, SEED:COUNT, or `bytes`: a small plan cut everywhere and with every byte at every value.
@@ -118,9 +119,11 @@ fn run(words: &[&str]) -> Outcome {
             let part = words.get(1).copied().unwrap_or_default();
             bench::print(OURS, seconds, part).map(|()| ExitCode::SUCCESS)
         }
-        ["call", rounds, sheet @ ..] => {
+        ["call", rounds, names @ ..] => {
             let rounds = rounds.parse().map_err(|_| USAGE)?;
-            print(format!("{:?}\n", call::repeat(OURS, &input(sheet)?, rounds)).as_bytes())
+            let names = if names.is_empty() { vec![names] } else { names.chunks(1).collect() };
+            let sheets = names.into_iter().map(input).collect::<Result<Vec<_>, _>>()?;
+            print(format!("{:?}\n", call::repeat(OURS, &sheets, rounds)).as_bytes())
         }
         ["record", file] => {
             let (list, count) = recorded::list();

@@ -47,7 +47,7 @@ fn times_are_of_as_many_rounds_as_asked_for() {
         assert!(0.0 < t.least && t.least <= t.median);
     }
     assert!(times(oracle_schedule, &[&bytes, b""], Rounds::Count(1)).is_err());
-    assert_eq!(repeat(oracle_schedule, &bytes, 2)[..3], [0, 19_832, 2]);
+    assert_eq!(repeat(oracle_schedule, &[cases()[2].bytes(), bytes], 2)[..3], [0, 19_832, 2]);
 }
 
 #[test]
