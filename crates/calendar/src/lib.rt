@@ -265,6 +265,15 @@ fn period_rank(p: Period, m: u16) -> u16
     if from < to { to - from } else { 0 }
 }
 
+// How many minutes E record `i` gives its day.
+pub fn exception_work(sheet: &[u8], at: usize, i: usize) -> u64
+    requires { ⌜ at + 9 * i + 9 ≤ length (now sheet) ⌝ }
+    ensures { λ r. ⌜ (r ≡ min 1440 (exceptionPeriod (now (sheet .entry)) at i .to) - exceptionPeriod (now (sheet .entry)) at i .from) × (r ≤ 1440) ⌝ }
+{
+    let p = exception_period(sheet, at, i);
+    period_rank(p, 1440) as u64
+}
+
 // How long a period is.
 fn period_length(p: Period) -> u64
     ensures { λ r. ⌜ r ≡ p .to - p .from ⌝ }

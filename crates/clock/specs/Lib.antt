@@ -6,5 +6,6 @@ pub mod Ways
 pub mod Weeks
 pub mod Regular
 pub mod RegularLaws
+pub mod OwnDayLaws
 pub mod Jumps
 pub mod JumpLaws

@@ -1,7 +1,7 @@
--- Days by their weekdays alone: the sums of the weekdays' minutes, those of all days before one, and up to where no day has E records.
+-- Days by their weekdays alone: the sums of the weekdays' minutes, those of all days before one, and up to where no day has E records; and days by the hours of each.
 use mathlib.Core.Path.{_≡_}
 use mathlib.Core.List.{List, []}
-use Prim.Native.Nat.{ℕ, _+_, _*_, _/_, _≤_, _<_}
+use Prim.Native.Nat.{ℕ, zero, suc, _+_, _*_, _/_, _≤_, _<_}
 use lib.ListN.{getD}
 use Rattle.date.specs.Days.{weekday}
 use Rattle.calendar.specs.declared.Period.{Period}
@@ -21,6 +21,11 @@ pub record Sums (week : List (List Period)) (ss : List ℕ) : Type 0 where
 -- the minutes of the days before day d, each by its weekday, from the Monday before day 0 on
 unfoldable pub regular : List ℕ → ℕ → ℕ
 regular ss d = getD ss 7 0 * ((d + 1) / 7) + getD ss (weekday d) 0
+
+-- the minutes of m days from day d on, by the hours of each
+unfoldable pub daysWork : (ℕ → List Period) → ℕ → ℕ → ℕ
+daysWork h d zero = 0
+daysWork h d (suc m) = daysWork h d m + rank (h (d + m)) 1440
 
 -- from day i up to day r, at most e, no day has E records, and record j is still the first of those that are left
 pub record NextOwn (s : List ℕ) (at n i e j r : ℕ) : Type 0 where

@@ -299,21 +299,21 @@ fn days_work(
 {
     let sums = weeks::sums_of(week);
     let mut sum = weeks::regular_work(sums, d, e);
-    let mut i = d;
+    let mut next = d;
     let mut j = from;
-    while i < e {
-        let next = weeks::next_own(sheet, at, n, i, e, j);
-        if next == e {
+    while j < n {
+        let day = calendar::exception_day(sheet, at, j);
+        if e <= day {
             return Days {
                 minutes: sum,
                 to: j,
             };
         }
-        let row = week[((next + 1) % 7) as usize];
-        let hours = calendar::hours_from(row, sheet, at, n, next, j);
-        sum = sum + calendar::day_rank(hours, sheet, 1440) - weeks::weekday_work(sums, next);
-        i = next + 1;
-        j += hours.n;
+        let regular = weeks::weekday_work(sums, day);
+        let less = if next <= day { regular } else { 0 };
+        sum = sum + calendar::exception_work(sheet, at, j) - less;
+        next = day + 1;
+        j += 1;
     }
     Days {
         minutes: sum,

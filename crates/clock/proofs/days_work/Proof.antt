@@ -1,29 +1,31 @@
--- `clock::days_work` meets its contract. The sum is what is worked from day `d` up to day `i`, and from there up to day `e` by weekdays; `j` is the first E record from day `i` on.
-use mathlib.Core.Path.{_≡_, refl, ap}
+-- `clock::days_work` meets its contract. The sum is what the days have with the E records before record `j` alone; those stand before day `next`, and the last of them, if any, on the day before it.
+use mathlib.Core.Path.{_≡_, refl, sym, ap}
+use mathlib.Core.Logic.{_⊎_, inl, inr, ⊎-elim}
+use mathlib.Core.List.{List}
 use native.Mathlib.Omega.{arith}
 use borrow.Author.Needs.{needs}
-use Prim.Native.Nat.{_+_, _-_, _*_, _≤_, _<_}
-use Rattle.date.specs.Days.{weekday}
-use Rattle.calendar.specs.Hours.{worked}
-use Rattle.calendar.specs.Records.{hoursOn, FirstFrom}
-use Rattle.calendar.specs.ValidLaws.{hand-ordered}
+use borrow.Author.Count.{below-more}
+use Prim.Native.Nat.{ℕ, _+_, _-_, _*_, _≤_, _<_}
+use Rattle.calendar.specs.declared.Period.{Period}
+use Rattle.calendar.specs.Records.{exceptionDay, hoursOn, FirstFrom}
+use Rattle.calendar.specs.DayLaws.{hours-week}
 use Rattle.worktime.specs.Worked.{count}
-use Rattle.worktime.specs.Count.{count-le, count-mono}
 use Rattle.clock.specs.On.{workedOn}
-use Rattle.clock.specs.Days.{hand-rank}
 use Rattle.clock.specs.Weeks.{row-ordered}
-use Rattle.clock.specs.Regular.{Sums, regular}
-use Rattle.clock.specs.RegularLaws.{count-regular, regular-step, regular-small, between-regular}
+use Rattle.clock.specs.Regular.{Sums, regular, daysWork}
+use Rattle.clock.specs.OwnDayLaws.{days-small, days-regular, days-end, none-first, first-own, further-own, some-own, part-small}
 use Rattle.clock.proofs.days_work.Statement.{statement}
 use Rattle.clock.proofs.days_work.Tie as tie
 
 abbrev Inv-loop : tie.InvT-loop
-Inv-loop sheet at n d e from week sums sum₀ i₀ j₀ sum i j =
-    (d ≤ i) × (i ≤ e) × FirstFrom sheet at n i j × Sums week sums
-    × (count (workedOn week sheet at n) (d * 1440) + sum + regular sums i ≡ count (workedOn week sheet at n) (i * 1440) + regular sums e)
+Inv-loop sheet at n d e from sums sum₀ next₀ j₀ sum next j =
+    (from ≤ j) × (j ≤ n) × (d ≤ next) × (next ≤ e)
+    × ((week : List (List Period)) → Sums week sums → sum ≡ daysWork (hoursOn week sheet at j) d (e - d))
+    × ((i : ℕ) → i < j → exceptionDay sheet at i < next)
+    × ((next ≡ d) ⊎ ((0 < j) × (next ≡ exceptionDay sheet at (j - 1) + 1)))
 
 abbrev μ-loop : tie.MeasureT-loop
-μ-loop sheet at n d e from week sums sum₀ i₀ j₀ sum i j = e - i
+μ-loop sheet at n d e from sums sum₀ next₀ j₀ sum next j = n - j
 
 sums-of-requires : tie.Need-sums-of-requires Inv-loop μ-loop
 sums-of-requires c κs = row-ordered (c .before .pre .0)
@@ -33,126 +35,147 @@ regular-work-requires c κs = let p = c .before .before .pre in (c .sums-of .ens
 
 loop-holds : tie.Need-loop-holds Inv-loop μ-loop
 loop-holds c =
-    let p = c .before .before .before .pre in
-    (omega arith, p .1, p .3, c .before .sums-of .ensures, omega (arith, c .regular-work .ensures))
+    let s = c .before .before .before in
+    let a = s .args in
+    let p = s .pre in
+    let f = p .3 in
+    let g : a .d + (a .e - a .d) ≡ a .e = omega (arith, p .1) in (
+      omega arith,
+      f .within,
+      omega arith,
+      p .1,
+      λ week sums.
+          omega (
+            arith,
+            c .regular-work .ensures,
+            rw g at
+                (days-regular (hoursOn week (a .sheet .now) (a .at) (a .from)) (a .d) sums (a .e - a .d)
+                (λ x l k. hours-week week (a .sheet .now) (a .at) (a .from) x (none-first week (a .sheet .now) (a .at) x (a .from) (λ i h z. omega (arith, f .below i h))))),
+          ),
+      f .below,
+      inl refl,
+    )
 
-next-own-requires : tie.Need-next-own-requires Inv-loop μ-loop
-next-own-requires c κs =
-    let l = c .before in
-    let p = l .before .before .before .before .pre .0 in
-    (p .long, p .sorted, l .loop .inv .2, l .loop .inv .1)
+exception-day-requires : tie.Need-exception-day-requires Inv-loop μ-loop
+exception-day-requires c κs = omega (arith, c .before .before .before .before .before .pre .0 .long)
 
--- the days without E records before the next are counted as they were summed
-passed : (c : tie.After-next-own Inv-loop μ-loop) →
-    let l = c .before .before in
-    let a = l .before .before .before .before .args in
-    let w = workedOn (a .t1) (a .sheet .now) (a .at) (a .n) in
-    let ss = l .before .before .sums-of .result in
-    let x = c .next-own .result in
-    (count w (a .d * 1440) + l .loop .sum + regular ss x ≡ count w (x * 1440) + regular ss (a .e)) × (x < 4294967296)
-passed c =
-    let l = c .before .before in
-    let s = l .before .before .before .before in
-    let i = l .loop .i in
-    let o = c .next-own .ensures in
-    let x = c .next-own .result in
-    (omega (arith, count-regular (l .loop .inv .3) (s .pre .0) i (x - i) x (omega (arith, o .from)) (o .none-own), l .loop .inv .4), omega (arith, o .to, s .pre .2))
+-- the records before record j are those of the days before e
+ended : (c : tie.At-loop Inv-loop μ-loop) →
+    let s = c .before .before .before .before in
+    let a = s .args in
+    ((i : ℕ) → c .loop .j ≤ i → i < a .n → a .e ≤ exceptionDay (a .sheet .now) (a .at) i) →
+    (count (workedOn (a .week) (a .sheet .now) (a .at) (a .n)) (a .d * 1440) + c .loop .sum ≡ count (workedOn (a .week) (a .sheet .now) (a .at) (a .n)) (a .e * 1440))
+    × (c .loop .sum ≤ 6184752906240)
+    × FirstFrom (a .sheet .now) (a .at) (a .n) (a .e) (c .loop .j)
+ended c later =
+    let s = c .before .before .before .before in
+    let a = s .args in
+    let i = c .loop .inv in
+    let p = s .pre in
+    let q = days-end (a .week) (a .sheet .now) (a .at) (p .0) (a .d) (a .e) (c .loop .j) (c .loop .sum) (p .1) (i .1) later (i .4 (a .week) (c .before .before .sums-of .ensures)) in
+    (q .0, omega (arith, q .1, p .2), record { within = i .1; below = λ k h. omega (arith, i .5 k h, i .3); above = later })
 
 returns : tie.Need-returns Inv-loop μ-loop
 returns c =
     let l = c .before .before .before in
+    let s = l .before .before .before .before in
+    ended l (λ i h k. omega (arith, c .if1 .taken, c .before .exception-day .ensures .0, s .pre .0 .sorted (l .loop .j) i h k))
+
+weekday-work-requires : tie.Need-weekday-work-requires Inv-loop μ-loop
+weekday-work-requires c κs = (c .before .before .before .before .before .sums-of .ensures .rising, c .before .exception-day .ensures .1)
+
+exception-work-requires : tie.Need-exception-work-requires Inv-loop μ-loop
+exception-work-requires c κs = exception-day-requires (c .before .before .before .before) κs
+
+-- record j comes from day d on, before day e
+within : (c : tie.After-exception-work Inv-loop μ-loop) →
+    let a = c .before .before .before .before .before .before .before .before .before .before .args in
+    let x = c .before .before .before .before .exception-day .result in
+    (a .d ≤ x) × (x < a .e)
+within c =
+    let l = c .before .before .before .before .before .before in
+    let p = l .before .before .before .before .pre in
+    (omega (arith, p .3 .above (l .loop .j) (l .loop .inv .0) (omega arith), c .before .before .before .before .exception-day .ensures .0), omega (arith, c .before .before .before .if1 .left))
+
+-- one record more: its day's minutes by the weekday are taken out with the first of its records
+stepped : (c : tie.After-exception-work Inv-loop μ-loop) →
+    let l = c .before .before .before .before .before .before in
     let a = l .before .before .before .before .args in
-    let o = c .before .next-own in
-    let p = passed (c .before) in
-    let g : o .result ≡ a .e = omega (arith, c .if1 .taken) in
-    let q = rw g at (p .0) in
-    (omega (arith, q), omega (arith, q, p .1, g, count-le (workedOn (a .t1) (a .sheet .now) (a .at) (a .n)) (a .e * 1440)), rw g at (o .ensures .first))
-
-add-row : tie.Need-add-row Inv-loop μ-loop
-add-row c = search needs
-
-mul-row : tie.Need-mul-row Inv-loop μ-loop
-mul-row c = search needs
-
-array-copy-out-row : tie.Need-array-copy-out-row Inv-loop μ-loop
-array-copy-out-row c = search needs
-
-hours-from-requires : tie.Need-hours-from-requires Inv-loop μ-loop
-hours-from-requires c κs =
-    let v = c .before .before .before .before .before .before .before .before .pre .0 in
-    ((v .long, v .sorted), c .before .before .next-own .ensures .first)
-
-day-rank-requires : tie.Need-day-rank-requires Inv-loop μ-loop
-day-rank-requires c κs =
-    let s = c .before .before .before .before .before .before .before .before .before in
-    let o = c .hours-from .ensures .0 in
-    (o .within, hand-ordered (s .pre .0) _ _ (o .is (s .args .t1) refl))
+    (week : List (List Period)) → Sums week (l .before .before .sums-of .result)
+    → daysWork (hoursOn week (a .sheet .now) (a .at) (l .loop .j + 1)) (a .d) (a .e - a .d) + c .before .if2 .less ≡ l .loop .sum + c .exception-work .result
+stepped c week sums =
+    let l = c .before .before .before .before .before .before in
+    let s = l .before .before .before .before in
+    let a = s .args in
+    let i = l .loop .inv in
+    let j = l .loop .j in
+    let day = c .before .before .before .before .exception-day in
+    let x = day .result in
+    let r = within c in
+    let is : exceptionDay (a .sheet .now) (a .at) j ≡ x = sym (day .ensures .0) in
+    let k : x < a .d + (a .e - a .d) = omega (arith, r) in
+    ⊎-elim
+    (λ w.
+    let none = none-first week (a .sheet .now) (a .at) x j (λ y h z. omega (arith, i .5 y h, w .0 .taken)) in
+    omega (
+      arith,
+      w .1,
+      i .4 week sums,
+      first-own week (a .sheet .now) (a .at) j x is _ (c .exception-work .ensures .0) (a .d) (a .e - a .d) (r .0) k sums none _ (c .before .before .weekday-work .ensures),
+    ))
+    (λ w.
+    let some = ⊎-elim (λ v. absurd (omega (arith, v, r, w .0 .left)))
+    (λ v. some-own week (a .sheet .now) (a .at) j x (v .0) (omega (arith, v, w .0 .left, is, s .pre .0 .sorted (j - 1) j (omega arith) (omega arith)))) (i .6) in
+    omega (arith, w .1, i .4 week sums, further-own week (a .sheet .now) (a .at) j x is _ (c .exception-work .ensures .0) (a .d) (a .e - a .d) (r .0) k some))
+    (c .before .if2 .came)
 
 add-sum : tie.Need-add-sum Inv-loop μ-loop
 add-sum c =
     let l = c .before .before .before .before .before .before in
     let s = l .before .before .before .before in
     let a = s .args in
-    let p = passed (c .before .before .before .before) in
-    let x = c .before .before .before .before .next-own .result in
-    omega (arith, p .0, p .1, s .pre .2, count-le (workedOn (a .t1) (a .sheet .now) (a .at) (a .n)) (x * 1440), regular-small (l .before .before .sums-of .result) (a .e) (l .loop .inv .3 .rising))
-
-weekday-work-requires : tie.Need-weekday-work-requires Inv-loop μ-loop
-weekday-work-requires c κs = (c .before .before .before .before .before .before .loop .inv .3 .rising, passed (c .before .before .before .before) .1)
-
--- the day with E records: what it has by its weekday is in the sum, and one day more is counted
-added : (c : tie.After-weekday-work Inv-loop μ-loop) →
-    let l = c .before .before .before .before .before .before .before in
-    let a = l .before .before .before .before .args in
-    let w = workedOn (a .t1) (a .sheet .now) (a .at) (a .n) in
-    let ss = l .before .before .sums-of .result in
-    let x = c .before .before .before .before .before .next-own .result in
-    (c .weekday-work .result ≤ l .loop .sum)
-    × (count w (a .d * 1440) + (l .loop .sum + c .before .day-rank .result - c .weekday-work .result) + regular ss (x + 1)
-    ≡ count w ((x + 1) * 1440) + regular ss (a .e))
-added c =
-    let l = c .before .before .before .before .before .before .before in
-    let s = l .before .before .before .before in
-    let a = s .args in
-    let h = hoursOn (a .t1) (a .sheet .now) (a .at) (a .n) in
-    let ss = l .before .before .sums-of .result in
-    let n = c .before .before .before .before .before in
-    let x = n .next-own .result in
-    let k : x + 1 ≤ a .e = omega (arith, n .next-own .ensures .to, c .before .before .before .before .if1 .left) in
-    let r = hand-rank h x (s .pre .0 .ordered x) _ (c .before .before .hours-from .ensures .0 .is (a .t1) refl) 1440 _ (omega arith) (c .before .day-rank .ensures .0) in
-    let e : count (worked h) (x * 1440 + 1440) ≡ count (worked h) ((x + 1) * 1440) = ap (count (worked h)) (omega arith) in
-    let q = regular-step (l .loop .inv .3) x in
-    let f = l .loop .inv .3 .each (weekday x) (omega arith) in
-    let g = between-regular ss (x + 1) (a .e) (l .loop .inv .3 .rising) k in
-    let m = count-mono (worked h) {s = a .d * 1440} {t = x * 1440} (omega (arith, n .next-own .ensures .from, l .loop .inv .0)) in
-    let z : c .weekday-work .result ≤ l .loop .sum = omega (arith, passed n .0, q, f, g, m, c .weekday-work .ensures) in
-    (z, omega (arith, r, e, q, f, z, passed n .0, c .weekday-work .ensures))
+    omega (
+      arith,
+      s .pre .1,
+      s .pre .2,
+      l .loop .inv .4 (a .week) (l .before .before .sums-of .ensures),
+      days-small (hoursOn (a .week) (a .sheet .now) (a .at) (l .loop .j)) (a .d) (part-small (a .week) (a .sheet .now) (a .at) (s .pre .0) (l .loop .j) (l .loop .inv .1)) (a .e - a .d),
+      c .exception-work .ensures .1,
+    )
 
 sub-sum : tie.Need-sub-sum Inv-loop μ-loop
-sub-sum c = omega (arith, added c .0)
+sub-sum c =
+    let l = c .before .before .before .before .before .before .before in
+    omega (arith, stepped (c .before) (l .before .before .before .before .args .week) (l .before .before .sums-of .ensures))
 
-add-i : tie.Need-add-i Inv-loop μ-loop
-add-i c = search needs
+add-next : tie.Need-add-next Inv-loop μ-loop
+add-next c = omega (arith, c .before .before .before .before .before .exception-day .ensures .1)
 
 add-j : tie.Need-add-j Inv-loop μ-loop
-add-j c = omega (arith, c .before .before .before .hours-from .ensures .1 .within)
+add-j c = search needs
 
 loop-less : tie.Need-loop-less Inv-loop μ-loop
-loop-less c = let o = c .before .before .before .before .before .before .next-own .ensures in omega (arith, o .from, o .to)
+loop-less c = search needs
 
 loop-again : tie.Need-loop-again Inv-loop μ-loop
 loop-again c =
-    let l = c .before .before .before .before .before .before .before .before in
-    let o = c .before .before .before .before .before .before .next-own .ensures in
-    (omega (arith, o .from, l .loop .inv .0), omega (arith, o .to, c .before .before .before .before .before .if1 .left), c .before .before .before .hours-from .ensures .1, l .loop .inv .3, added (c .before) .1)
+    let l = c .before .before .before .before .before .before .before in
+    let i = l .loop .inv in
+    let r = within (c .before) in
+    let day = c .before .before .before .before .before .exception-day .ensures .0 in
+    let sorted = l .before .before .before .before .pre .0 .sorted in
+    let same : l .loop .j + 1 - 1 ≡ l .loop .j = omega arith in (
+      omega (arith, i .0),
+      omega arith,
+      omega (arith, r),
+      omega (arith, r),
+      λ week sums. omega (arith, stepped (c .before) week sums),
+      below-more _ (l .loop .j) (λ y h. omega (arith, day, sorted y (l .loop .j) (omega arith) (omega arith))) (omega (arith, day)),
+      inr (omega arith, omega (arith, day, ap (exceptionDay (l .before .before .before .before .args .sheet .now) (l .before .before .before .before .args .at)) same)),
+    )
 
 returns-2 : tie.Need-returns-2 Inv-loop μ-loop
-returns-2 c =
-    let l = c .before in
-    let a = l .before .before .before .before .args in
-    let g : l .loop .i ≡ a .e = omega arith in
-    let q = rw g at (l .loop .inv .4) in
-    (omega (arith, q), omega (arith, q, l .before .before .before .before .pre .2, count-le (workedOn (a .t1) (a .sheet .now) (a .at) (a .n)) (a .e * 1440)), rw g at (l .loop .inv .2))
+returns-2 c = ended (c .before) (λ i h k. absurd (omega arith))
 
 pub days-work-spec : {M : Type 1} → statement M
 days-work-spec =
@@ -163,17 +186,13 @@ days-work-spec =
     sums-of-requires
     regular-work-requires
     loop-holds
-    next-own-requires
+    exception-day-requires
     returns
-    add-row
-    mul-row
-    array-copy-out-row
-    hours-from-requires
-    day-rank-requires
-    add-sum
     weekday-work-requires
+    exception-work-requires
+    add-sum
     sub-sum
-    add-i
+    add-next
     add-j
     loop-less
     loop-again
