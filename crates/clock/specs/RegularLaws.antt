@@ -51,14 +51,6 @@ pub regular-small : (ss : List ℕ) (d : ℕ) → Rising ss → regular ss d ≤
 unfolding regular
 regular-small ss d up = omega (arith, mul-le-mul-right ((d + 1) / 7) (up .1), up .0 (weekday d) 7 (omega arith) (omega arith), up .1)
 
--- whole weeks by multiplication
-pub regular-weeks : (ss : List ℕ) (d e q : ℕ) → d + 7 * q ≡ e → regular ss e ≡ regular ss d + q * getD ss 7 0
-unfolding regular
-regular-weeks ss d e q p =
-    let f : (e + 1) / 7 ≡ (d + 1) / 7 + q = omega arith in
-    let g : weekday e ≡ weekday d = omega arith in
-    rw (f, g, mul-add (getD ss 7 0) ((d + 1) / 7) q) (omega arith)
-
 module _ {week : List (List Period)} {ss : List ℕ} (sums : Sums week ss) where
   -- one day more
   pub regular-step : (d : ℕ) → regular ss (d + 1) ≡ regular ss d + rank (getD week (weekday d) []) 1440

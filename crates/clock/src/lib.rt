@@ -22,8 +22,8 @@ const FIRST_DAY: u64 = 2143112061;
 
 const LAST_DAY: u64 = 2150416544;
 
-// The minutes of a week: only a walk of more passes whole weeks at once.
-const WEEK: u64 = 10080;
+// The minutes of a day: only a walk of more passes days at once.
+const DAY: u64 = 1440;
 
 // The least worked minute at or after `t`.
 pub fn next_start(week: [[Period; 8]; 7], sheet: &[u8], at: usize, n: usize, t: u64) -> Walk
@@ -188,10 +188,10 @@ pub fn advance(week: [[Period; 8]; 7], sheet: &[u8], at: usize, n: usize, t: u64
         from += hours.n;
         d += 1;
         m = 0;
-        if WEEK < left {
-            let ahead = weeks::weeks_ahead(week, sheet, at, n, d, from, left);
+        if DAY < left {
+            let ahead = weeks::days_ahead(week, sheet, at, n, d, from, left);
             left -= ahead.minutes;
-            d += 7 * ahead.weeks;
+            d = ahead.to;
         }
     }
     Walk::Refused(TOO_LONG)
@@ -223,10 +223,10 @@ pub fn retreat(week: [[Period; 8]; 7], sheet: &[u8], at: usize, n: usize, t: u64
         to -= hours.n;
         d -= 1;
         m = 1440;
-        if WEEK < left {
-            let back = weeks::weeks_back(week, sheet, at, n, d + 1, to, left);
+        if DAY < left {
+            let back = weeks::days_back(week, sheet, at, n, d + 1, to, left);
             left -= back.minutes;
-            d -= 7 * back.weeks;
+            d = back.to - 1;
         }
     }
     Walk::Refused(TOO_LONG)

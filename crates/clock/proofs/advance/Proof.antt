@@ -14,7 +14,7 @@ use Rattle.worktime.specs.Walks.{firstMinute, endMinute}
 use Rattle.worktime.specs.Shift.{advance-zero, advance-out, advance-at, advance-none}
 use Rattle.clock.specs.On.{workedOn}
 use Rattle.clock.specs.Days.{DaySelected, hand-rank, hand-select, count-time, count-next-day}
-use Rattle.clock.specs.JumpLaws.{weeks-passed}
+use Rattle.clock.specs.JumpLaws.{days-passed}
 use Rattle.clock.proofs.advance.Statement.{statement}
 use Rattle.clock.proofs.advance.Tie as tie
 
@@ -130,36 +130,30 @@ passed c =
     let r = hand-rank h d o _ p 1440 _ (omega arith) (c .before .before .day-rank2 .ensures .0) in
     (omega (arith, sub-today (c .before .before), q, r, count-next-day (worked h) d, l .loop .inv .5), f .1)
 
-weeks-ahead-requires : tie.Need-weeks-ahead-requires Inv-loop μ-loop
-weeks-ahead-requires c κs =
+days-ahead-requires : tie.Need-days-ahead-requires Inv-loop μ-loop
+days-ahead-requires c κs =
     let s = c .before .before .before .before .before .before .before .before .before .before .before .before .before in
     (s .pre, passed (c .before) .1, omega arith, omega arith)
 
 sub-left-2 : tie.Need-sub-left-2 Inv-loop μ-loop
-sub-left-2 c = omega (arith, c .before .weeks-ahead .ensures .0 .fewer)
-
-mul-d : tie.Need-mul-d Inv-loop μ-loop
-mul-d c = omega (arith, c .before .before .weeks-ahead .ensures .1)
-
-add-d-2 : tie.Need-add-d-2 Inv-loop μ-loop
-add-d-2 c = omega (arith, c .before .before .weeks-ahead .ensures .1)
+sub-left-2 c = omega (arith, c .before .days-ahead .ensures .0 .fewer)
 
 loop-less : tie.Need-loop-less Inv-loop μ-loop
-loop-less c = search needs
+loop-less c = omega (arith, c .before .days-ahead .ensures .1)
 
 loop-again : tie.Need-loop-again Inv-loop μ-loop
 loop-again c =
-    let l = c .before .before .before .before .before .before .before .before .before .before .before in
+    let l = c .before .before .before .before .before .before .before .before .before .before in
     let a = l .before .before .before .before .before .args in
-    let p = passed (c .before .before .before .before) in
-    let j = c .before .before .weeks-ahead .ensures .0 in (
+    let p = passed (c .before .before .before) in
+    let j = c .before .days-ahead .ensures in (
+      omega (arith, j .1),
       omega arith,
       omega arith,
-      omega arith,
-      omega (arith, j .fewer),
-      omega (arith, j .fewer),
-      weeks-passed (workedOn (a .t1) (a .sheet .now) (a .at) (a .n)) (l .loop .d + 1) _ _ _ _ (p .0) (j .counted) (j .fewer),
-      j .to,
+      omega (arith, j .0 .fewer),
+      omega (arith, j .0 .fewer),
+      days-passed (workedOn (a .t1) (a .sheet .now) (a .at) (a .n)) (l .loop .d + 1) _ _ _ _ (p .0) (j .0 .counted) (j .0 .fewer),
+      j .0 .to,
     )
 
 loop-less-2 : tie.Need-loop-less-2 Inv-loop μ-loop
@@ -202,10 +196,8 @@ advance-spec =
     sub-left
     add-from
     add-d
-    weeks-ahead-requires
+    days-ahead-requires
     sub-left-2
-    mul-d
-    add-d-2
     loop-less
     loop-again
     loop-less-2

@@ -14,7 +14,7 @@ use Rattle.worktime.specs.Walks.{firstMinute, endMinute}
 use Rattle.worktime.specs.Shift.{retreat-zero, retreat-out, retreat-at, retreat-none}
 use Rattle.clock.specs.On.{workedOn}
 use Rattle.clock.specs.Days.{DaySelected, hand-rank, hand-select, count-time, count-day-before}
-use Rattle.clock.specs.JumpLaws.{weeks-passed-back}
+use Rattle.clock.specs.JumpLaws.{days-passed-back}
 use Rattle.clock.proofs.retreat.Statement.{statement}
 use Rattle.clock.proofs.retreat.Tie as tie
 
@@ -127,25 +127,22 @@ passed c =
     let e : d - 1 + 1 ≡ d = omega arith in
     (omega (arith, q, count-day-before (worked h) d (omega arith), l .loop .inv .5), rw e (f .2))
 
-add-weeks-back : tie.Need-add-weeks-back Inv-loop μ-loop
-add-weeks-back c = search needs
+add-days-back : tie.Need-add-days-back Inv-loop μ-loop
+add-days-back c = search needs
 
-weeks-back-requires : tie.Need-weeks-back-requires Inv-loop μ-loop
-weeks-back-requires c κs =
+days-back-requires : tie.Need-days-back-requires Inv-loop μ-loop
+days-back-requires c κs =
     let s = c .before .before .before .before .before .before .before .before .before .before .before .before in
     (s .pre, passed (c .before) .1, omega arith, omega arith, omega arith)
 
 sub-left-2 : tie.Need-sub-left-2 Inv-loop μ-loop
-sub-left-2 c = omega (arith, c .before .weeks-back .ensures .0 .fewer)
-
-mul-d : tie.Need-mul-d Inv-loop μ-loop
-mul-d c = omega (arith, c .before .before .weeks-back .ensures .1)
+sub-left-2 c = omega (arith, c .before .days-back .ensures .0 .fewer)
 
 sub-d-2 : tie.Need-sub-d-2 Inv-loop μ-loop
-sub-d-2 c = omega (arith, c .before .before .weeks-back .ensures .1)
+sub-d-2 c = omega (arith, c .before .before .days-back .ensures .1)
 
 loop-less : tie.Need-loop-less Inv-loop μ-loop
-loop-less c = search needs
+loop-less c = omega (arith, c .before .before .days-back .ensures .2)
 
 loop-again : tie.Need-loop-again Inv-loop μ-loop
 loop-again c =
@@ -153,15 +150,15 @@ loop-again c =
     let a = l .before .before .before .before .before .args in
     let d = l .loop .d - 1 in
     let p = passed (c .before .before .before .before) in
-    let b = c .before .before .weeks-back .ensures in
-    let q = c .before .before .weeks-back .result .weeks in
-    let e : d - 7 * q + 1 ≡ d + 1 - 7 * q = omega (arith, sub-d-2 c) in (
+    let b = c .before .before .days-back .ensures in
+    let r = c .before .before .days-back .result .to in
+    let e : r - 1 + 1 ≡ r = omega (arith, b .1) in (
       omega arith,
       omega arith,
       omega arith,
       omega (arith, b .0 .fewer),
       omega (arith, b .0 .fewer),
-      weeks-passed-back (workedOn (a .t1) (a .sheet .now) (a .at) (a .n)) d q _ _ _ _ (p .0) (b .0 .counted) (b .0 .fewer) (sub-d-2 c),
+      days-passed-back (workedOn (a .t1) (a .sheet .now) (a .at) (a .n)) d r _ _ _ _ (p .0) (b .0 .counted) (b .0 .fewer) (omega (arith, b .1)),
       rw e (b .0 .from),
     )
 
@@ -205,10 +202,9 @@ retreat-spec =
     sub-left
     sub-to
     sub-d
-    add-weeks-back
-    weeks-back-requires
+    add-days-back
+    days-back-requires
     sub-left-2
-    mul-d
     sub-d-2
     loop-less
     loop-again
