@@ -1,4 +1,4 @@
--- The work of days by the hours of each: it is the count's, it is the weekdays' where no day has E records, and one E record more changes it on that record's day alone.
+-- E records one by one: one more changes the work of days on its own day alone, and with all of them it is the count's.
 use mathlib.Core.Path.{_≡_, refl, sym, ap, _∙_}
 use mathlib.Core.Bool.{true, false}
 use mathlib.Core.Logic.{_⊎_, ⊎-elim}
@@ -6,55 +6,36 @@ use mathlib.Core.List.{List, [], _∷_, _++_}
 use Prim.Native.Nat.{ℕ, zero, suc, _+_, _-_, _*_, min, _≤_, _<_}
 use native.Mathlib.Omega.{arith}
 use native.Mathlib.Nat.{add-zero}
-use native.Mathlib.Numerals.{add-one}
 use lib.Dec.{eqb}
 use lib.ListN.{length, getD, length-append}
 use Rattle.number.specs.Order.{eq-or-ne, zero-or-pos}
 use Rattle.date.specs.Days.{weekday}
 use Rattle.calendar.specs.declared.Period.{Period}
-use Rattle.calendar.specs.Hours.{worked, Ordered, rank}
+use Rattle.calendar.specs.Hours.{rank}
 use Rattle.calendar.specs.HoursLaws.{rank-bound}
-use Rattle.calendar.specs.Records.{exceptionDay, exceptionPeriod, exceptionsOn, hoursOn, Valid, FirstFrom}
+use Rattle.calendar.specs.Records.{exceptionDay, exceptionPeriod, exceptionsOn, hoursOn, Valid}
 use Rattle.calendar.specs.DayLaws.{on-take, on-skip, on-rest, hours-week, hours-own}
 use Rattle.worktime.specs.Worked.{count}
 use Rattle.clock.specs.On.{workedOn}
-use Rattle.clock.specs.Days.{hand-rank}
 use Rattle.clock.specs.Weeks.{row-ordered}
-use Rattle.clock.specs.Regular.{Sums, regular, daysWork}
-use Rattle.clock.specs.RegularLaws.{regular-step}
+use Rattle.clock.specs.Regular.{Sums, daysWork}
+use Rattle.clock.specs.RegularLaws.{count-days}
 
 -- ---- any hours
 module _ (h : ℕ → List Period) (d : ℕ) where
-  pub count-days : ((x : ℕ) → Ordered 0 (h x)) → (m : ℕ) → count (worked h) (d * 1440) + daysWork h d m ≡ count (worked h) ((d + m) * 1440)
-  unfolding daysWork
-  count-days o zero = let e : (d + 0) * 1440 ≡ d * 1440 = omega arith in rw e (omega arith)
-  count-days o (suc m) =
-      let i : ℕ = d + m in
-      let e : (d + suc m) * 1440 ≡ i * 1440 + 1440 = omega arith in
-      rw e (omega (arith, hand-rank h i (o i) _ refl 1440 _ (omega arith) refl, count-days o m))
-
   pub days-small : ((x : ℕ) → rank (h x) 1440 ≤ 1440) → (m : ℕ) → daysWork h d m ≤ 1440 * m
   unfolding daysWork
   days-small s zero = omega arith
   days-small s (suc m) = omega (arith, s (d + m), days-small s m)
 
-  pub days-regular : {week : List (List Period)} {ss : List ℕ} → Sums week ss → (m : ℕ) → ((x : ℕ) → d ≤ x → x < d + m → h x ≡ getD week (weekday x) [])
-      → regular ss d + daysWork h d m ≡ regular ss (d + m)
-  unfolding daysWork
-  days-regular sums zero f = let e : d + 0 ≡ d = omega arith in rw e (omega arith)
-  days-regular {week} {ss} sums (suc m) f =
-      let e : d + suc m ≡ d + m + 1 = omega arith in
-      let r : rank (h (d + m)) 1440 ≡ rank (getD week (weekday (d + m)) []) 1440 = ap (λ (ps : List Period). rank ps 1440) (f (d + m) (omega arith) (omega arith)) in
-      rw e (omega (arith, r, regular-step sums (d + m), days-regular sums m (λ x a b. f x a (omega arith))))
-
-  pub days-same : (h′ : ℕ → List Period) (m : ℕ) → ((x : ℕ) → d ≤ x → x < d + m → h′ x ≡ h x) → daysWork h′ d m ≡ daysWork h d m
+  days-same : (h′ : ℕ → List Period) (m : ℕ) → ((x : ℕ) → d ≤ x → x < d + m → h′ x ≡ h x) → daysWork h′ d m ≡ daysWork h d m
   unfolding daysWork
   days-same h′ zero f = refl
   days-same h′ (suc m) f =
       omega (arith, days-same h′ m (λ x a b. f x a (omega arith)), ap (λ (ps : List Period). rank ps 1440) (f (d + m) (omega arith) (omega arith)))
 
   -- the hours of day x alone are others
-  pub days-but-one : (h′ : ℕ → List Period) (x a b : ℕ) → ((y : ℕ) → (y ≡ x → ⊥) → h′ y ≡ h y) → rank (h′ x) 1440 + a ≡ rank (h x) 1440 + b
+  days-but-one : (h′ : ℕ → List Period) (x a b : ℕ) → ((y : ℕ) → (y ≡ x → ⊥) → h′ y ≡ h y) → rank (h′ x) 1440 + a ≡ rank (h x) 1440 + b
       → (m : ℕ) → d ≤ x → x < d + m → daysWork h′ d m + a ≡ daysWork h d m + b
   unfolding daysWork
   days-but-one h′ x a b f g zero l k = absurd (omega arith)
@@ -82,7 +63,7 @@ module _ (week : List (List Period)) (s : List ℕ) (at : ℕ) where
   hours-by x i j e = ap (λ (ps : List Period). elim (eqb (length ps) 0) [ true ↦ getD week (weekday x) [] | false ↦ ps ]) e
 
   -- records of other days change nothing
-  pub hours-rest : (x i k : ℕ) → ((j : ℕ) → i ≤ j → j < i + k → exceptionDay s at j ≡ x → ⊥) → hoursOn week s at (i + k) x ≡ hoursOn week s at i x
+  hours-rest : (x i k : ℕ) → ((j : ℕ) → i ≤ j → j < i + k → exceptionDay s at j ≡ x → ⊥) → hoursOn week s at (i + k) x ≡ hoursOn week s at i x
   hours-rest x i k f = hours-by x (i + k) i (on-rest s at x i k f)
 
   -- no record of day x among the first j

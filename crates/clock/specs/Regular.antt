@@ -1,4 +1,4 @@
--- Days by their weekdays alone: the sums of the weekdays' minutes, those of all days before one, and up to where no day has E records; and days by the hours of each.
+-- The minutes of days: by their weekdays alone, from sums, and by the hours of each.
 use mathlib.Core.Path.{_≡_}
 use mathlib.Core.List.{List, []}
 use Prim.Native.Nat.{ℕ, zero, suc, _+_, _*_, _/_, _≤_, _<_}
@@ -6,7 +6,6 @@ use lib.ListN.{getD}
 use Rattle.date.specs.Days.{weekday}
 use Rattle.calendar.specs.declared.Period.{Period}
 use Rattle.calendar.specs.Hours.{rank}
-use Rattle.calendar.specs.Records.{exceptionsOn, FirstFrom}
 
 -- the sums rise, to at most the minutes that a week can have
 abbrev pub Rising : List ℕ → Type 0
@@ -26,10 +25,3 @@ regular ss d = getD ss 7 0 * ((d + 1) / 7) + getD ss (weekday d) 0
 unfoldable pub daysWork : (ℕ → List Period) → ℕ → ℕ → ℕ
 daysWork h d zero = 0
 daysWork h d (suc m) = daysWork h d m + rank (h (d + m)) 1440
-
--- from day i up to day r, at most e, no day has E records, and record j is still the first of those that are left
-pub record NextOwn (s : List ℕ) (at n i e j r : ℕ) : Type 0 where
-  pub from : i ≤ r
-  pub to : r ≤ e
-  pub none-own : (d : ℕ) → i ≤ d → d < r → exceptionsOn s at d n ≡ []
-  pub first : FirstFrom s at n r j

@@ -10,13 +10,13 @@ use lib.ListN.{getD}
 use Rattle.number.specs.Order.{lt-or-le}
 use Rattle.date.specs.Days.{weekday}
 use Rattle.calendar.specs.declared.Period.{Period}
-use Rattle.calendar.specs.Hours.{worked, rank}
+use Rattle.calendar.specs.Hours.{worked, Ordered, rank}
 use Rattle.calendar.specs.Records.{exceptionDay, exceptionsOn, hoursOn, Valid, FirstFrom}
 use Rattle.calendar.specs.DayLaws.{on-rest, hours-week}
 use Rattle.worktime.specs.Worked.{count}
 use Rattle.clock.specs.On.{workedOn}
 use Rattle.clock.specs.Days.{hand-rank}
-use Rattle.clock.specs.Regular.{Rising, Sums, regular, NextOwn}
+use Rattle.clock.specs.Regular.{Rising, Sums, regular, daysWork}
 
 pub sums-are : (week : List (List Period)) (ss : List ℕ) → getD ss 0 0 ≡ 0
     → ((k : ℕ) → k < 7 → getD ss (k + 1) 0 ≡ getD ss k 0 + rank (getD week k []) 1440) → getD ss 7 0 ≤ 10080 → Sums week ss
@@ -46,11 +46,6 @@ module _ (ss : List ℕ) (d e : ℕ) (up : Rising ss) (l : d ≤ e) where
   unfolding regular
   between-regular = omega (arith, weeks-between, between-low)
 
--- no day has more than 1,440 minutes
-pub regular-small : (ss : List ℕ) (d : ℕ) → Rising ss → regular ss d ≤ 1440 * d + 20160
-unfolding regular
-regular-small ss d up = omega (arith, mul-le-mul-right ((d + 1) / 7) (up .1), up .0 (weekday d) 7 (omega arith) (omega arith), up .1)
-
 module _ {week : List (List Period)} {ss : List ℕ} (sums : Sums week ss) where
   -- one day more
   pub regular-step : (d : ℕ) → regular ss (d + 1) ≡ regular ss d + rank (getD week (weekday d) []) 1440
@@ -67,19 +62,33 @@ module _ {week : List (List Period)} {ss : List ℕ} (sums : Sums week ss) where
       let h : weekday d ≡ 6 = omega arith in
       rw (f, g, h, mul-add (getD ss 7 0) ((d + 1) / 7) 1) (omega (arith, sums .none, sums .each 6 (omega arith)))) (lt-or-le (weekday d) 6)
 
-  -- the count of work over m days without E records, from day d up to day e
-  module _ {s : List ℕ} {at n : ℕ} (valid : Valid week s at n) (d : ℕ) where
-    pub count-regular : (m e : ℕ) → d + m ≡ e → ((j : ℕ) → d ≤ j → j < e → exceptionsOn s at j n ≡ [])
-        → count (workedOn week s at n) (d * 1440) + regular ss e ≡ count (workedOn week s at n) (e * 1440) + regular ss d
-    count-regular zero e p f = let o : e ≡ d = omega arith in rw o (omega arith)
-    count-regular (suc m) e p f =
-        let h : ℕ → List Period = hoursOn week s at n in
-        let i : ℕ = d + m in
-        let o : e ≡ i + 1 = omega arith in
-        let own : getD week (weekday i) [] ≡ h i = sym (hours-week week s at n i (f i (omega arith) (omega arith))) in
-        let r = hand-rank h i (valid .ordered i) _ own 1440 _ (omega arith) refl in
-        let g : count (worked h) (i * 1440 + 1440) ≡ count (worked h) ((i + 1) * 1440) = ap (count (worked h)) (omega arith) in
-        rw o (omega (arith, r, g, regular-step i, count-regular m i refl (λ j x y. f j x (omega arith))))
+  -- days by the hours of each, where those are the week's
+  pub days-regular : (h : ℕ → List Period) (d m : ℕ) → ((x : ℕ) → d ≤ x → x < d + m → h x ≡ getD week (weekday x) []) → regular ss d + daysWork h d m ≡ regular ss (d + m)
+  unfolding daysWork
+  days-regular h d zero f = let e : d + 0 ≡ d = omega arith in rw e (omega arith)
+  days-regular h d (suc m) f =
+      let e : d + suc m ≡ d + m + 1 = omega arith in
+      let r : rank (h (d + m)) 1440 ≡ rank (getD week (weekday (d + m)) []) 1440 = ap (λ (ps : List Period). rank ps 1440) (f (d + m) (omega arith) (omega arith)) in
+      rw e (omega (arith, r, regular-step (d + m), days-regular h d m (λ x a b. f x a (omega arith))))
+
+-- days by the hours of each have what is counted
+pub count-days : (h : ℕ → List Period) (d : ℕ) → ((x : ℕ) → Ordered 0 (h x)) → (m : ℕ) → count (worked h) (d * 1440) + daysWork h d m ≡ count (worked h) ((d + m) * 1440)
+unfolding daysWork
+count-days h d o zero = let e : (d + 0) * 1440 ≡ d * 1440 = omega arith in rw e (omega arith)
+count-days h d o (suc m) =
+    let i : ℕ = d + m in
+    let e : (d + suc m) * 1440 ≡ i * 1440 + 1440 = omega arith in
+    rw e (omega (arith, hand-rank h i (o i) _ refl 1440 _ (omega arith) refl, count-days h d o m))
+
+-- the count of work over m days without E records, from day d up to day e
+pub count-regular : {week : List (List Period)} {ss : List ℕ} → Sums week ss → {s : List ℕ} {at n : ℕ} → Valid week s at n → (d m e : ℕ) → d + m ≡ e
+    → ((j : ℕ) → d ≤ j → j < e → exceptionsOn s at j n ≡ [])
+    → count (workedOn week s at n) (d * 1440) + regular ss e ≡ count (workedOn week s at n) (e * 1440) + regular ss d
+count-regular {week} sums {s} {at} {n} valid d m e p f =
+    let h : ℕ → List Period = hoursOn week s at n in
+    let a = rw p at (count-days h d (valid .ordered) m) in
+    let b = rw p at (days-regular sums h d m (λ x y z. hours-week week s at n x (f x y (omega arith)))) in
+    omega (arith, a, b)
 
 -- ---- days between which no E record comes: record j is first from day d on, and from day e on
 module _ {s : List ℕ} {at n j d e : ℕ} (from : FirstFrom s at n d j) (to : FirstFrom s at n e j) (x : ℕ) (low : d ≤ x) where
@@ -99,15 +108,13 @@ module _ {s : List ℕ} {at n j d e : ℕ} (from : FirstFrom s at n d j) (to : F
   }
 
 -- ---- the days before the next E record
-module _ (s : List ℕ) (at n i e j : ℕ) (sorted : (x y : ℕ) → x ≤ y → y < n → exceptionDay s at x ≤ exceptionDay s at y) (first : FirstFrom s at n i j) (r : ℕ) where
-  pub next-own-is : i ≤ r → r ≤ e → (j < n → r ≤ exceptionDay s at j) → NextOwn s at n i e j r
-  next-own-is a b c =
-      let last : FirstFrom s at n r j = record {
-        within = first .within;
-        below = λ x y. omega (arith, first .below x y);
-        above = λ x y z. omega (arith, c (omega arith), sorted j x y z);
-      } in
-      record { from = a; to = b; none-own = λ d l u. none-between first last d l u; first = last }
+module _ (s : List ℕ) (at n i j : ℕ) (sorted : (x y : ℕ) → x ≤ y → y < n → exceptionDay s at x ≤ exceptionDay s at y) (first : FirstFrom s at n i j) (r : ℕ) where
+  pub next-own-is : i ≤ r → (j < n → r ≤ exceptionDay s at j) → FirstFrom s at n r j
+  next-own-is a c = record {
+    within = first .within;
+    below = λ x y. omega (arith, first .below x y);
+    above = λ x y z. omega (arith, c (omega arith), sorted j x y z);
+  }
 
 -- ---- the days after the last E record before day e
 module _ (s : List ℕ) (at n e j : ℕ) (sorted : (x y : ℕ) → x ≤ y → y < n → exceptionDay s at x ≤ exceptionDay s at y) (first : FirstFrom s at n e j) (r : ℕ) where

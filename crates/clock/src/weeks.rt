@@ -8,7 +8,7 @@ ghost use Rattle.calendar.specs.Hours.{Ordered};
 ghost use Rattle.calendar.specs.Records.{exceptionDay, Valid, FirstFrom};
 ghost use Rattle.date.specs.Days.{weekday};
 ghost use Rattle.date.specs.Years.{firstDay, endDay};
-ghost use Rattle.clock.specs.Regular.{Sums, Rising, regular, NextOwn};
+ghost use Rattle.clock.specs.Regular.{Sums, Rising, regular};
 ghost use Rattle.clock.specs.Jumps.{over, Fits, Passed};
 
 // Days that a walk passes at once: up to which day, or back to which, and their minutes.
@@ -53,10 +53,10 @@ pub fn weekday_work(sums: [u64; 8], d: u64) -> u64
     sums[k + 1] - sums[k]
 }
 
-// The first day from `i` on that has E records, or `e` if none before it has; `j` is the first record whose day is `i` or later.
+// The last day from `i` on, at most `e`, up to which no day has E records; `j` is the first record whose day is `i` or later.
 pub fn next_own(sheet: &[u8], at: usize, n: usize, i: u64, e: u64, j: usize) -> u64
     requires { ⌜ (at + 9 * n ≤ length (now sheet)) × ((x y : ℕ) → x ≤ y → y < n → exceptionDay (now sheet) at x ≤ exceptionDay (now sheet) at y) × FirstFrom (now sheet) at n i j × (i ≤ e) ⌝ }
-    ensures { λ r. ⌜ NextOwn (now (sheet .entry)) at n i e j r ⌝ }
+    ensures { λ r. ⌜ (i ≤ r) × (r ≤ e) × FirstFrom (now (sheet .entry)) at n r j ⌝ }
 {
     if j < n {
         let day = calendar::exception_day(sheet, at, j);
@@ -88,7 +88,7 @@ fn lesser(a: u64, b: u64) -> u64
     if a < b { a } else { b }
 }
 
-// How many weekdays, from Monday on, are over when `y` minutes of a week are worked: those without minutes as well. No branch depends on `y`.
+// How many weekdays, from Monday on, are over when `y` minutes of a week are worked: those without minutes as well. It goes through all seven, so that nothing hangs on a branch that is hard to foretell.
 fn weekdays_over(sums: [u64; 8], y: u64) -> u64
     ensures { λ r. ⌜ (r ≡ over sums y 7) × (r ≤ 7) ⌝ }
 {

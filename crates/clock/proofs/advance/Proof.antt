@@ -1,6 +1,6 @@
 -- `clock::advance` meets its contract. The loop's invariant: what is left, counted from its day and minute on, ends where `work` from `t` on does.
-use mathlib.Core.Path.{_≡_, refl, sym, _∙_}
-use Prim.Native.Nat.{ℕ, _≤_, _<_, _+_, _*_, _-_}
+use mathlib.Core.Path.{_≡_, refl, sym}
+use Prim.Native.Nat.{_≤_, _<_, _+_, _*_, _-_}
 use native.Mathlib.Omega.{arith}
 use borrow.Author.Needs.{needs}
 use Rattle.calendar.specs.Hours.{worked, rank}
@@ -13,7 +13,7 @@ use Rattle.worktime.specs.Count.{count-mono}
 use Rattle.worktime.specs.Walks.{firstMinute, endMinute}
 use Rattle.worktime.specs.Shift.{advance-zero, advance-out, advance-at, advance-none}
 use Rattle.clock.specs.On.{workedOn}
-use Rattle.clock.specs.Days.{DaySelected, hand-rank, hand-select, count-time, count-next-day}
+use Rattle.clock.specs.Days.{hand-rank, hand-select, count-time, count-next-day}
 use Rattle.clock.specs.JumpLaws.{days-passed}
 use Rattle.clock.proofs.advance.Statement.{statement}
 use Rattle.clock.proofs.advance.Tie as tie

@@ -12,8 +12,9 @@ use Rattle.calendar.specs.DayLaws.{hours-week}
 use Rattle.worktime.specs.Worked.{count}
 use Rattle.clock.specs.On.{workedOn}
 use Rattle.clock.specs.Weeks.{row-ordered}
-use Rattle.clock.specs.Regular.{Sums, regular, daysWork}
-use Rattle.clock.specs.OwnDayLaws.{days-small, days-regular, days-end, none-first, first-own, further-own, some-own, part-small}
+use Rattle.clock.specs.Regular.{Sums, daysWork}
+use Rattle.clock.specs.RegularLaws.{days-regular}
+use Rattle.clock.specs.OwnDayLaws.{days-small, days-end, none-first, first-own, further-own, some-own, part-small}
 use Rattle.clock.proofs.days_work.Statement.{statement}
 use Rattle.clock.proofs.days_work.Tie as tie
 
@@ -49,7 +50,7 @@ loop-holds c =
             arith,
             c .regular-work .ensures,
             rw g at
-                (days-regular (hoursOn week (a .sheet .now) (a .at) (a .from)) (a .d) sums (a .e - a .d)
+                (days-regular sums (hoursOn week (a .sheet .now) (a .at) (a .from)) (a .d) (a .e - a .d)
                 (λ x l k. hours-week week (a .sheet .now) (a .at) (a .from) x (none-first week (a .sheet .now) (a .at) x (a .from) (λ i h z. omega (arith, f .below i h))))),
           ),
       f .below,

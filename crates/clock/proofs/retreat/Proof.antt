@@ -1,19 +1,19 @@
 -- `clock::retreat` meets its contract. The loop's invariant: what is left, counted back from its day and minute, begins where `work` back from `t` does.
-use mathlib.Core.Path.{_≡_, refl, sym, _∙_}
-use Prim.Native.Nat.{ℕ, _≤_, _<_, _+_, _*_, _-_}
+use mathlib.Core.Path.{_≡_, refl, sym}
+use Prim.Native.Nat.{_≤_, _<_, _+_, _*_, _-_}
 use native.Mathlib.Omega.{arith}
 use borrow.Author.Needs.{needs}
 use Rattle.calendar.specs.Hours.{worked, rank}
 use Rattle.calendar.specs.HoursLaws.{rank-mono}
 use Rattle.calendar.specs.Records.{hoursOn, periodsOf, FirstFrom}
 use Rattle.calendar.specs.ValidLaws.{hand-ordered}
-use Rattle.date.specs.Years.{firstDay, endDay, years-after}
+use Rattle.date.specs.Years.{endDay, years-after}
 use Rattle.worktime.specs.Worked.{count}
 use Rattle.worktime.specs.Count.{count-mono}
 use Rattle.worktime.specs.Walks.{firstMinute, endMinute}
 use Rattle.worktime.specs.Shift.{retreat-zero, retreat-out, retreat-at, retreat-none}
 use Rattle.clock.specs.On.{workedOn}
-use Rattle.clock.specs.Days.{DaySelected, hand-rank, hand-select, count-time, count-day-before}
+use Rattle.clock.specs.Days.{hand-rank, hand-select, count-time, count-day-before}
 use Rattle.clock.specs.JumpLaws.{days-passed-back}
 use Rattle.clock.proofs.retreat.Statement.{statement}
 use Rattle.clock.proofs.retreat.Tie as tie

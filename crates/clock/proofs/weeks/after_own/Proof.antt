@@ -1,5 +1,5 @@
 -- `clock::weeks::after_own` meets its contract: the record before `j` has the last day with records before `e`.
-use Prim.Native.Nat.{_+_, _-_, _≤_, _<_}
+use Prim.Native.Nat.{_-_}
 use native.Mathlib.Omega.{arith}
 use borrow.Author.Needs.{needs}
 use Rattle.clock.specs.RegularLaws.{after-own-is}

@@ -26,7 +26,7 @@ returns-2 c =
     let p = c .before .before .before .before .before .pre in
     let o = c .before .before .before .next-own .ensures in
     let f = c .ahead .ensures in
-    (passed-days (p .0) (c .before .sums-of .ensures) (p .1) (o .first) (omega arith) (f .1) (f .0), f .0 .order, omega (arith, f .1, o .to))
+    (passed-days (p .0) (c .before .sums-of .ensures) (p .1) (o .2) (omega arith) (f .1) (f .0), f .0 .order, omega (arith, f .1, o .1))
 
 pub days-ahead-spec : {M : Type 1} → statement M
 days-ahead-spec =
