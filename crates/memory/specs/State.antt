@@ -1,12 +1,13 @@
 -- The lent memory as a state of two tables, functions of the field and the row: activities have 64 fields and links 16.
-use mathlib.Core.Bool.{cond}
+use mathlib.Core.Bool.{cond, _&&_}
 use mathlib.Core.List.{List}
-use Prim.Native.Nat.{ℕ, _+_, _*_, _≤_}
-use lib.Dec.{eqb, ltb}
+use Prim.Native.Nat.{ℕ, _+_, _-_, _*_, _≤_}
+use lib.Dec.{eqb, leb, ltb}
 use lib.IntN.{ℤ, pos}
 use lib.ListN.{length}
 use Rattle.number.specs.Zed.{up}
 use Rattle.cells.specs.Cell.{cellZ}
+use Rattle.memory.specs.Fields.{shownStart, isLongest}
 
 -- each cell as a natural number, 0 for a negative one, and as itself
 pub record State : Type 0 where
@@ -19,9 +20,13 @@ pub record State : Type 0 where
 abbrev pub Room : ℕ → ℕ → List ℤ → Type 0
 Room a l xs = 64 * a + 16 * l ≤ length xs
 
--- the cells from base on, as `size` fields, each a column of n rows: 0 outside
+-- where row i of field f stands in a table of n rows: eight fields of a result row by row, every other in a column of its own
+unfoldable pub place : ℕ → ℕ → ℕ → ℕ
+place n f i = cond (leb shownStart f && leb f isLongest) (shownStart * n + 8 * i + (f - shownStart)) (f * n + i)
+
+-- the cells from base on, as `size` fields of n rows: 0 outside
 abbrev pub table : ℕ → ℕ → ℕ → List ℤ → ℕ → ℕ → ℤ
-table base size n xs f i = cond (ltb f size) (cond (ltb i n) (cellZ xs (base + f * n + i)) (pos 0)) (pos 0)
+table base size n xs f i = cond (ltb f size) (cond (ltb i n) (cellZ xs (base + place n f i)) (pos 0)) (pos 0)
 
 unfoldable pub stateOf : ℕ → ℕ → List ℤ → State
 stateOf a l xs = record {

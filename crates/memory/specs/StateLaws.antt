@@ -1,6 +1,6 @@
 -- What a store to a cell does to the state, and what the state reads after stores.
 use mathlib.Core.Path.{_≡_, refl, sym, ap, _∙_}
-use mathlib.Core.Logic.{_≢_, ⊎-elim}
+use mathlib.Core.Logic.{_≢_, _⊎_, inl, inr, ⊎-elim}
 use mathlib.Core.Bool.{Bool, true, false, cond}
 use mathlib.Core.List.{List}
 use Prim.Native.Nat.{ℕ, _+_, _*_, _≤_, _<_}
@@ -13,8 +13,8 @@ use Rattle.number.specs.Order.{eq-or-ne, lt-or-le}
 use Rattle.number.specs.Zed.{up}
 use Rattle.cells.specs.Cell.{cellZ, storeZ}
 use Rattle.cells.specs.CellLaws.{cellZ-same, cellZ-other}
-use Rattle.memory.specs.Columns.{column-ends, column-apart}
-use Rattle.memory.specs.State.{State, Room, table, stateOf, zeroState, replaced, putAct, putActZ, putLinkZ, filledTo, fillAct}
+use Rattle.memory.specs.Columns.{place-before, place-to, place-apart}
+use Rattle.memory.specs.State.{State, Room, place, table, stateOf, zeroState, replaced, putAct, putActZ, putLinkZ, filledTo, fillAct}
 
 -- ---- choices
 module _ {A : Type 0} where
@@ -91,7 +91,7 @@ replaced-up t f i z g j = cond-map up (eqb g f) _ _ ∙ ap (λ (x : ℕ). cond (
 
 -- ---- a table in cells
 module _ (base size n : ℕ) (xs : List ℤ) where
-  pub table-at : (f i : ℕ) → f < size → i < n → table base size n xs f i ≡ cellZ xs (base + f * n + i)
+  pub table-at : (f i : ℕ) → f < size → i < n → table base size n xs f i ≡ cellZ xs (base + place n f i)
   table-at f i p q = simp (lt-ltb _ _ p, lt-ltb _ _ q)
 
   pub table-past : (f i : ℕ) → n ≤ i → table base size n xs f i ≡ pos 0
@@ -101,29 +101,31 @@ module _ (base size n : ℕ) (xs : List ℤ) where
   table-wide f i h = simp (le-ltb _ _ h)
 
   -- a table is as its cells
-  table-same : (ys : List ℤ) (f i : ℕ) → (f < size → i < n → cellZ ys (base + f * n + i) ≡ cellZ xs (base + f * n + i)) → table base size n ys f i ≡ table base size n xs f i
+  table-same : (ys : List ℤ) (f i : ℕ) → (f < size → i < n → cellZ ys (base + place n f i) ≡ cellZ xs (base + place n f i)) → table base size n ys f i ≡ table base size n xs f i
   table-same ys f i h = cond-then (ltb f size) _ _ _ (λ p. cond-then (ltb i n) _ _ _ (λ q. h (ltb-true f size p) (ltb-true i n q)))
 
-  table-put : (f i : ℕ) (z : ℤ) → f < size → i < n → base + size * n ≤ length xs → table base size n (storeZ xs (base + f * n + i) z) ≡ replaced (table base size n xs) f i z
-  table-put f i z p q room =
-      replaced-is (table base size n xs) f i z (table base size n (storeZ xs (base + f * n + i) z))
-      (at-cell ∙ cellZ-same xs (base + f * n + i) z (omega (arith, column-ends n p)))
+  table-put : (f i : ℕ) (z : ℤ) → f < size → i < n → (size ≤ 20) ⊎ (27 < size) → base + size * n ≤ length xs
+      → table base size n (storeZ xs (base + place n f i) z) ≡ replaced (table base size n xs) f i z
+  table-put f i z p q w room =
+      replaced-is (table base size n xs) f i z (table base size n (storeZ xs (base + place n f i) z))
+      (at-cell ∙ cellZ-same xs (base + place n f i) z (omega (arith, place-to n size f i w p q)))
       (λ g j m.
-      table-same (storeZ xs (base + f * n + i) z) g j
-      (λ s u. cellZ-other xs (base + f * n + i) (base + g * n + j) z (λ e. let d = column-apart n base g j f i u q e in m (d .0) (d .1))))
+      table-same (storeZ xs (base + place n f i) z) g j
+      (λ s u. cellZ-other xs (base + place n f i) (base + place n g j) z (λ e. let d = place-apart n g j f i u q (omega arith) in m (d .0) (d .1))))
     where
-      at-cell : table base size n (storeZ xs (base + f * n + i) z) f i ≡ cellZ (storeZ xs (base + f * n + i) z) (base + f * n + i)
+      at-cell : table base size n (storeZ xs (base + place n f i) z) f i ≡ cellZ (storeZ xs (base + place n f i) z) (base + place n f i)
       at-cell = simp (lt-ltb _ _ p, lt-ltb _ _ q)
 
 -- ---- a store to a cell is a put
 module _ (a l : ℕ) (xs : List ℤ) (room : Room a l xs) (f i : ℕ) (z : ℤ) where
-  pub state-put-act : f < 64 → i < a → stateOf a l (storeZ xs (f * a + i) z) ≡ putActZ (stateOf a l xs) f i z
+  pub state-put-act : f < 64 → i < a → stateOf a l (storeZ xs (place a f i) z) ≡ putActZ (stateOf a l xs) f i z
   unfolding stateOf
   state-put-act p q =
-      let y : f * a + i ≡ 0 + f * a + i = omega arith in
-      let ys : List ℤ = storeZ xs (0 + f * a + i) z in
-      let e : table 0 64 a ys ≡ replaced (table 0 64 a xs) f i z = table-put 0 64 a xs f i z p q (omega arith) in
-      let k : (g j : ℕ) → table (64 * a) 16 l ys g j ≡ table (64 * a) 16 l xs g j = λ g j. table-same (64 * a) 16 l xs ys g j (λ s u. cellZ-other xs (0 + f * a + i) (64 * a + g * l + j) z (λ w. omega (arith, column-ends a p))) in
+      let y : place a f i ≡ 0 + place a f i = omega arith in
+      let ys : List ℤ = storeZ xs (0 + place a f i) z in
+      let e : table 0 64 a ys ≡ replaced (table 0 64 a xs) f i z = table-put 0 64 a xs f i z p q (inr (omega arith)) (omega arith) in
+      let k : (g j : ℕ) → table (64 * a) 16 l ys g j ≡ table (64 * a) 16 l xs g j =
+      λ g j. table-same (64 * a) 16 l xs ys g j (λ s u. cellZ-other xs (0 + place a f i) (64 * a + place l g j) z (λ w. omega (arith, place-to a 64 f i (inr (omega arith)) p q))) in
       rw y λ t. record {
         act = λ g j. (ap (λ (c : ℕ → ℕ → ℤ). up (c g j)) e ∙ replaced-up (table 0 64 a xs) f i z g j) t;
         link = λ g j. up (k g j t);
@@ -131,13 +133,16 @@ module _ (a l : ℕ) (xs : List ℤ) (room : Room a l xs) (f i : ℕ) (z : ℤ) 
         linkZ = λ g j. k g j t;
       }
 
+  -- the fields of links stand in columns
   pub state-put-link : f < 16 → i < l → stateOf a l (storeZ xs (64 * a + f * l + i) z) ≡ putLinkZ (stateOf a l xs) f i z
   unfolding stateOf
   state-put-link p q =
-      let ys : List ℤ = storeZ xs (64 * a + f * l + i) z in
-      let e : table (64 * a) 16 l ys ≡ replaced (table (64 * a) 16 l xs) f i z = table-put (64 * a) 16 l xs f i z p q room in
-      let k : (g j : ℕ) → table 0 64 a ys g j ≡ table 0 64 a xs g j = λ g j. table-same 0 64 a xs ys g j (λ s u. cellZ-other xs (64 * a + f * l + i) (0 + g * a + j) z (λ w. omega (arith, column-ends a s))) in
-      λ t. record {
+      let y : 64 * a + f * l + i ≡ 64 * a + place l f i = omega (arith, place-before l f i (omega arith)) in
+      let ys : List ℤ = storeZ xs (64 * a + place l f i) z in
+      let e : table (64 * a) 16 l ys ≡ replaced (table (64 * a) 16 l xs) f i z = table-put (64 * a) 16 l xs f i z p q (inl (omega arith)) room in
+      let k : (g j : ℕ) → table 0 64 a ys g j ≡ table 0 64 a xs g j =
+      λ g j. table-same 0 64 a xs ys g j (λ s u. cellZ-other xs (64 * a + place l f i) (0 + place a g j) z (λ w. omega (arith, place-to a 64 g j (inr (omega arith)) s u))) in
+      rw y λ t. record {
         act = λ g j. up (k g j t);
         link = λ g j. (ap (λ (c : ℕ → ℕ → ℤ). up (c g j)) e ∙ replaced-up (table (64 * a) 16 l xs) f i z g j) t;
         actZ = λ g j. k g j t;
@@ -146,13 +151,13 @@ module _ (a l : ℕ) (xs : List ℤ) (room : Room a l xs) (f i : ℕ) (z : ℤ) 
 
 -- ---- what the state reads
 module _ (a l : ℕ) (xs : List ℤ) (f i : ℕ) where
-  pub actZ-at : f < 64 → i < a → stateOf a l xs .actZ f i ≡ cellZ xs (f * a + i)
+  pub actZ-at : f < 64 → i < a → stateOf a l xs .actZ f i ≡ cellZ xs (place a f i)
   unfolding stateOf
-  actZ-at p q = let y : f * a + i ≡ 0 + f * a + i = omega arith in rw y (table-at 0 64 a xs f i p q)
+  actZ-at p q = let y : 0 + place a f i ≡ place a f i = omega arith in table-at 0 64 a xs f i p q ∙ ap (cellZ xs) y
 
   pub linkZ-at : f < 16 → i < l → stateOf a l xs .linkZ f i ≡ cellZ xs (64 * a + f * l + i)
   unfolding stateOf
-  linkZ-at p q = table-at (64 * a) 16 l xs f i p q
+  linkZ-at p q = let y : 64 * a + f * l + i ≡ 64 * a + place l f i = omega (arith, place-before l f i (omega arith)) in rw y (table-at (64 * a) 16 l xs f i p q)
 
   pub act-up : stateOf a l xs .act f i ≡ up (stateOf a l xs .actZ f i)
   unfolding stateOf
@@ -257,7 +262,7 @@ cellZ-zeros n at =
     (λ (h : n ≤ at). List·getD-eq-default (replicate n (pos 0)) (pos 0) (rw (length-replicate n (pos 0)) h)) (lt-or-le at n)
 
 table-zeros : (base size n m f i : ℕ) → table base size n (replicate m (pos 0)) f i ≡ pos 0
-table-zeros base size n m f i = cond-same (ltb f size) _ _ (cond-same (ltb i n) _ _ (cellZ-zeros m (base + f * n + i)))
+table-zeros base size n m f i = cond-same (ltb f size) _ _ (cond-same (ltb i n) _ _ (cellZ-zeros m (base + place n f i)))
 
 pub state-zeros : (a l n : ℕ) → stateOf a l (replicate n (pos 0)) ≡ zeroState
 unfolding stateOf

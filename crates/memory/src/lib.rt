@@ -1,12 +1,27 @@
-// The lent work memory: two tables, of 64 fields of each activity and, after them, 16 of each link, laid out field by field: a pass reads few fields of many rows.
+// The lent work memory: two tables, of 64 fields of each activity and, after them, 16 of each link, laid out field by field, since a pass reads few fields of many rows;
+// but eight fields of a result, which are written and read together, row by row.
 ghost use mathlib.Core.Path.{_≡_};
 ghost use mathlib.Core.Logic.{_≢_};
 ghost use Prim.Native.Nat.{ℕ, _+_, _*_, _^_, _≤_, _<_};
 ghost use lib.ListN.{length};
-ghost use Rattle.memory.specs.State.{Room, stateOf, putAct, putActZ, putLink, putLinkZ, fillAct};
+ghost use Rattle.memory.specs.State.{Room, place, stateOf, putAct, putActZ, putLink, putLinkZ, fillAct};
 ghost use Rattle.memory.specs.Chains.{linked, linkedFrom, withChains, Chains};
 
 pub mod fields;
+
+// Where field `f` of row `i` stands in a table of `n` rows.
+fn place(n: usize, i: usize, f: usize) -> usize
+    requires { ⌜ (i < n) × (f < 64) × (64 * n < 2 ^ 64) ⌝ }
+    ensures { λ r. ⌜ (r ≡ place n f i) × (r < 64 * n) ⌝ }
+{
+    if f < fields::SHOWN_START {
+        return f * n + i;
+    }
+    if f <= fields::IS_LONGEST {
+        return fields::SHOWN_START * n + 8 * i + (f - fields::SHOWN_START);
+    }
+    f * n + i
+}
 
 // Field `f` of activity `i`: 0 where it is negative.
 pub fn get_act(work: &[i64], a: usize, l: usize, i: usize, f: usize) -> u64
@@ -20,7 +35,7 @@ pub fn get_act_signed(work: &[i64], a: usize, l: usize, i: usize, f: usize) -> i
     requires { ⌜ Room a l (now work) × (i < a) × (f < 64) ⌝ }
     ensures { λ r. ⌜ r ≡ stateOf a l (now (work .entry)) .actZ f i ⌝ }
 {
-    work[f * a + i]
+    work[place(a, i, f)]
 }
 
 // Field `f` of link `k`: 0 where it is negative.
@@ -43,14 +58,14 @@ pub fn put_act(work: &mut [i64], a: usize, l: usize, i: usize, f: usize, v: u64)
     requires { ⌜ Room a l (now work) × (i < a) × (f < 64) × (v < 2 ^ 63) ⌝ }
     ensures { λ _. ⌜ (stateOf a l (now (work .exit)) ≡ putAct (stateOf a l (now (work .entry))) f i v) × (length (now (work .exit)) ≡ length (now (work .entry))) ⌝ }
 {
-    cells::put(work, f * a + i, v);
+    cells::put(work, place(a, i, f), v);
 }
 
 pub fn put_act_signed(work: &mut [i64], a: usize, l: usize, i: usize, f: usize, v: i64)
     requires { ⌜ Room a l (now work) × (i < a) × (f < 64) ⌝ }
     ensures { λ _. ⌜ (stateOf a l (now (work .exit)) ≡ putActZ (stateOf a l (now (work .entry))) f i v) × (length (now (work .exit)) ≡ length (now (work .entry))) ⌝ }
 {
-    cells::put_signed(work, f * a + i, v);
+    cells::put_signed(work, place(a, i, f), v);
 }
 
 // Puts `v` into field `f` of link `k`.

@@ -1,7 +1,7 @@
 -- The columns and what follows them cleared one after the other: the state is as it was but for what does not stand.
 use mathlib.Core.Path.{_≡_, refl, sym, ap, _∙_}
 use mathlib.Core.Bool.{Bool, true, false, cond}
-use mathlib.Core.Logic.{⊎-elim}
+use mathlib.Core.Logic.{inl, inr, ⊎-elim}
 use mathlib.Core.List.{List}
 use Prim.Native.Nat.{ℕ, _+_, _*_, _≤_, _<_}
 use native.Mathlib.Omega.{arith}
@@ -12,8 +12,8 @@ use lib.ListN.{length, List·getD-eq-default}
 use Rattle.number.specs.Order.{lt-or-le}
 use Rattle.number.specs.Zed.{up}
 use Rattle.cells.specs.Cell.{cellZ}
-use Rattle.memory.specs.State.{Room, table, stateOf}
-use Rattle.memory.specs.Columns.{column-ends}
+use Rattle.memory.specs.State.{Room, place, table, stateOf}
+use Rattle.memory.specs.Columns.{place-from, place-to}
 use Rattle.memory.specs.StateLaws.{table-at, table-past, table-wide}
 use Rattle.rest.specs.Stands.{actStands, linkStands, ofActivity, ofLink, Cleared, ColumnsCleared, restCleared}
 
@@ -28,7 +28,7 @@ up-cond false z = refl
 
 -- ---- a table of which each cell is kept or 0
 module _ (base size n : ℕ) (xs ws : List ℤ) (kept : ℕ → ℕ → ℤ → ℤ) (none : (f i : ℕ) → kept f i (pos 0) ≡ pos 0)
-    (cells : (f i : ℕ) → f < size → i < n → cellZ ws (base + f * n + i) ≡ kept f i (cellZ xs (base + f * n + i))) where
+    (cells : (f i : ℕ) → f < size → i < n → cellZ ws (base + place n f i) ≡ kept f i (cellZ xs (base + place n f i))) where
   table-kept : (f i : ℕ) → table base size n ws f i ≡ kept f i (table base size n xs f i)
   table-kept f i =
       ⊎-elim (λ (p : f < size).
@@ -52,24 +52,24 @@ module _ (a l t : ℕ) {xs ys zs ws : List ℤ} (room : Room a l xs) (C : Column
   pub rest-after : (j : ℕ) → 64 * a + 16 * l ≤ j → cellZ ws j ≡ pos 0
   rest-after j h = ⊎-elim (λ (s : j < length xs). E .inside j (omega arith) s) (λ (s : length xs ≤ j). cell-past ws j (omega (arith, rest-size))) (lt-or-le j (length xs))
 
-  act-cell : (f i : ℕ) → f < 64 → i < a → cellZ ws (0 + f * a + i) ≡ cond (actStands f) (cellZ xs (0 + f * a + i)) (pos 0)
+  act-cell : (f i : ℕ) → f < 64 → i < a → cellZ ws (0 + place a f i) ≡ cond (actStands f) (cellZ xs (0 + place a f i)) (pos 0)
   act-cell f i p q =
-      let e = column-ends a p in
-      E .below (0 + f * a + i) (omega arith) ∙ D .below (0 + f * a + i) (omega arith) ∙ C .inside f i (omega arith) p q
+      let e = place-to a 64 f i (inr (omega arith)) p q in
+      E .below (0 + place a f i) (omega arith) ∙ D .below (0 + place a f i) (omega arith) ∙ C .inside f i (omega arith) p q
 
-  link-cell : (f k : ℕ) → f < 16 → k < l → cellZ ws (64 * a + f * l + k) ≡ cond (linkStands f) (cond (ltb k t) (cellZ xs (64 * a + f * l + k)) (pos 0)) (pos 0)
+  link-cell : (f k : ℕ) → f < 16 → k < l → cellZ ws (64 * a + place l f k) ≡ cond (linkStands f) (cond (ltb k t) (cellZ xs (64 * a + place l f k)) (pos 0)) (pos 0)
   link-cell f k p q =
       ⊎-elim (λ (s : f < 7).
-      let e = column-ends l s in
+      let e = place-to l 7 f k (inl (omega arith)) s q in
       E .below j (omega arith) ∙ D .inside f k (omega arith) s q ∙ ap (λ (z : ℤ). cond (ltb k t) z (pos 0)) (C .above j (omega arith))
       ∙ sym (ap (λ (b : Bool). cond b (cond (ltb k t) (cellZ xs j) (pos 0)) (pos 0)) (le-leb f 6 (omega arith))))
       (λ (s : 6 < f).
-      let e = column-ends l s in
-      let d = column-ends l p in
+      let e = place-from l 7 f k (inl (omega arith)) s in
+      let d = place-to l 16 f k (inl (omega arith)) p q in
       E .inside j (omega arith) (omega arith) ∙ sym (ap (λ (b : Bool). cond b (cond (ltb k t) (cellZ xs j) (pos 0)) (pos 0)) (lt-leb f 6 s))) (lt-or-le f 7)
     where
       j : ℕ
-      j = 64 * a + f * l + k
+      j = 64 * a + place l f k
 
   act-is : (f i : ℕ) → stateOf a l ws .actZ f i ≡ cond (actStands f) (stateOf a l xs .actZ f i) (pos 0)
   unfolding stateOf

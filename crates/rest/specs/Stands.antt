@@ -7,7 +7,7 @@ use lib.Dec.{eqb, leb, ltb}
 use lib.IntN.{ℤ, pos}
 use lib.ListN.{length}
 use Rattle.cells.specs.Cell.{cellZ}
-use Rattle.memory.specs.State.{State}
+use Rattle.memory.specs.State.{State, place}
 use Rattle.memory.specs.Fields.{parent, isSummary, firstIn, firstOut, orderAt, nextOut}
 
 -- the fields of an activity that stand
@@ -35,7 +35,7 @@ pub record Cleared (lo hi : ℕ) (xs ys : List ℤ) : Type 0 where
   pub below : (j : ℕ) → j < lo → cellZ ys j ≡ cellZ xs j
   pub above : (j : ℕ) → hi ≤ j → cellZ ys j ≡ cellZ xs j
 
--- ---- by columns of n rows, of which the first is at base: what stands of field f and row i
+-- ---- by fields of n rows, of which the first is at base: what stands of field f and row i
 abbrev pub ofActivity : ℕ → ℕ → Bool
 ofActivity f i = actStands f
 
@@ -43,9 +43,9 @@ ofActivity f i = actStands f
 abbrev pub ofLink : ℕ → ℕ → ℕ → Bool
 ofLink t f k = ltb k t
 
--- the columns from lo up to hi are 0 but for what stands; all other cells are as they were
+-- the fields from lo up to hi are 0 but for what stands; all other cells are as they were
 pub record ColumnsCleared (base n : ℕ) (standing : ℕ → ℕ → Bool) (lo hi : ℕ) (xs ys : List ℤ) : Type 0 where
   pub size : length ys ≡ length xs
-  pub inside : (f i : ℕ) → lo ≤ f → f < hi → i < n → cellZ ys (base + f * n + i) ≡ cond (standing f i) (cellZ xs (base + f * n + i)) (pos 0)
+  pub inside : (f i : ℕ) → lo ≤ f → f < hi → i < n → cellZ ys (base + place n f i) ≡ cond (standing f i) (cellZ xs (base + place n f i)) (pos 0)
   pub below : (j : ℕ) → j < base + lo * n → cellZ ys j ≡ cellZ xs j
   pub above : (j : ℕ) → base + hi * n ≤ j → cellZ ys j ≡ cellZ xs j

@@ -1,6 +1,7 @@
 -- `rest::clear_links` meets its contract: after f turns the first f columns are cleared.
 use borrow.Author.Needs.{needs}
 use mathlib.Core.Path.{_≡_, subst}
+use mathlib.Core.Logic.{inl}
 use Prim.Native.Nat.{ℕ, _+_, _*_, _-_, _≤_}
 use native.Mathlib.Omega.{arith}
 use Rattle.memory.specs.Columns.{column-ends}
@@ -52,7 +53,7 @@ loop-again : tie.Need-loop-again Inv-loop μ-loop
 loop-again c =
     let L = c .before .before .before .before .loop in
     let x = c .before .before .before .before .before .args in
-    (omega arith, columns-then (64 * x .a) (x .l) (ofLink (x .t)) (omega arith) (omega arith) (L .inv .1) (column-cleared (64 * x .a) (x .l) (x .t) (L .f) (clear-at (omega arith) (omega arith) (c .before .clear-cells .ensures))))
+    (omega arith, columns-then (64 * x .a) (x .l) (ofLink (x .t)) (inl (omega arith)) (omega arith) (omega arith) (L .inv .1) (column-cleared (64 * x .a) (x .l) (x .t) (L .f) (omega arith) (clear-at (omega arith) (omega arith) (c .before .clear-cells .ensures))))
 
 same-length : tie.Need-same-length Inv-loop μ-loop
 same-length c = c .before .loop .inv .1 .size
