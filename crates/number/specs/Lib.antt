@@ -1,6 +1,7 @@
 -- The definitions of the numbers, and their laws.
 pub mod Order
 pub mod Bit
+pub mod BitLaws
 pub mod Bytes
 pub mod Tests
 pub mod BytesLaws

@@ -10,11 +10,8 @@ use native.Mathlib.Numerals.{add-one}
 use Rattle.number.specs.Order.{cases, lt-or-le}
 use Rattle.worktime.specs.Worked.{count, closing}
 use Rattle.number.specs.Bit.{bit}
+use Rattle.number.specs.BitLaws.{bit-le}
 use Rattle.worktime.specs.Walks.{spanned}
-
-pub bit-le : (b : Bool) → bit b ≤ 1
-bit-le true = omega arith
-bit-le false = omega arith
 
 module _ (w : ℕ → Bool) where
   -- ---- one minute more
