@@ -1,11 +1,11 @@
 -- Open ends by the heads of the chains: an activity's chain is empty exactly where its head is the count of links.
-use mathlib.Core.Path.{_≡_, refl, sym, ap, _∙_}
-use mathlib.Core.Bool.{Bool, true, false}
+use mathlib.Core.Path.{_≡_, sym, ap, _∙_}
+use mathlib.Core.Bool.{true, false}
 use mathlib.Core.Logic.{_≢_}
 use Prim.Native.Nat.{ℕ, _-_, _<_}
 use native.Mathlib.Omega.{arith}
 use lib.ListN.{length}
-use Rattle.number.specs.Bit.{bit}
+use Rattle.number.specs.BitLaws.{mark-none, mark-some}
 use Rattle.cells.specs.Chain.{after, Stands}
 use Rattle.memory.specs.State.{State}
 use Rattle.memory.specs.Fields.{isSummary, firstIn, firstOut, fromField, toField}
@@ -26,20 +26,12 @@ module _ (key : ℕ → ℕ) (t i k : ℕ) (s : Stands key t i 0 k) where
   chain-some n z =
       let b : k < t = omega (arith, s .top) in omega (arith, ap length (s .rest ∙ keyed-hit key i t k b (s .hits b)))
 
-bit-zero : (b : Bool) → bit b ≡ 0 → b ≡ false
-bit-zero true e = absurd (omega arith)
-bit-zero false e = refl
-
-bit-some : (b : Bool) → bit b ≢ 0 → b ≡ true
-bit-some true n = refl
-bit-some false n = absurd (n refl)
-
 module _ (p : Plan) {t : ℕ} {S : State} (W : Standing p t S) (i : ℕ) (l : i < p .activities) where
   is-summary : S .act isSummary i ≢ 0 → summary p i ≡ true
-  is-summary n = bit-some (summary p i) (λ z. n (W .marks i l ∙ z))
+  is-summary n = mark-some (summary p i) (W .marks i l) n
 
   no-summary : S .act isSummary i ≡ 0 → summary p i ≡ false
-  no-summary z = bit-zero (summary p i) (sym (W .marks i l) ∙ z)
+  no-summary z = mark-none (summary p i) (W .marks i l) z
 
   in-none : S .act firstIn i ≡ t → length (incoming (keptLinks p) i) ≡ 0
   in-none e = ap length (sym (into-is p W i)) ∙ chain-none (S .link toField) t i (S .act firstIn i) (W .chainsIn .heads i l) e

@@ -8,6 +8,7 @@ use borrow.Author.Tests.{eq-eqb, ne-eqb, lt-ltb, le-ltb}
 use lib.Dec.{eqb, ltb}
 use Rattle.number.specs.Order.{eq-or-ne, lt-or-le}
 use Rattle.number.specs.Bit.{bit}
+use Rattle.number.specs.BitLaws.{mark-flag}
 use Rattle.worktime.specs.Reads.{on-true, on-false}
 use Rattle.memory.specs.State.{State, putAct, fillAct}
 use Rattle.memory.specs.StateLaws.{act-same, act-row, act-field, fill-act}
@@ -77,10 +78,6 @@ column-fill n S f v = λ z i. at i z
 pub column-none : (other : ℕ → ℕ) (S : State) (f : ℕ) → column 0 other S f ≡ other
 column-none other S f = λ z i. column-past 0 other f S i (omega arith) z
 
-bit-flag : (b : Bool) → ltb 0 (bit b) ≡ b
-bit-flag true = refl
-bit-flag false = refl
-
 module _ (n : ℕ) (other : ℕ → Bool) (f : ℕ) where
   pub flags-at : (S : State) (i : ℕ) → i < n → flags n other S f i ≡ ltb 0 (S .act f i)
   flags-at S i l = on-true (ltb i n) (ltb 0 (S .act f i)) (other i) (lt-ltb i n l)
@@ -94,13 +91,13 @@ module _ (n : ℕ) (other : ℕ → Bool) (f : ℕ) where
   pub flags-put : (S : State) (i : ℕ) (b : Bool) → i < n → flags n other (putAct S f i (bit b)) f ≡ put (flags n other S f) i b
   flags-put S i b l =
       put-is (flags n other S f) i b (flags n other (putAct S f i (bit b)) f)
-      (flags-at (putAct S f i (bit b)) i l ∙ ap (ltb 0) (act-same S f i (pos (bit b))) ∙ bit-flag b)
+      (flags-at (putAct S f i (bit b)) i l ∙ mark-flag b (act-same S f i (pos (bit b))))
       (λ j h. ap (λ (x : ℕ). elim (ltb j n) [ true ↦ ltb 0 x | false ↦ other j ]) (act-row S f i (pos (bit b)) f j h))
 
   pub flags-more : (S : State) (b : Bool) → flags (n + 1) other (putAct S f n (bit b)) f ≡ put (flags n other S f) n b
   flags-more S b =
       put-is (flags n other S f) n b (flags (n + 1) other (putAct S f n (bit b)) f)
-      (flags-at′ (putAct S f n (bit b)) n (omega arith) ∙ ap (ltb 0) (act-same S f n (pos (bit b))) ∙ bit-flag b)
+      (flags-at′ (putAct S f n (bit b)) n (omega arith) ∙ mark-flag b (act-same S f n (pos (bit b))))
       (λ j h.
       ⊎-elim
       (λ (l : j < n). flags-at′ (putAct S f n (bit b)) j (omega arith) ∙ ap (ltb 0) (act-row S f n (pos (bit b)) f j h) ∙ sym (flags-at S j l))

@@ -1,5 +1,5 @@
 -- Rows 11 and 12 by the ways of the code, and what follows where rows 6 to 10 are fine.
-use mathlib.Core.Path.{_≡_, refl, sym, ap, subst, _∙_}
+use mathlib.Core.Path.{_≡_, sym, ap, subst, _∙_}
 use mathlib.Core.Bool.{Bool, true, false, _&&_}
 use mathlib.Core.Logic.{_≢_}
 use Prim.Native.Nat.{ℕ, _+_, _-_, _≤_, _<_}
@@ -23,6 +23,7 @@ use Rattle.ids.specs.declared.SummaryCheck.the-variants.{Fine, Milestone
 use Rattle.ids.specs.Answers.{Answered}
 use Rattle.ids.specs.AnswerLaws.{fine-number}
 use Rattle.number.specs.Bit.{bit}
+use Rattle.number.specs.BitLaws.{mark-none, mark-some}
 use Rattle.ids.specs.Parented.{Parented}
 use Rattle.ids.specs.Summaries.{summaryVerdict, LoopFrom, SummaryAnswered}
 use Rattle.ids.specs.ClimbSteps.{loop-steps-same}
@@ -35,14 +36,6 @@ module _ (p : Plan) where
   pub parented-known : {r : Check} → Answered r (firstOf (judgeParent p) (p .activities) 0) → r ≡ check.Fine → ParentsKnown p
   parented-known A e = parents-fine p .0 (fine-number A e)
 
-  bit-zero : (b : Bool) → bit b ≡ 0 → b ≡ false
-  bit-zero true e = absurd (omega arith)
-  bit-zero false e = refl
-
-  bit-some : (b : Bool) → bit b ≢ 0 → b ≡ true
-  bit-some true e = refl
-  bit-some false e = absurd (e refl)
-
   -- the test of row 11
   abbrev pub milestoneParent : ℕ → Bool
   milestoneParent i = summary p i && isMilestone (p .activity i .kind)
@@ -54,10 +47,10 @@ module _ (p : Plan) where
 
     module _ (i : ℕ) (l : i < p .activities) (mark : ℕ) (e : mark ≡ S .act isSummary i) where
       pub no-summary : mark ≡ 0 → false ≡ milestoneParent i
-      no-summary z = let q = bit-zero (summary p i) (sym (marks-summary i l) ∙ sym e ∙ z) in rw q
+      no-summary z = let q = mark-none (summary p i) (e ∙ marks-summary i l) z in rw q
 
       pub summary-kind : mark ≢ 0 → isMilestone (p .activity i .kind) ≡ milestoneParent i
-      summary-kind n = let q = bit-some (summary p i) (λ z. n (e ∙ marks-summary i l ∙ z)) in rw q
+      summary-kind n = let q = mark-some (summary p i) (e ∙ marks-summary i l) n in rw q
 
     module _ (K : ParentsKnown p) where
       pub parents-within : (j : ℕ) → j < p .activities → S .act parent j ≤ p .activities
