@@ -5,7 +5,6 @@ use mathlib.Core.List.{List}
 use Prim.Native.Nat.{ℕ, zero, suc, _+_, _-_, _≤_, _<_, max}
 use native.Mathlib.Omega.{arith}
 use native.Mathlib.Numerals.{add-one}
-use Rattle.number.specs.Bit.{bit}
 use Rattle.worktime.specs.declared.Walk.the-variants.{At}
 use Rattle.worktime.specs.Reads.{on-true, on-false}
 use Rattle.date.specs.declared.Date.{Date}
@@ -46,15 +45,6 @@ onward-later b ef top e h = let m : max top (ef + 1) ≡ ef + 1 = omega arith in
 
 pub onward-before : (b : Bool) (ef top : ℕ) → b ≡ false → ef + 1 ≤ top → onward b ef top ≡ top
 onward-before b ef top e h = let m : max top (ef + 1) ≡ top = omega arith in ap (λ (x : Bool). onward x ef top) e ∙ m
-
--- a mark that is 0, and one that is not
-pub mark-none : (b : Bool) (m : ℕ) → m ≡ bit b → m ≡ 0 → b ≡ false
-mark-none true m e z = absurd (omega arith)
-mark-none false m e z = refl
-
-pub mark-some : (b : Bool) (m : ℕ) → m ≡ bit b → (m ≡ 0 → ⊥) → b ≡ true
-mark-some true m e z = refl
-mark-some false m e z = absurd (z e)
 
 module _ (p : Plan) (d : Early) where
   pub one-none : 0 ≡ greatestOne p d 0

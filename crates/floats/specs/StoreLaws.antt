@@ -20,6 +20,7 @@ use Rattle.topology.specs.FrameLaws.{frame-then, frame-put}
 use Rattle.order.specs.Plan.{Plan}
 use Rattle.order.specs.Ids.{summary}
 use Rattle.number.specs.Bit.{bit}
+use Rattle.number.specs.BitLaws.{mark-none, mark-some}
 use Rattle.passes.specs.Plan.{own, kindOf, origin, recorded}
 use Rattle.passes.specs.Dates.{Early, leaves, refused, put}
 use Rattle.passes.specs.Forward.{early}
@@ -80,21 +81,13 @@ and-true : (b : Bool) → b && true ≡ b
 and-true true = refl
 and-true false = refl
 
-bit-some : (b : Bool) → 0 < bit b → b ≡ true
-bit-some true l = refl
-bit-some false l = absurd (omega arith)
-
-bit-none : (b : Bool) → bit b ≤ 0 → b ≡ false
-bit-none true l = absurd (omega arith)
-bit-none false l = refl
-
 module _ (p : Plan) (d : Early) (i n : ℕ) where
   pub unmoved-none : n ≡ 0 → false ≡ (holdsLate p d i && ltb 0 n)
   unmoved-none z = let e : ltb 0 n ≡ false = le-ltb 0 n (omega arith) in sym (ap (λ (b : Bool). holdsLate p d i && b) e ∙ and-false (holdsLate p d i))
 
   pub unmoved-summary : (cell : ℕ) → cell ≡ bit (summary p i) → 0 < cell → false ≡ (holdsLate p d i && ltb 0 n)
   unmoved-summary cell b l =
-      sym (ap (λ (x : Bool). x && ltb 0 n) (holds-late-summary p d i (bit-some (summary p i) (omega (arith, b)))))
+      sym (ap (λ (x : Bool). x && ltb 0 n) (holds-late-summary p d i (mark-some (summary p i) b (λ z. omega arith))))
 
   pub moved-by-mark : (cell : ℕ) → cell ≡ bit (summary p i) → cell ≤ 0 → (n ≡ 0 → ⊥) → (actual : Actual) → actual ≡ recorded p i
       → (activity : Activity) → activity ≡ p .activity i
@@ -103,7 +96,7 @@ module _ (p : Plan) (d : Early) (i n : ℕ) where
       let e : ltb 0 n ≡ true = lt-ltb 0 n (omega (arith, z)) in
       (λ y. markedLate p d (r y) (q y .constraint) (q y .«secondary_constraint»))
       ∙ sym
-      (ap (λ (x : Bool). holdsLate p d i && x) e ∙ and-true (holdsLate p d i) ∙ holds-late-else p d i (bit-none (summary p i) (omega (arith, b))))
+      (ap (λ (x : Bool). holdsLate p d i && x) e ∙ and-true (holdsLate p d i) ∙ holds-late-else p d i (mark-none (summary p i) b (omega arith)))
 
 -- ---- the ways of what becomes of a free float of n minutes
 module _ (p : Plan) (S : State) (i n : ℕ) where

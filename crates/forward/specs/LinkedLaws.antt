@@ -1,11 +1,8 @@
 -- The links into an activity: the start that each leaves, the walk along them, and the placing after them.
 use mathlib.Core.Path.{_≡_, refl, sym, ap, ap₂, _∙_}
-use mathlib.Core.Bool.{Bool, true, false}
 use mathlib.Core.List.{List, [], _∷_}
 use Prim.Native.Nat.{ℕ, _≤_, _<_, max}
 use native.Mathlib.Omega.{arith}
-use lib.Dec.{ltb}
-use Rattle.number.specs.Bit.{bit}
 use Rattle.worktime.specs.declared.Walk.{Walk}
 use Rattle.worktime.specs.declared.Walk.the-variants.{At, Refused}
 use Rattle.project.specs.declared.RelationshipType.{RelationshipType}
@@ -81,8 +78,3 @@ module _ (p : Plan) (d : Early) (i : ℕ) where
 
     pub after-links-refused : (k : ℕ) → x ≡ Refused k → afterLinks p d i a ≡ refused k
     after-links-refused k h = stops refused (afterStart p d i a) from-floor h
-
--- a mark as a test
-pub mark-flag : (mark : ℕ) (b : Bool) → mark ≡ bit b → ltb 0 mark ≡ b
-mark-flag mark true e = ap (ltb 0) e
-mark-flag mark false e = ap (ltb 0) e

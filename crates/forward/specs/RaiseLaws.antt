@@ -4,6 +4,7 @@ use mathlib.Core.List.{List}
 use Prim.Native.Nat.{ℕ, _-_, _≤_, _<_, max}
 use native.Mathlib.Omega.{arith}
 use lib.IntN.{ℤ}
+use Rattle.number.specs.BitLaws.{mark-flag}
 use Rattle.calendar.specs.declared.Period.{Period}
 use Rattle.clock.specs.On.{workedOn}
 use Rattle.worktime.specs.declared.Walk.{Walk}
@@ -29,7 +30,7 @@ use Rattle.dates.specs.Standing.{Ready}
 use Rattle.dates.specs.StandingLaws.{into-is}
 use Rattle.bounds.specs.ReadyLaws.{activities-are}
 use Rattle.early.specs.InHand.{InHand}
-use Rattle.forward.specs.LinkedLaws.{raiseStep, raised-gathers, raise-turn, raise-stop, mark-flag}
+use Rattle.forward.specs.LinkedLaws.{raiseStep, raised-gathers, raise-turn, raise-stop}
 use lib.Dec.{ltb}
 
 module _ (s : List ℕ) (c : Contents) (t : ℕ) (xs : List ℤ) (i floor : ℕ) where
@@ -92,7 +93,7 @@ module _ (s : List ℕ) (c : Contents) (t : ℕ) (xs : List ℤ) (i floor : ℕ)
       }
 
       pub flag-is : (mark : ℕ) → mark ≡ state .act isSummary i → ltb 0 mark ≡ summary (planOf s c) i
-      flag-is mark e = mark-flag mark (summary (planOf s c) i) (e ∙ R .standing .marks i within)
+      flag-is mark e = mark-flag (summary (planOf s c) i) (e ∙ R .standing .marks i within)
 
 -- the calendar that an activity names
 pub calendar-is : (s : List ℕ) (c : Contents) (i : ℕ) (activity : Activity) (week : List (List Period)) (at n : ℕ) → activity ≡ planOf s c .activity i

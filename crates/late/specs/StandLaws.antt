@@ -1,12 +1,12 @@
 -- What the links' steps read of the memory is what the definitions read of the plan and the dates.
 use mathlib.Core.Path.{_≡_, sym, ap, _∙_}
-use mathlib.Core.Bool.{Bool, true, false}
+use mathlib.Core.Bool.{Bool}
 use mathlib.Core.List.{List}
 use Prim.Native.Nat.{ℕ, _≤_, _<_, min}
 use native.Mathlib.Omega.{arith}
 use lib.Dec.{eqb}
 use lib.IntN.{ℤ}
-use Rattle.number.specs.Bit.{bit}
+use Rattle.number.specs.BitLaws.{mark-is}
 use Rattle.worktime.specs.declared.Walk.the-variants.{At, Refused}
 use Rattle.cells.specs.Chain.{after, gather}
 use Rattle.cells.specs.ChainLaws.{Cursor, cursor-start, cursor-turn, cursor-stop, cursor-end}
@@ -41,11 +41,6 @@ module _ (p : Plan) (d : Early) (l : Late) (i last : ℕ) where
   pub unfinished-placed : (f g : ℕ) → lowered p d l i (tiesOut p i) last ≡ At f → heldLate p d l i f ≡ At g → unfinishedLate p d l i last ≡ placedLate p d l i g
   unfinished-placed f g e h = via-at refused _ _ f e ∙ via-at refused _ _ g h
 
--- ---- a mark of 1
-pub mark-is : (b : Bool) (m : ℕ) → m ≡ bit b → eqb m 1 ≡ b
-mark-is true m e = rw e
-mark-is false m e = rw e
-
 module _ {s : List ℕ} {c : Contents} {places : List ℕ} {t : ℕ} {xs : List ℤ} (R : Ready s c places t xs) where
   abbrev p : Plan
   p = planOf s c
@@ -60,7 +55,7 @@ module _ {s : List ℕ} {c : Contents} {places : List ℕ} {t : ℕ} {xs : List 
   left-at i b = column-at (p .activities) (λ j. 0) workLeft S i (omega (arith, activities-are s c))
 
   pub summary-at : (i m : ℕ) → i < c .activities → m ≡ S .act isSummary i → eqb m 1 ≡ summary p i
-  summary-at i m b e = mark-is (summary p i) m (e ∙ R .standing .marks i (omega (arith, activities-are s c)))
+  summary-at i m b e = mark-is (summary p i) (e ∙ R .standing .marks i (omega (arith, activities-are s c)))
 
   -- ---- a link in hand is the k-th kept one
   module _ (k : ℕ) (l : k < t) (τ : Tie) (e : asTie τ ≡ tieIn S k) where

@@ -2,11 +2,12 @@
 use mathlib.Core.Path.{_≡_, refl, sym, ap, _∙_}
 use mathlib.Core.Bool.{Bool, true, false, not, _&&_}
 use mathlib.Core.Logic.{_≢_}
-use Prim.Native.Nat.{ℕ, _+_, _^_, _<_}
+use Prim.Native.Nat.{ℕ, _+_, _<_}
 use native.Mathlib.Omega.{arith}
 use lib.Dec.{eqb}
 use lib.IntN.{pos}
 use Rattle.number.specs.Bit.{bit}
+use Rattle.number.specs.BitLaws.{mark-none, mark-some}
 use Rattle.memory.specs.State.{State, putAct}
 use Rattle.memory.specs.Fields.{isSummary, earlyFinish, longestPath}
 use Rattle.topology.specs.Frame.{Frame}
@@ -24,14 +25,6 @@ use Rattle.dates.specs.KeptLaws.{early-kept}
 
 -- ---- whether activity i is one of them
 module _ (p : Plan) (S : State) (t : ℕ) (W : Standing p t S) (R : Recorded p S) (finish i : ℕ) (l : i < p .activities) where
-  bit-some : (b : Bool) → bit b ≢ 0 → b ≡ true
-  bit-some true h = refl
-  bit-some false h = absurd (h refl)
-
-  bit-none : (b : Bool) → bit b ≡ 0 → b ≡ false
-  bit-none true h = absurd (omega arith)
-  bit-none false h = refl
-
   last-by : (b c e : Bool) → summary p i ≡ b → isCompleted p (recorded p i) ≡ c → eqb (earlyIn p S .ef i) finish ≡ e
       → lastOnes p (earlyIn p S) finish i ≡ (not b && not c && e)
   unfolding lastOnes
@@ -40,11 +33,11 @@ module _ (p : Plan) (S : State) (t : ℕ) (W : Standing p t S) (R : Recorded p S
   -- by the summary's mark, what is recorded, and the early finish, as they are read
   pub last-summary : (m : ℕ) → m ≡ S .act isSummary i → m ≢ 0 → lastOnes p (earlyIn p S) finish i ≡ false
   last-summary m e h =
-      last-by true (isCompleted p (recorded p i)) (eqb (earlyIn p S .ef i) finish) (bit-some (summary p i) (λ z. h (e ∙ W .marks i l ∙ z))) refl refl
+      last-by true (isCompleted p (recorded p i)) (eqb (earlyIn p S .ef i) finish) (mark-some (summary p i) (e ∙ W .marks i l) h) refl refl
 
   module _ (m : ℕ) (e : m ≡ S .act isSummary i) (none : m ≡ 0) (a : Actual) (f : a ≡ actualIn S i) where
     plain : summary p i ≡ false
-    plain = bit-none (summary p i) (sym (W .marks i l) ∙ sym e ∙ none)
+    plain = mark-none (summary p i) (e ∙ W .marks i l) none
 
     same : isCompleted p (recorded p i) ≡ isCompleted p a
     same = ap (isCompleted p) (sym (f ∙ R i l))
@@ -56,11 +49,6 @@ module _ (p : Plan) (S : State) (t : ℕ) (W : Standing p t S) (R : Recorded p S
     last-finish c v g =
         last-by false false (eqb v finish) plain (same ∙ c)
         (ap (λ (x : ℕ). eqb x finish) (column-at (p .activities) (λ j. origin p) earlyFinish S i l ∙ sym g))
-
--- a mark fits a cell
-pub bit-fits : (b : Bool) → bit b < 2 ^ 63
-bit-fits true = omega arith
-bit-fits false = omega arith
 
 -- ---- the marks of the first n activities are put
 put-own : {A : Type 0} (f : ℕ → A) (i : ℕ) (v : A) → v ≡ f i → put f i v ≡ f

@@ -5,7 +5,6 @@ use Prim.Native.Nat.{ℕ, _-_, _^_, _<_, max}
 use native.Mathlib.Omega.{arith}
 use lib.IntN.{ℤ}
 use Rattle.number.specs.Zed.{up}
-use Rattle.number.specs.Bit.{bit}
 use Rattle.worktime.specs.declared.Walk.the-variants.{At, Refused}
 use Rattle.worktime.specs.declared.Work.{Work}
 use Rattle.worktime.specs.declared.Work.the-variants.{Minutes}
@@ -35,15 +34,6 @@ unstarted-by w Absent Absent e = refl
 unstarted-by w (On d) Absent e = clash (cc)
 unstarted-by w Absent (On f) e = clash (cc)
 unstarted-by w (On d) (On f) e = clash (cc)
-
--- the memory's mark of a summary
-pub mark-set : (b : Bool) (m : ℕ) → m ≡ bit b → (m ≡ 0 → ⊥) → b ≡ true
-mark-set true m e n = refl
-mark-set false m e n = absurd (n e)
-
-pub mark-unset : (b : Bool) (m : ℕ) → m ≡ bit b → m ≡ 0 → b ≡ false
-mark-unset true m e n = absurd (omega arith)
-mark-unset false m e n = refl
 
 module _ (p : Plan) (i : ℕ) where
   -- ---- what is recorded, and the minutes

@@ -3,6 +3,7 @@ use mathlib.Core.Path.{_≡_, refl, ap, _∙_}
 use Prim.Native.Nat.{ℕ, _≤_, _-_}
 use native.Mathlib.Omega.{arith}
 use lib.ListN.{length}
+use Rattle.number.specs.BitLaws.{bit-le}
 use Rattle.memory.specs.State.{stateOf}
 use Rattle.memory.specs.Fields.{longestPath}
 use Rattle.topology.specs.Frame.{Frame}
@@ -13,7 +14,7 @@ use Rattle.dates.specs.Columns.{flags, earlyIn}
 use Rattle.dates.specs.Standing.{Standing, Recorded}
 use Rattle.dates.specs.StandingLaws.{standing-kept}
 use Rattle.dates.specs.KeptLaws.{recorded-kept}
-use Rattle.longest.specs.LastLaws.{bit-fits, marks-none, last-turn, frame-mark}
+use Rattle.longest.specs.LastLaws.{marks-none, last-turn, frame-mark}
 use Rattle.longest.proofs.mark_last.Statement.{statement}
 use Rattle.longest.proofs.mark_last.Tie as tie
 
@@ -42,7 +43,7 @@ flag-requires c κs = tt
 put-act-requires : tie.Need-put-act-requires Inv-loop μ-loop
 put-act-requires c κs =
     let b = c .before .before .before .before .before in
-    (omega (arith, b .before .pre, b .loop .inv .1), c .before .before .before .before .loop-test .taken, omega arith, rw (c .before .flag .ensures) (bit-fits (c .before .before .is-last .result)))
+    (omega (arith, b .before .pre, b .loop .inv .1), c .before .before .before .before .loop-test .taken, omega arith, omega (arith, c .before .flag .ensures, bit-le (c .before .before .is-last .result)))
 
 add-i : tie.Need-add-i Inv-loop μ-loop
 add-i c = omega (arith, c .before .before .before .before .before .before .loop-test .taken)

@@ -9,6 +9,7 @@ use mir.Syntax.{w32}
 use mir.Val.{SFits}
 use Rattle.number.specs.Zed.{up}
 use Rattle.number.specs.Bit.{bit}
+use Rattle.number.specs.BitLaws.{mark-none, mark-some}
 use Rattle.project.specs.declared.Activity.{Activity}
 use Rattle.project.specs.Status.{statusOf}
 use Rattle.placing.specs.declared.Actual.{Actual}
@@ -18,7 +19,7 @@ use Rattle.order.specs.Ids.{summary}
 use Rattle.passes.specs.Plan.{recorded, full}
 use Rattle.worktime.specs.declared.Walk.the-variants.{At}
 use Rattle.placing.specs.PlacingSound.{clash}
-use Rattle.remaining.specs.LeftLaws.{mark-set, mark-unset, recorded-summary, recorded-none, full-summary, full-else, left-unstarted, is-below}
+use Rattle.remaining.specs.LeftLaws.{recorded-summary, recorded-none, full-summary, full-else, left-unstarted, is-below}
 use Rattle.remaining.specs.RowLaws.{row-kept}
 use Rattle.remaining.proofs.record_one.Statement.{statement}
 use Rattle.remaining.proofs.record_one.Tie as tie
@@ -35,10 +36,10 @@ unfolding planOf
 marked c = let S = c .before .before .before .before in c .get-act .ensures .0 ∙ S .pre .0 .standing .marks (S .args .i) (S .pre .1)
 
 is-summary : (c : tie.Then1) → summary (plan (c .before .before .before .before .before)) (c .before .before .before .before .before .args .i) ≡ true
-is-summary c = mark-set _ _ (marked (c .before)) (c .if1 .taken)
+is-summary c = mark-some _ (marked (c .before)) (c .if1 .taken)
 
 no-summary : (c : tie.Else1) → summary (plan (c .before .before .before .before .before)) (c .before .before .before .before .before .args .i) ≡ false
-no-summary c = mark-unset _ _ (marked (c .before)) (c .if1 .left)
+no-summary c = mark-none _ (marked (c .before)) (c .if1 .left)
 
 get-act-requires : tie.Need-get-act-requires
 get-act-requires c κs = let S = c .before .before .before in (S .pre .0 .room, S .pre .1, omega arith)
