@@ -15,7 +15,6 @@ use Rattle.date.specs.Years.{inYears, years-in}
 use Rattle.worktime.specs.declared.Work.{Work}
 use Rattle.worktime.specs.declared.Work.the-variants.{Minutes}
 use Rattle.worktime.specs.Walks.{tooLong, reads, between}
-use Rattle.number.specs.Bit.{bit}
 use Rattle.project.specs.declared.ActivityKind.{ActivityKind}
 use Rattle.project.specs.declared.ActivityKind.the-variants.{Task, StartMilestone, FinishMilestone}
 use Rattle.project.specs.declared.FloatKind.{FloatKind}
@@ -113,10 +112,6 @@ module _ (d : Days) where
 
   pub out-two : inYears (d .ef) ≡ false → false ≡ allInYears d
   out-two a = rw a
-
-pub bit-low : (b : Bool) → bit b < 2 ^ 63
-bit-low true = omega arith
-bit-low false = omega arith
 
 -- ---- the ways of the total float
 module _ (p : Plan) (w : ℕ → Bool) (kind : FloatKind) (a : Actual) (t : Times) where

@@ -1,13 +1,13 @@
 -- What is read off a row after puts, and what the definitions have of the rows.
 use mathlib.Core.Path.{_≡_, refl, sym, ap, _∙_}
-use mathlib.Core.Bool.{Bool, true, false}
+use mathlib.Core.Bool.{Bool, true}
 use mathlib.Core.Logic.{_≢_, ⊎-elim}
 use Prim.Native.Nat.{ℕ, _+_, _≤_, _<_}
 use native.Mathlib.Omega.{arith}
 use borrow.Author.Tests.{eq-eqb, ne-eqb, lt-ltb, le-ltb}
 use lib.Dec.{eqb, ltb}
 use Rattle.number.specs.Order.{eq-or-ne, lt-or-le}
-use Rattle.number.specs.Bit.{bit}
+use Rattle.number.specs.BitLaws.{mark-flag}
 use Rattle.worktime.specs.Reads.{on-true, on-false}
 use Rattle.memory.specs.State.{State}
 use Rattle.memory.specs.Fields.{lateStart, lateFinish, earlyStart, earlyFinish, workLeft, freeFloat, longestPath}
@@ -23,10 +23,6 @@ use Rattle.results.specs.declared.Shown.{Shown}
 use Rattle.results.specs.Results.{nothing}
 use Rattle.results.specs.View.{ranIn, timesOf, timesIn, shownAt, shownTo, shownIn, putShown}
 
-bit-flag : (b : Bool) → ltb 0 (bit b) ≡ b
-bit-flag true = refl
-bit-flag false = refl
-
 -- the row itself and the others
 module _ (S : State) (i : ℕ) (x : Shown) where
   pub shown-here : shownAt (putShown S i x) i ≡ x
@@ -37,8 +33,8 @@ module _ (S : State) (i : ℕ) (x : Shown) where
     lf = x .lf;
     total = x .total;
     free = x .free;
-    critical = bit-flag (x .critical) z;
-    path = bit-flag (x .path) z;
+    critical = mark-flag (x .critical) refl z;
+    path = mark-flag (x .path) refl z;
     finish = x .finish;
     late = x .late;
   })

@@ -1,6 +1,6 @@
 -- A row that is written stands in its place, and the rows are the definition's.
 use mathlib.Core.Path.{_≡_, refl, sym, ap, _∙_}
-use mathlib.Core.Bool.{Bool, true, false}
+use mathlib.Core.Bool.{Bool}
 use mathlib.Core.List.{List, [], _∷_, _++_}
 use Prim.Native.Nat.{ℕ, zero, suc, _+_, _*_, _/_, max, _≤_, _<_}
 use native.Mathlib.Numerals.{add-one}
@@ -10,6 +10,7 @@ use lib.IntN.{ℤ}
 use lib.ListN.{length, take, drop, set, length-append, length-drop}
 use lib.Seq.{sets, sets-eq, length-sets, take-at, drop-append-add, drop-drop}
 use Rattle.number.specs.Bit.{bit}
+use Rattle.number.specs.BitLaws.{mark-flag}
 use Rattle.memory.specs.State.{State, stateOf}
 use Rattle.memory.specs.Fields.{earlyStart, earlyFinish, workLeft}
 use Rattle.sheet.specs.declared.Contents.{Contents}
@@ -111,13 +112,9 @@ module _ (p : Plan) (r : Ran) (S : State) where
   day-more n d l e = rw (add-one n, to-at (p .activities) S n l, e)
 
 -- ---- a row in hand
-bit-flag : (b : Bool) → ltb 0 (bit b) ≡ b
-bit-flag true = refl
-bit-flag false = refl
-
 pub fields-are : (p : Plan) (S : State) (i id dayLength : ℕ) (x : Shown) (b : Bool) (a : Actual) (m left es ef : ℕ)
     → id ≡ idOf p i → dayLength ≡ dayOf p i → x ≡ shownAt S i → b ≡ ltb 0 m → m ≡ bit (summary p i) → a ≡ recorded p i
     → left ≡ S .act workLeft i → es ≡ S .act earlyStart i → ef ≡ S .act earlyFinish i → rowFields id dayLength x b a left es ef ≡ rowIn p S i
 unfolding rowIn
 fields-are p S i id dayLength x b a m left es ef d e f g h j k l n =
-    λ z. rowFields (d z) (e z) (f z) ((g ∙ ap (ltb 0) h ∙ bit-flag (summary p i)) z) (j z) (k z) (l z) (n z)
+    λ z. rowFields (d z) (e z) (f z) ((g ∙ mark-flag (summary p i) h) z) (j z) (k z) (l z) (n z)

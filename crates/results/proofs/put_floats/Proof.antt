@@ -8,9 +8,9 @@ use mir.Facts.{toZ-ofZ}
 use mir.Syntax.{w64}
 use lib.IntN.{ℤ, pos}
 use Rattle.number.specs.Bit.{bit}
+use Rattle.number.specs.BitLaws.{bit-le}
 use Rattle.memory.specs.State.{State, stateOf, putAct, putActZ}
 use Rattle.memory.specs.Fields.{totalFloat, shownFree, isCritical, isLongest}
-use Rattle.results.specs.ShowingLaws.{bit-low}
 use Rattle.results.proofs.put_floats.Statement.{statement}
 use Rattle.results.proofs.put_floats.Tie as tie
 
@@ -24,13 +24,13 @@ number-of-requires : tie.Need-number-of-requires
 number-of-requires c κs = search needs
 
 put-act-requires-2 : tie.Need-put-act-requires-2
-put-act-requires-2 c κs = (omega arith, omega arith, omega arith, omega (arith, c .number-of .ensures, bit-low (c .before .before .before .before .before .before .before .before .before .args .x .critical)))
+put-act-requires-2 c κs = (omega arith, omega arith, omega arith, omega (arith, c .number-of .ensures, bit-le (c .before .before .before .before .before .before .before .before .before .args .x .critical)))
 
 number-of-requires-2 : tie.Need-number-of-requires-2
 number-of-requires-2 c κs = search needs
 
 put-act-requires-3 : tie.Need-put-act-requires-3
-put-act-requires-3 c κs = (omega arith, omega arith, omega arith, omega (arith, c .number-of2 .ensures, bit-low (c .before .before .before .before .before .before .before .before .before .before .before .before .before .args .x .path)))
+put-act-requires-3 c κs = (omega arith, omega arith, omega arith, omega (arith, c .number-of2 .ensures, bit-le (c .before .before .before .before .before .before .before .before .before .before .before .before .before .args .x .path)))
 
 same-length : tie.Need-same-length
 same-length c = search needs

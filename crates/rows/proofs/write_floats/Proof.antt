@@ -8,7 +8,7 @@ use mir.Facts.{toZ-ofZ, toZ-pos}
 use mir.Syntax.{w64}
 use mir.Val.{SFits}
 use lib.IntN.{ℤ, pos}
-use Rattle.results.specs.ShowingLaws.{bit-low}
+use Rattle.number.specs.BitLaws.{bit-le}
 use Rattle.number.specs.Sign.{wholeDays}
 use Rattle.rows.specs.Writing.{storedFrom}
 use Rattle.rows.proofs.write_floats.Statement.{statement}
@@ -27,13 +27,13 @@ number-of-requires : tie.Need-number-of-requires
 number-of-requires c κs = search needs
 
 cast-critical : tie.Need-cast-critical
-cast-critical c = record { sfits = omega (arith, c .number-of .ensures, bit-low (c .before .before .before .before .before .args .x .critical)) }
+cast-critical c = record { sfits = omega (arith, c .number-of .ensures, bit-le (c .before .before .before .before .before .args .x .critical)) }
 
 number-of-requires-2 : tie.Need-number-of-requires-2
 number-of-requires-2 c κs = search needs
 
 cast-path : tie.Need-cast-path
-cast-path c = record { sfits = omega (arith, c .number-of2 .ensures, bit-low (c .before .before .before .before .before .before .args .x .path)) }
+cast-path c = record { sfits = omega (arith, c .number-of2 .ensures, bit-le (c .before .before .before .before .before .before .args .x .path)) }
 
 add-total-days : tie.Need-add-total-days
 add-total-days c = search needs
@@ -105,8 +105,8 @@ returns c =
     ∷ (toZ-ofZ {w = w64} (record { sfits = c .before .before .whole-days2 .ok }) ∙ c .before .before .whole-days2 .ensures ∙ h) z
     ∷ toZ-ofZ f z
     ∷ g z
-    ∷ (toZ-pos w64 (omega (arith, c .before .number-of .ensures, bit-low (x .critical))) ∙ ap pos (c .before .number-of .ensures)) z
-    ∷ (toZ-pos w64 (omega (arith, c .number-of2 .ensures, bit-low (x .path))) ∙ ap pos (c .number-of2 .ensures)) z
+    ∷ (toZ-pos w64 (omega (arith, c .before .number-of .ensures, bit-le (x .critical))) ∙ ap pos (c .before .number-of .ensures)) z
+    ∷ (toZ-pos w64 (omega (arith, c .number-of2 .ensures, bit-le (x .path))) ∙ ap pos (c .number-of2 .ensures)) z
     ∷ []
     )
 
