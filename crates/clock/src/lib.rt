@@ -309,7 +309,8 @@ fn days_work(
                 to: j,
             };
         }
-        let regular = weeks::weekday_work(sums, day);
+        let k = ((day + 1) % 7) as usize;
+        let regular = sums[k + 1] - sums[k];
         let less = if next <= day { regular } else { 0 };
         sum = sum + calendar::exception_work(sheet, at, j) - less;
         next = day + 1;

@@ -6,7 +6,6 @@ ghost use Prim.Native.Nat.{ℕ, _+_, _*_, _/_, _%_, _^_, min, _≤_, _<_};
 ghost use lib.ListN.{length, getD};
 ghost use Rattle.calendar.specs.Hours.{Ordered};
 ghost use Rattle.calendar.specs.Records.{exceptionDay, Valid, FirstFrom};
-ghost use Rattle.date.specs.Days.{weekday};
 ghost use Rattle.date.specs.Years.{firstDay, endDay};
 ghost use Rattle.clock.specs.Regular.{Sums, Rising, regular};
 ghost use Rattle.clock.specs.Jumps.{over, Fits, Passed};
@@ -42,15 +41,6 @@ pub fn regular_work(sums: [u64; 8], d: u64, e: u64) -> u64
 {
     sums[7] * ((e + 1) / 7 - (d + 1) / 7) + sums[((e + 1) % 7) as usize]
         - sums[((d + 1) % 7) as usize]
-}
-
-// The minutes of day `d` by its weekday.
-pub fn weekday_work(sums: [u64; 8], d: u64) -> u64
-    requires { ⌜ Rising sums × (d < 4294967296) ⌝ }
-    ensures { λ r. ⌜ getD sums (weekday d) 0 + r ≡ getD sums (weekday d + 1) 0 ⌝ }
-{
-    let k = ((d + 1) % 7) as usize;
-    sums[k + 1] - sums[k]
 }
 
 // The last day from `i` on, at most `e`, up to which no day has E records; `j` is the first record whose day is `i` or later.

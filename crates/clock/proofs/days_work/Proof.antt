@@ -6,6 +6,8 @@ use native.Mathlib.Omega.{arith}
 use borrow.Author.Needs.{needs}
 use borrow.Author.Count.{below-more}
 use Prim.Native.Nat.{ℕ, _+_, _-_, _*_, _≤_, _<_}
+use lib.ListN.{getD}
+use Rattle.date.specs.Days.{weekday}
 use Rattle.calendar.specs.declared.Period.{Period}
 use Rattle.calendar.specs.Records.{exceptionDay, hoursOn, FirstFrom}
 use Rattle.calendar.specs.DayLaws.{hours-week}
@@ -82,35 +84,57 @@ returns c =
     let s = l .before .before .before .before in
     ended l (λ i h k. omega (arith, c .if1 .taken, c .before .exception-day .ensures .0, s .pre .0 .sorted (l .loop .j) i h k))
 
-weekday-work-requires : tie.Need-weekday-work-requires Inv-loop μ-loop
-weekday-work-requires c κs = (c .before .before .before .before .before .sums-of .ensures .rising, c .before .exception-day .ensures .1)
+add-k : tie.Need-add-k Inv-loop μ-loop
+add-k c = search needs
+
+add-regular : tie.Need-add-regular Inv-loop μ-loop
+add-regular c = search needs
+
+mul-regular : tie.Need-mul-regular Inv-loop μ-loop
+mul-regular c = search needs
+
+array-read-regular : tie.Need-array-read-regular Inv-loop μ-loop
+array-read-regular c = search needs
+
+mul-regular-2 : tie.Need-mul-regular-2 Inv-loop μ-loop
+mul-regular-2 c = search needs
+
+array-read-regular-2 : tie.Need-array-read-regular-2 Inv-loop μ-loop
+array-read-regular-2 c = search needs
+
+-- the sums rise from weekday k on to the next
+rises : (c : tie.In-loop Inv-loop μ-loop) (k : ℕ) → k < 7 → getD (c .before .before .before .sums-of .result) k 0 ≤ getD (c .before .before .before .sums-of .result) (k + 1) 0
+rises c k l = c .before .before .before .sums-of .ensures .rising .0 k (k + 1) (omega arith) (omega arith)
+
+sub-regular : tie.Need-sub-regular Inv-loop μ-loop
+sub-regular c = rises (c .before .before) (weekday (c .before .exception-day .result)) (omega arith)
 
 exception-work-requires : tie.Need-exception-work-requires Inv-loop μ-loop
-exception-work-requires c κs = exception-day-requires (c .before .before .before .before) κs
+exception-work-requires c κs = exception-day-requires (c .before .before .before) κs
 
 -- record j comes from day d on, before day e
 within : (c : tie.After-exception-work Inv-loop μ-loop) →
-    let a = c .before .before .before .before .before .before .before .before .before .before .args in
-    let x = c .before .before .before .before .exception-day .result in
+    let a = c .before .before .before .before .before .before .before .before .before .args in
+    let x = c .before .before .before .exception-day .result in
     (a .d ≤ x) × (x < a .e)
 within c =
-    let l = c .before .before .before .before .before .before in
+    let l = c .before .before .before .before .before in
     let p = l .before .before .before .before .pre in
-    (omega (arith, p .3 .above (l .loop .j) (l .loop .inv .0) (omega arith), c .before .before .before .before .exception-day .ensures .0), omega (arith, c .before .before .before .if1 .left))
+    (omega (arith, p .3 .above (l .loop .j) (l .loop .inv .0) (omega arith), c .before .before .before .exception-day .ensures .0), omega (arith, c .before .before .if1 .left))
 
 -- one record more: its day's minutes by the weekday are taken out with the first of its records
 stepped : (c : tie.After-exception-work Inv-loop μ-loop) →
-    let l = c .before .before .before .before .before .before in
+    let l = c .before .before .before .before .before in
     let a = l .before .before .before .before .args in
     (week : List (List Period)) → Sums week (l .before .before .sums-of .result)
     → daysWork (hoursOn week (a .sheet .now) (a .at) (l .loop .j + 1)) (a .d) (a .e - a .d) + c .before .if2 .less ≡ l .loop .sum + c .exception-work .result
 stepped c week sums =
-    let l = c .before .before .before .before .before .before in
+    let l = c .before .before .before .before .before in
     let s = l .before .before .before .before in
     let a = s .args in
     let i = l .loop .inv in
     let j = l .loop .j in
-    let day = c .before .before .before .before .exception-day in
+    let day = c .before .before .before .exception-day in
     let x = day .result in
     let r = within c in
     let is : exceptionDay (a .sheet .now) (a .at) j ≡ x = sym (day .ensures .0) in
@@ -120,9 +144,8 @@ stepped c week sums =
     let none = none-first week (a .sheet .now) (a .at) x j (λ y h z. omega (arith, i .5 y h, w .0 .taken)) in
     omega (
       arith,
-      w .1,
       i .4 week sums,
-      first-own week (a .sheet .now) (a .at) j x is _ (c .exception-work .ensures .0) (a .d) (a .e - a .d) (r .0) k sums none _ (c .before .before .weekday-work .ensures),
+      first-own week (a .sheet .now) (a .at) j x is _ (c .exception-work .ensures .0) (a .d) (a .e - a .d) (r .0) k sums none (c .before .if2 .less) (omega (arith, w .1, rises (c .before .before .before .before) (weekday x) (omega arith))),
     ))
     (λ w.
     let some = ⊎-elim (λ v. absurd (omega (arith, v, r, w .0 .left)))
@@ -132,7 +155,7 @@ stepped c week sums =
 
 add-sum : tie.Need-add-sum Inv-loop μ-loop
 add-sum c =
-    let l = c .before .before .before .before .before .before in
+    let l = c .before .before .before .before .before in
     let s = l .before .before .before .before in
     let a = s .args in
     omega (
@@ -146,11 +169,11 @@ add-sum c =
 
 sub-sum : tie.Need-sub-sum Inv-loop μ-loop
 sub-sum c =
-    let l = c .before .before .before .before .before .before .before in
+    let l = c .before .before .before .before .before .before in
     omega (arith, stepped (c .before) (l .before .before .before .before .args .week) (l .before .before .sums-of .ensures))
 
 add-next : tie.Need-add-next Inv-loop μ-loop
-add-next c = omega (arith, c .before .before .before .before .before .exception-day .ensures .1)
+add-next c = omega (arith, c .before .before .before .before .exception-day .ensures .1)
 
 add-j : tie.Need-add-j Inv-loop μ-loop
 add-j c = search needs
@@ -160,10 +183,10 @@ loop-less c = search needs
 
 loop-again : tie.Need-loop-again Inv-loop μ-loop
 loop-again c =
-    let l = c .before .before .before .before .before .before .before in
+    let l = c .before .before .before .before .before .before in
     let i = l .loop .inv in
     let r = within (c .before) in
-    let day = c .before .before .before .before .before .exception-day .ensures .0 in
+    let day = c .before .before .before .before .exception-day .ensures .0 in
     let sorted = l .before .before .before .before .pre .0 .sorted in
     let same : l .loop .j + 1 - 1 ≡ l .loop .j = omega arith in (
       omega (arith, i .0),
@@ -189,7 +212,13 @@ days-work-spec =
     loop-holds
     exception-day-requires
     returns
-    weekday-work-requires
+    add-k
+    add-regular
+    mul-regular
+    array-read-regular
+    mul-regular-2
+    array-read-regular-2
+    sub-regular
     exception-work-requires
     add-sum
     sub-sum
