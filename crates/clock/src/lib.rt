@@ -311,9 +311,9 @@ fn days_work(
         }
         let k = ((day + 1) % 7) as usize;
         let regular = sums[k + 1] - sums[k];
-        // The first record of a day takes out what the sum has of it by its weekday.
-        let less = if next <= day { regular } else { 0 };
-        sum = sum + calendar::exception_work(sheet, at, j) - less;
+        // The first record of a day takes out what the sum has of it by its weekday; for a further one that stays out.
+        let out = if next <= day { 0 } else { regular };
+        sum = sum + calendar::exception_work(sheet, at, j) + out - regular;
         next = day + 1;
         j += 1;
     }

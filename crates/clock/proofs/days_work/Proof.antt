@@ -122,12 +122,17 @@ within c =
     let p = l .before .before .before .before .pre in
     (omega (arith, p .3 .above (l .loop .j) (l .loop .inv .0) (omega arith), c .before .before .before .exception-day .ensures .0), omega (arith, c .before .before .if1 .left))
 
+-- what day x has by its weekday
+abbrev regularOf : List ℕ → ℕ → ℕ
+regularOf ss x = getD ss (weekday x + 1) 0 - getD ss (weekday x) 0
+
 -- one record more: its day's minutes by the weekday are taken out with the first of its records
 stepped : (c : tie.After-exception-work Inv-loop μ-loop) →
     let l = c .before .before .before .before .before in
     let a = l .before .before .before .before .args in
+    let x = c .before .before .before .exception-day .result in
     (week : List (List Period)) → Sums week (l .before .before .sums-of .result)
-    → daysWork (hoursOn week (a .sheet .now) (a .at) (l .loop .j + 1)) (a .d) (a .e - a .d) + c .before .if2 .less ≡ l .loop .sum + c .exception-work .result
+    → daysWork (hoursOn week (a .sheet .now) (a .at) (l .loop .j + 1)) (a .d) (a .e - a .d) + regularOf (l .before .before .sums-of .result) x ≡ l .loop .sum + c .exception-work .result + c .before .if2 .out
 stepped c week sums =
     let l = c .before .before .before .before .before in
     let s = l .before .before .before .before in
@@ -145,7 +150,8 @@ stepped c week sums =
     omega (
       arith,
       i .4 week sums,
-      first-own week (a .sheet .now) (a .at) j x is _ (c .exception-work .ensures .0) (a .d) (a .e - a .d) (r .0) k sums none (c .before .if2 .less) (omega (arith, w .1, rises (c .before .before .before .before) (weekday x) (omega arith))),
+      first-own week (a .sheet .now) (a .at) j x is _ (c .exception-work .ensures .0) (a .d) (a .e - a .d) (r .0) k sums none (regularOf (l .before .before .sums-of .result) x) (omega (arith, rises (c .before .before .before .before) (weekday x) (omega arith))),
+      w .1,
     ))
     (λ w.
     let some = ⊎-elim (λ v. absurd (omega (arith, v, r, w .0 .left)))
@@ -153,8 +159,9 @@ stepped c week sums =
     omega (arith, w .1, i .4 week sums, further-own week (a .sheet .now) (a .at) j x is _ (c .exception-work .ensures .0) (a .d) (a .e - a .d) (r .0) k some))
     (c .before .if2 .came)
 
-add-sum : tie.Need-add-sum Inv-loop μ-loop
-add-sum c =
+-- the sum stays small
+small : (c : tie.After-exception-work Inv-loop μ-loop) → c .before .before .before .before .before .loop .sum + c .exception-work .result ≤ 6184752907680
+small c =
     let l = c .before .before .before .before .before in
     let s = l .before .before .before .before in
     let a = s .args in
@@ -166,6 +173,16 @@ add-sum c =
       days-small (hoursOn (a .week) (a .sheet .now) (a .at) (l .loop .j)) (a .d) (part-small (a .week) (a .sheet .now) (a .at) (s .pre .0) (l .loop .j) (l .loop .inv .1)) (a .e - a .d),
       c .exception-work .ensures .1,
     )
+
+add-sum : tie.Need-add-sum Inv-loop μ-loop
+add-sum c = omega (arith, small c)
+
+add-sum-2 : tie.Need-add-sum-2 Inv-loop μ-loop
+add-sum-2 c =
+    let x = c .before .before .before .before .exception-day .result in
+    let u = c .before .before .before .before .before .before .before .before .sums-of .ensures .rising in
+    ⊎-elim (λ w. omega (arith, w .1, small (c .before)))
+    (λ w. omega (arith, w .1, small (c .before), u .0 (weekday x + 1) 7 (omega arith) (omega arith), u .1)) (c .before .before .if2 .came)
 
 sub-sum : tie.Need-sub-sum Inv-loop μ-loop
 sub-sum c =
@@ -221,6 +238,7 @@ days-work-spec =
     sub-regular
     exception-work-requires
     add-sum
+    add-sum-2
     sub-sum
     add-next
     add-j
