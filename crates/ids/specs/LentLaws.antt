@@ -1,43 +1,39 @@
 -- What is kept of the memory where fields of activities are put.
-use mathlib.Core.Path.{refl, _∙_}
+use mathlib.Core.Path.{_≡_, refl, subst, sym, _∙_}
 use Prim.Native.Nat.{ℕ}
 use lib.IntN.{pos}
 use Rattle.memory.specs.State.{State, putAct, fillAct}
 use Rattle.memory.specs.StateLaws.{act-field, actZ-field, fill-act-field, fill-actZ-field}
 use Rattle.ids.specs.Lent.{KeptBut}
 
-module _ (f g : ℕ) where
-  pub kept-refl : (S : State) → KeptBut f g S S
-  kept-refl S = record { acts = λ h m n. refl; actsZ = λ h m n. refl; links = refl; linksZ = refl }
+module _ (F : ℕ → Type 0) where
+  pub kept-refl : (S : State) → KeptBut F S S
+  kept-refl S = record { acts = λ h n. refl; actsZ = λ h n. refl; links = refl; linksZ = refl }
 
-  pub kept-then : {S T U : State} → KeptBut f g S T → KeptBut f g T U → KeptBut f g S U
+  pub kept-then : {S T U : State} → KeptBut F S T → KeptBut F T U → KeptBut F S U
   kept-then p q = record {
-    acts = λ h m n. q .acts h m n ∙ p .acts h m n;
-    actsZ = λ h m n. q .actsZ h m n ∙ p .actsZ h m n;
+    acts = λ h n. q .acts h n ∙ p .acts h n;
+    actsZ = λ h n. q .actsZ h n ∙ p .actsZ h n;
     links = q .links ∙ p .links;
     linksZ = q .linksZ ∙ p .linksZ;
   }
 
-  pub kept-first : (S : State) (i v : ℕ) → KeptBut f g S (putAct S f i v)
-  kept-first S i v = record {
-    acts = λ h m n. act-field S f i (pos v) h m;
-    actsZ = λ h m n. actZ-field S f i (pos v) h m;
-    links = refl;
-    linksZ = refl;
-  }
+  module _ (f : ℕ) (is : F f) where
+    other : (h : ℕ) → (F h → ⊥) → h ≡ f → ⊥
+    other h n e = n (subst F (sym e) is)
 
-  pub kept-second : (S : State) (i v : ℕ) → KeptBut f g S (putAct S g i v)
-  kept-second S i v = record {
-    acts = λ h m n. act-field S g i (pos v) h n;
-    actsZ = λ h m n. actZ-field S g i (pos v) h n;
-    links = refl;
-    linksZ = refl;
-  }
+    pub kept-put : (S : State) (i v : ℕ) → KeptBut F S (putAct S f i v)
+    kept-put S i v = record {
+      acts = λ h n. act-field S f i (pos v) h (other h n);
+      actsZ = λ h n. actZ-field S f i (pos v) h (other h n);
+      links = refl;
+      linksZ = refl;
+    }
 
-  pub kept-fill-second : (S : State) (a v : ℕ) → KeptBut f g S (fillAct S g a v)
-  kept-fill-second S a v = record {
-    acts = λ h m n. fill-act-field S g v a h n;
-    actsZ = λ h m n. fill-actZ-field S g v a h n;
-    links = refl;
-    linksZ = refl;
-  }
+    pub kept-fill : (S : State) (a v : ℕ) → KeptBut F S (fillAct S f a v)
+    kept-fill S a v = record {
+      acts = λ h n. fill-act-field S f v a h (other h n);
+      actsZ = λ h n. fill-actZ-field S f v a h (other h n);
+      links = refl;
+      linksZ = refl;
+    }

@@ -1,7 +1,7 @@
 -- Parents in the memory: none, and one activity more, with none, an unknown or a known parent.
-use mathlib.Core.Path.{_≡_, sym, ap, subst, _∙_}
+use mathlib.Core.Path.{_≡_, refl, sym, ap, subst, _∙_}
 use mathlib.Core.Bool.{true}
-use mathlib.Core.Logic.{⊎-elim, _≢_}
+use mathlib.Core.Logic.{inl, inr, ⊎-elim, _≢_}
 use Prim.Native.Nat.{ℕ, suc, _+_, _<_}
 use native.Mathlib.Omega.{arith}
 use native.Mathlib.Numerals.{add-one}
@@ -9,28 +9,30 @@ use lib.IntN.{pos}
 use Rattle.number.specs.Order.{eq-or-ne}
 use Rattle.memory.specs.State.{State, putAct, fillAct}
 use Rattle.memory.specs.StateLaws.{act-same, act-row, fill-act}
-use Rattle.memory.specs.Fields.{parent, isSummary}
+use Rattle.memory.specs.Fields.{parent, isSummary, root}
 use Rattle.order.specs.Plan.{Plan}
 use Rattle.order.specs.Ids.{idOf, known, indexOf, parentOf}
 use Rattle.order.specs.IdLaws.{DistinctIds}
 use Rattle.order.specs.Checks.{refuse, fine, judgeParent}
 use Rattle.order.specs.CheckLaws.{parent-none, parent-unknown, parent-passes}
 use Rattle.order.specs.ParentLaws.{parent-of-none, parent-of-some, among-none, among-child, among-other}
-use Rattle.ids.specs.TreeLaws.{tree-same}
+use Rattle.ids.specs.TreeLaws.{trees-same}
 use Rattle.ids.specs.Index.{Indexed, foundIn}
 use Rattle.ids.specs.IndexLaws.{found-known, found-unknown, found-index}
 use Rattle.ids.specs.Lent.{KeptBut}
-use Rattle.ids.specs.LentLaws.{kept-then, kept-first, kept-second, kept-fill-second}
+use Rattle.ids.specs.Answers.{OfParents}
+use Rattle.ids.specs.LentLaws.{kept-then, kept-put, kept-fill}
 use Rattle.number.specs.Bit.{bit}
 use Rattle.ids.specs.Parented.{Parented}
 
 module _ (p : Plan) where
   -- the index stays
-  pub indexed-kept : {S T : State} {n : ℕ} → KeptBut parent isSummary S T → Indexed p S n → Indexed p T n
+  pub indexed-kept : {S T : State} {n : ℕ} → KeptBut OfParents S T → Indexed p S n → Indexed p T n
   indexed-kept {S} {T} {n} K I = record {
-    tree =
-        tree-same (idOf p) (I .tree) (T .act)
-        (λ b j c l. ap (λ (r : ℕ → ℕ). r j) (K .acts b (λ e. omega arith) (λ e. omega arith)));
+    trees =
+        trees-same (idOf p) (p .activities) (I .trees) (T .act)
+        (λ b j c l. ap (λ (r : ℕ → ℕ). r j) (K .acts b (λ e. ⊎-elim (λ (z : b ≡ parent). omega arith) (λ (z : b ≡ isSummary). omega arith) e)))
+        (λ r. ap (λ (q : ℕ → ℕ). q r) (K .acts root (λ e. ⊎-elim (λ (z : root ≡ parent). omega arith) (λ (z : root ≡ isSummary). omega arith) e)));
     fresh = I .fresh;
   }
 
@@ -44,8 +46,8 @@ module _ (p : Plan) where
           marks = λ j l. fill-act S isSummary 0 (p .activities) j l ∙ ap bit (sym (among-none p j));
         })
 
-    pub unmarked-kept : KeptBut parent isSummary S T
-    unmarked-kept = subst (KeptBut parent isSummary S) (sym e) (kept-fill-second parent isSummary S (p .activities) 0)
+    pub unmarked-kept : KeptBut OfParents S T
+    unmarked-kept = subst (KeptBut OfParents S) (sym e) (kept-fill OfParents isSummary (inr refl) S (p .activities) 0)
 
   -- ---- one activity more
   module _ (S : State) (i : ℕ) (P : Parented p S i) (id : ℕ) (d : id ≡ p .activity i .parent) where
@@ -54,8 +56,8 @@ module _ (p : Plan) where
       top-fine = sym (parent-none p i (sym d ∙ z))
 
       module _ (T : State) (e : T ≡ putAct S parent i 0) where
-        pub top-kept : KeptBut parent isSummary S T
-        top-kept = subst (KeptBut parent isSummary S) (sym e) (kept-first parent isSummary S i 0)
+        pub top-kept : KeptBut OfParents S T
+        top-kept = subst (KeptBut OfParents S) (sym e) (kept-put OfParents parent (inl refl) S i 0)
 
         pub top-parented : Parented p T (i + 1)
         top-parented =
@@ -92,10 +94,10 @@ module _ (p : Plan) where
             both : U ≡ putAct (putAct S parent i (j + 1)) isSummary j 1
             both = u ∙ ap (λ (W : State). putAct W isSummary j 1) t
 
-            pub known-kept : KeptBut parent isSummary S U
+            pub known-kept : KeptBut OfParents S U
             known-kept =
-                subst (KeptBut parent isSummary S) (sym both)
-                (kept-then parent isSummary (kept-first parent isSummary S i (j + 1)) (kept-second parent isSummary (putAct S parent i (j + 1)) j 1))
+                subst (KeptBut OfParents S) (sym both)
+                (kept-then OfParents (kept-put OfParents parent (inl refl) S i (j + 1)) (kept-put OfParents isSummary (inr refl) (putAct S parent i (j + 1)) j 1))
 
             pub known-parented : Parented p U (i + 1)
             known-parented =

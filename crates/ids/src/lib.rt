@@ -8,15 +8,14 @@ ghost use Rattle.order.specs.Plan.{planOf};
 ghost use Rattle.order.specs.IdLaws.{DistinctIds};
 ghost use Rattle.order.specs.Checks.{firstOf, judgeActivity, judgeParent, judgeSummary};
 ghost use Rattle.order.specs.FineLaws.{ParentsKnown};
-ghost use Rattle.order.specs.Ids.{idOf, summary};
+ghost use Rattle.order.specs.Ids.{summary};
 ghost use Rattle.network.specs.Parents.{loopSteps};
 ghost use Rattle.project.specs.Status.{isMilestone};
 ghost use Rattle.memory.specs.State.{Room, stateOf};
-ghost use Rattle.memory.specs.Fields.{lowChild, highChild, parent};
-ghost use Rattle.ids.specs.Tree.{Tree, Vacant};
-ghost use Rattle.ids.specs.Index.{Indexed, foundIn};
+ghost use Rattle.memory.specs.Fields.{parent};
+ghost use Rattle.ids.specs.Index.{InTrees, PlaceFor, Indexed, foundIn};
 ghost use Rattle.ids.specs.Lent.{Lent, KeptBut, stateIn};
-ghost use Rattle.ids.specs.Answers.{Answered, IndexedBy, ParentedBy};
+ghost use Rattle.ids.specs.Answers.{Answered, OfIndex, IndexedBy, ParentedBy};
 ghost use Rattle.ids.specs.Parented.{Parented};
 ghost use Rattle.ids.specs.Summaries.{SummaryAnswered};
 
@@ -36,7 +35,7 @@ pub enum SummaryCheck {
 }
 
 // The last of the first `n` activities that has the id, or the number of activities where none has.
-// The way down takes a bit of the id at each activity that it meets, and ids are distinct and have 32 bits: no sheet makes it meet more than 33.
+// The way down takes a bit of the id's quotient at each activity that it meets. Ids have 32 bits, and distinct ids of one tree have distinct quotients: no sheet makes it meet more than 33.
 pub fn find(sheet: &[u8], contents: Contents, work: &[i64], n: usize, id: u64) -> usize
     requires { ⌜ Lent (now sheet) contents (now work) × (n ≤ contents .activities) × Indexed (planOf (now sheet) contents) (stateIn contents (now work)) n ⌝ }
     ensures { λ r. ⌜ (r ≡ foundIn (planOf (now (sheet .entry)) contents) n id) × (r ≤ contents .activities) ⌝ }
@@ -46,8 +45,12 @@ pub fn find(sheet: &[u8], contents: Contents, work: &[i64], n: usize, id: u64) -
         return a;
     }
     let l = contents.links;
-    let mut j: usize = 0;
-    let mut rest = id;
+    let first = memory::get_act(work, a, l, id as usize % a, memory::fields::ROOT) as usize;
+    if first == 0 {
+        return a;
+    }
+    let mut j = first - 1;
+    let mut rest = id / a as u64;
     loop {
         if fields::id_of(sheet, contents, j) == id {
             return j;
@@ -83,21 +86,30 @@ fn judge_activity(sheet: &[u8], contents: Contents, work: &[i64], i: usize) -> C
     Check::Fine
 }
 
-// The child that an activity is to be: its parent, and the field of the parent's row.
+// Where an activity comes in: as a child, at its parent's row, or as the root of a tree, at the tree's row; and the field of that row.
 struct Vacancy {
     parent: usize,
     side: usize,
 }
 
-// Where activity `i` comes into the tree of those before it.
+// Where activity `i` comes into the trees of those before it.
 fn vacancy_for(sheet: &[u8], contents: Contents, work: &[i64], i: usize) -> Vacancy
-    requires { ⌜ Lent (now sheet) contents (now work) × (0 < i) × (i < contents .activities) × Tree (idOf (planOf (now sheet) contents)) (stateIn contents (now work) .act) i ⌝ }
-    ensures { λ r. ⌜ Vacant (idOf (planOf (now (sheet .entry)) contents)) (stateIn contents (now (work .entry)) .act) i (r .parent) (r .side) ⌝ }
+    requires { ⌜ Lent (now sheet) contents (now work) × (i < contents .activities) × InTrees (planOf (now sheet) contents) (stateIn contents (now work)) i ⌝ }
+    ensures { λ r. ⌜ PlaceFor (planOf (now (sheet .entry)) contents) (stateIn contents (now (work .entry))) i (r .parent) (r .side) ⌝ }
 {
     let a = contents.activities;
     let l = contents.links;
-    let mut j: usize = 0;
-    let mut rest = fields::id_of(sheet, contents, i);
+    let id = fields::id_of(sheet, contents, i);
+    let tree = id as usize % a;
+    let first = memory::get_act(work, a, l, tree, memory::fields::ROOT) as usize;
+    if first == 0 {
+        return Vacancy {
+            parent: tree,
+            side: memory::fields::ROOT,
+        };
+    }
+    let mut j = first - 1;
+    let mut rest = id / a as u64;
     loop {
         let side = rest as usize % 2;
         let k = memory::get_act(work, a, l, j, side) as usize;
@@ -112,18 +124,15 @@ fn vacancy_for(sheet: &[u8], contents: Contents, work: &[i64], i: usize) -> Vaca
     }
 }
 
-// Puts activity `i` into the tree of those before it.
+// Puts activity `i` into the trees of those before it.
 fn insert(sheet: &[u8], contents: Contents, work: &mut [i64], i: usize)
-    requires { ⌜ Lent (now sheet) contents (now work) × (i < contents .activities) × Tree (idOf (planOf (now sheet) contents)) (stateIn contents (now work) .act) i ⌝ }
-    ensures { λ _. ⌜ Tree (idOf (planOf (now (sheet .entry)) contents)) (stateIn contents (now (work .exit)) .act) (i + 1) × KeptBut lowChild highChild (stateIn contents (now (work .entry))) (stateIn contents (now (work .exit))) × (length (now (work .exit)) ≡ length (now (work .entry))) ⌝ }
+    requires { ⌜ Lent (now sheet) contents (now work) × (i < contents .activities) × InTrees (planOf (now sheet) contents) (stateIn contents (now work)) i ⌝ }
+    ensures { λ _. ⌜ InTrees (planOf (now (sheet .entry)) contents) (stateIn contents (now (work .exit))) (i + 1) × KeptBut OfIndex (stateIn contents (now (work .entry))) (stateIn contents (now (work .exit))) × (length (now (work .exit)) ≡ length (now (work .entry))) ⌝ }
 {
     let a = contents.activities;
     let l = contents.links;
     memory::put_act(work, a, l, i, memory::fields::LOW_CHILD, 0);
     memory::put_act(work, a, l, i, memory::fields::HIGH_CHILD, 0);
-    if i == 0 {
-        return;
-    }
     let vacancy = vacancy_for(sheet, contents, work, i);
     memory::put_act(work, a, l, vacancy.parent, vacancy.side, i as u64 + 1);
 }
@@ -145,9 +154,9 @@ fn index_one(sheet: &[u8], contents: Contents, work: &mut [i64], i: usize) -> Ch
     }
 }
 
-// Rows 6 to 9 for all activities: where they are fine, the memory has the index of their ids.
-pub fn index_all(sheet: &[u8], contents: Contents, work: &mut [i64]) -> Check
-    requires { ⌜ Lent (now sheet) contents (now work) ⌝ }
+// Rows 6 to 9 for all activities, where none is in the index yet.
+fn index_activities(sheet: &[u8], contents: Contents, work: &mut [i64]) -> Check
+    requires { ⌜ Lent (now sheet) contents (now work) × Indexed (planOf (now sheet) contents) (stateIn contents (now work)) 0 ⌝ }
     ensures { λ r. ⌜ Answered r (firstOf (judgeActivity (planOf (now (sheet .entry)) contents)) (contents .activities) 0) × IndexedBy (planOf (now (sheet .entry)) contents) (contents .activities) (stateIn contents (now (work .entry))) (stateIn contents (now (work .exit))) r × (length (now (work .exit)) ≡ length (now (work .entry))) ⌝ }
 {
     let a = contents.activities;
@@ -163,6 +172,21 @@ pub fn index_all(sheet: &[u8], contents: Contents, work: &mut [i64]) -> Check
         i += 1;
     }
     Check::Fine
+}
+
+// Rows 6 to 9 for all activities: where they are fine, the memory has the index of their ids.
+pub fn index_all(sheet: &[u8], contents: Contents, work: &mut [i64]) -> Check
+    requires { ⌜ Lent (now sheet) contents (now work) ⌝ }
+    ensures { λ r. ⌜ Answered r (firstOf (judgeActivity (planOf (now (sheet .entry)) contents)) (contents .activities) 0) × IndexedBy (planOf (now (sheet .entry)) contents) (contents .activities) (stateIn contents (now (work .entry))) (stateIn contents (now (work .exit))) r × (length (now (work .exit)) ≡ length (now (work .entry))) ⌝ }
+{
+    memory::fill_act(
+        work,
+        contents.activities,
+        contents.links,
+        memory::fields::ROOT,
+        0,
+    );
+    index_activities(sheet, contents, work)
 }
 
 // Row 10 for activity `i`: its parent is looked for, kept, and marked as a summary.

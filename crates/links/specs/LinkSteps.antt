@@ -33,7 +33,7 @@ acts-then p q = record { acts = q .acts ∙ p .acts; actsZ = q .actsZ ∙ p .act
 
 module _ (p : Plan) {S T : State} (K : ActsKept S T) (n : ℕ) where
   pub indexed-kept : Indexed p S n → Indexed p T n
-  indexed-kept I = record { tree = rw (K .acts) (I .tree); fresh = I .fresh }
+  indexed-kept I = record { trees = rw (K .acts) (I .trees); fresh = I .fresh }
 
   pub parented-kept : Parented p S n → Parented p T n
   parented-kept P = record { parents = rw (K .acts) (P .parents); marks = rw (K .acts) (P .marks) }

@@ -2,7 +2,7 @@
 use Prim.Native.Nat.{ℕ}
 
 -- ---- activities
--- the tree of ids: the activity's two children, by the next bit of an id; 0 for none, and else one more than the child
+-- the trees of ids: the activity's two children, by the next bit of an id; 0 for none, and else one more than the child
 abbrev pub lowChild : ℕ
 lowChild = 0
 
@@ -122,6 +122,10 @@ firstChild = 33
 
 abbrev pub nextChild : ℕ
 nextChild = 34
+
+-- the root of the tree of ids with this row's number; 0 for none, and else one more than the root
+abbrev pub root : ℕ
+root = 35
 
 -- ---- kept links
 abbrev pub fromField : ℕ

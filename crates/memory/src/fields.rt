@@ -71,6 +71,8 @@ pub const FIRST_CHILD: usize = 33;
 
 pub const NEXT_CHILD: usize = 34;
 
+pub const ROOT: usize = 35;
+
 // ---- kept links
 pub const FROM: usize = 0;
 

@@ -1,101 +1,41 @@
--- `ids::index_all` meets its contract: activities before i are fine and in the index.
+-- `ids::index_all` meets its contract.
 use borrow.Author.Needs.{needs}
-use mathlib.Core.Path.{_≡_, refl}
-use Prim.Native.Nat.{_-_}
 use native.Mathlib.Omega.{arith}
-use lib.ListN.{length}
+use Rattle.memory.specs.State.{State}
 use Rattle.order.specs.Plan.{planOf}
-use Rattle.order.specs.Checks.{judgeActivity}
-use Rattle.memory.specs.Fields.{lowChild, highChild}
 use Rattle.ids.specs.Index.{Indexed}
 use Rattle.ids.specs.Lent.{stateIn}
-use Rattle.ids.specs.IndexSteps.{index-none}
-use Rattle.ids.specs.PassSteps.{Passing, passing-start, passing-turn, passing-stop, passing-end}
+use Rattle.ids.specs.Answers.{OfIndex}
+use Rattle.ids.specs.IndexSteps.{index-none, none-kept}
+use Rattle.ids.specs.PassSteps.{passed-from}
 use Rattle.ids.proofs.index_all.Statement.{statement}
 use Rattle.ids.proofs.index_all.Tie as tie
 
-abbrev Inv-loop : tie.InvT-loop
-Inv-loop sheet contents work₀ a i₀ work i = (length work ≡ length work₀) × Passing lowChild highChild (Indexed (planOf sheet contents)) (judgeActivity (planOf sheet contents)) (contents .activities) (stateIn contents work₀) (stateIn contents work) i
+fill-act-requires : tie.Need-fill-act-requires
+fill-act-requires c κs = search needs
 
-abbrev μ-loop : tie.MeasureT-loop
-μ-loop sheet contents work₀ a i₀ work i = a - i
-
-loop-holds : tie.Need-loop-holds Inv-loop μ-loop
-loop-holds c =
-    let x = c .before .args in
-    let p = planOf (x .sheet .now) (x .contents) in
-    let S = stateIn (x .contents) (x .work .now) in
-    (refl, passing-start lowChild highChild (Indexed p) (judgeActivity p) (x .contents .activities) S (index-none p S))
-
-index-one-requires : tie.Need-index-one-requires Inv-loop μ-loop
-index-one-requires c κs = (record { read = c .before .before .before .before .pre .read; room = omega arith }, omega arith, c .before .before .loop .inv .1 .holds)
-
-enum-known-check : tie.Need-enum-known-check Inv-loop μ-loop
-enum-known-check c = search needs
-
-same-length : tie.Need-same-length Inv-loop μ-loop
-same-length c = search needs
-
-returns : tie.Need-returns Inv-loop μ-loop
-returns c =
-    let x = c .before .before .before .before .before .before .before .before .before .args in
-    let p = planOf (x .sheet .now) (x .contents) in
-    let S = stateIn (x .contents) (x .work .now) in
-    let L = c .before .before .before .before .before .before .before .loop in
-    let g = c .before .check .given in
-    let o = c .before .before .before .before .index-one in
-    let a =
-    passing-stop lowChild highChild (Indexed p) (judgeActivity p) (x .contents .activities) S (stateIn (x .contents) (L .work)) (L .i) (L .inv .1)
-    (omega arith) _ _ (o .ensures .0) (o .ensures .1) (g .0 .0) (g .0 .1 .0) (g .1) in
-    (a .0, a .1, omega arith)
-
-enum-told : tie.Need-enum-told Inv-loop μ-loop
-enum-told c = search needs
-
-add-i : tie.Need-add-i Inv-loop μ-loop
-add-i c = search needs
-
-loop-less : tie.Need-loop-less Inv-loop μ-loop
-loop-less c = omega arith
-
-loop-again : tie.Need-loop-again Inv-loop μ-loop
-loop-again c =
-    let x = c .before .before .before .before .before .before .before .before .args in
-    let p = planOf (x .sheet .now) (x .contents) in
-    let S = stateIn (x .contents) (x .work .now) in
-    let L = c .before .before .before .before .before .before .loop in
-    let o = c .before .before .before .index-one in (
-      omega arith,
-      passing-turn lowChild highChild (Indexed p) (judgeActivity p) (x .contents .activities) S (stateIn (x .contents) (L .work)) (L .i) (L .inv .1)
-          (omega arith) _ _ (o .ensures .0) (o .ensures .1) (c .enum-told .given .1),
+index-activities-requires : tie.Need-index-activities-requires
+index-activities-requires c κs =
+    let x = c .before .before .before .before .before .args in
+    let S = stateIn (x .contents) (x .work .now) in (
+      record { read = c .before .before .before .before .before .pre .read; room = omega arith },
+      index-none (x .contents .activities) (x .contents .links) _ S (c .before .before .fill-act .ensures .0) (planOf (x .sheet .now) (x .contents)),
     )
 
-same-length-2 : tie.Need-same-length-2 Inv-loop μ-loop
-same-length-2 c = search needs
+same-length : tie.Need-same-length
+same-length c = search needs
 
-returns-2 : tie.Need-returns-2 Inv-loop μ-loop
-returns-2 c =
-    let x = c .before .before .before .args in
+returns : tie.Need-returns
+returns c =
+    let x = c .before .before .before .before .before .before .before .args in
     let p = planOf (x .sheet .now) (x .contents) in
     let S = stateIn (x .contents) (x .work .now) in
-    let L = c .before .loop in
-    let a = passing-end lowChild highChild (Indexed p) (judgeActivity p) (x .contents .activities) S (stateIn (x .contents) (L .work)) (L .i) (L .inv .1) (omega arith) in
-    (a .0, a .1, omega arith)
+    let o = c .before .index-activities .ensures in (
+      o .0,
+      passed-from OfIndex (λ (T : State). Indexed p T (x .contents .activities)) (none-kept (x .contents .activities) (x .contents .links) _ S (c .before .before .before .before .fill-act .ensures .0)) (o .1),
+      omega arith,
+    )
 
 pub index-all-spec : {M : Type 1} → statement M
 index-all-spec =
-    tie.close
-    (tie.spec
-    Inv-loop
-    μ-loop
-    loop-holds
-    index-one-requires
-    enum-known-check
-    same-length
-    returns
-    enum-told
-    add-i
-    loop-less
-    loop-again
-    same-length-2
-    returns-2)
+    tie.close (tie.spec fill-act-requires index-activities-requires same-length returns)

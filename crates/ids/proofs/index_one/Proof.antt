@@ -4,9 +4,9 @@ use Prim.Native.Nat.{_+_}
 use native.Mathlib.Omega.{arith}
 use Rattle.memory.specs.State.{State}
 use Rattle.order.specs.Plan.{planOf}
-use Rattle.memory.specs.Fields.{lowChild, highChild}
 use Rattle.ids.specs.Index.{Indexed}
 use Rattle.ids.specs.Lent.{stateIn}
+use Rattle.ids.specs.Answers.{OfIndex}
 use Rattle.ids.specs.PassSteps.{step-refused, step-fine}
 use Rattle.ids.specs.IndexSteps.{inserted}
 use Rattle.ids.proofs.index_one.Statement.{statement}
@@ -27,7 +27,7 @@ returns c =
     let p = planOf (x .sheet .now) (x .contents) in
     let g = c .before .check .given in
     let a =
-    step-refused lowChild highChild (λ (T : State). Indexed p T (x .i + 1)) (stateIn (x .contents) (x .work .now)) _ (c .before .before .before .judge-activity .ensures)
+    step-refused OfIndex (λ (T : State). Indexed p T (x .i + 1)) (stateIn (x .contents) (x .work .now)) _ (c .before .before .before .judge-activity .ensures)
     (g .0 .0) (g .0 .1 .0) (g .1) in
     (a .0, a .1, omega arith)
 
@@ -50,7 +50,7 @@ returns-2 c =
     let j = c .before .before .before .before .before .judge-activity .ensures in
     let f = c .before .before .before .enum-told .given .1 in
     let a =
-    step-fine lowChild highChild (λ (T : State). Indexed p T (x .i + 1)) S _ _ j f (o .1)
+    step-fine OfIndex (λ (T : State). Indexed p T (x .i + 1)) S _ _ j f (o .1)
     (inserted p (x .i) (c .before .before .before .before .before .before .before .before .pre .2) (o .0) j f) in
     (a .0, a .1, omega arith)
 

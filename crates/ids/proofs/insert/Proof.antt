@@ -1,8 +1,10 @@
 -- `ids::insert` meets its contract.
 use native.Mathlib.Omega.{arith}
 use Rattle.order.specs.Plan.{planOf}
+use Rattle.order.specs.Ids.{idOf}
 use Rattle.ids.specs.Lent.{stateIn}
-use Rattle.ids.specs.IndexSteps.{leaf-tree, root-in, child-in}
+use Rattle.ids.specs.TreeLaws.{vacant-within}
+use Rattle.ids.specs.IndexSteps.{leaf-trees, comes-in}
 use borrow.Author.Needs.{needs}
 use Rattle.ids.proofs.insert.Statement.{statement}
 use Rattle.ids.proofs.insert.Tie as tie
@@ -13,44 +15,35 @@ put-act-requires c κs = search needs
 put-act-requires-2 : tie.Need-put-act-requires-2
 put-act-requires-2 c κs = search needs
 
-same-length : tie.Need-same-length
-same-length c = search needs
-
-returns : tie.Need-returns
-returns c =
-    let s = c .before .before .before .before .before .before .before .before in
-    let x = s .args in
-    let r =
-    root-in (planOf (x .sheet .now) (x .contents)) (stateIn (x .contents) (x .work .now)) _ _ (x .i) (s .pre .2) (c .before .before .before .before .before .put-act .ensures .0) (c .before .before .put-act2 .ensures .0) (c .if1 .taken) in
-    (r .0, r .1, omega arith)
-
 vacancy-for-requires : tie.Need-vacancy-for-requires
 vacancy-for-requires c κs =
-    let s = c .before .before .before .before .before .before .before .before .before in
+    let s = c .before .before .before .before .before .before .before .before in
     let x = s .args in (
       record { read = s .pre .0 .read; room = omega arith },
-      omega (arith, c .before .if1 .left),
       s .pre .1,
-      leaf-tree (planOf (x .sheet .now) (x .contents)) (stateIn (x .contents) (x .work .now)) _ _ (x .i) (s .pre .2) (c .before .before .before .before .before .before .put-act .ensures .0) (c .before .before .before .put-act2 .ensures .0),
+      leaf-trees (planOf (x .sheet .now) (x .contents)) (stateIn (x .contents) (x .work .now)) _ _ (x .i) (s .pre .2) (c .before .before .before .before .before .put-act .ensures .0) (c .before .before .put-act2 .ensures .0),
     )
 
 add-put-act : tie.Need-add-put-act
 add-put-act c = search needs
 
 put-act-requires-3 : tie.Need-put-act-requires-3
+unfolding planOf
 put-act-requires-3 c κs =
-    let E = c .before .vacancy-for .ensures in
-    (omega arith, omega (arith, E .below), omega (arith, E .bit), omega arith)
+    let x = c .before .before .before .before .before .before .before .before .before .before .args in
+    let p = planOf (x .sheet .now) (x .contents) in
+    let w = vacant-within (idOf p) (p .activities) (c .before .vacancy-for .ensures) (omega arith) in
+    (omega arith, omega (arith, w .0), omega (arith, w .1), omega arith)
 
-same-length-2 : tie.Need-same-length-2
-same-length-2 c = search needs
+same-length : tie.Need-same-length
+same-length c = search needs
 
-returns-2 : tie.Need-returns-2
-returns-2 c =
-    let s = c .before .before .before .before .before .before .before .before .before .before .before .before .before in
+returns : tie.Need-returns
+returns c =
+    let s = c .before .before .before .before .before .before .before .before .before .before .before .before in
     let x = s .args in
     let r =
-    child-in (planOf (x .sheet .now) (x .contents)) (stateIn (x .contents) (x .work .now)) _ _ (x .i) (s .pre .2) (c .before .before .before .before .before .before .before .before .before .before .put-act .ensures .0) (c .before .before .before .before .before .before .before .put-act2 .ensures .0)
+    comes-in (planOf (x .sheet .now) (x .contents)) (stateIn (x .contents) (x .work .now)) _ _ (x .i) (s .pre .2) (c .before .before .before .before .before .before .before .before .before .put-act .ensures .0) (c .before .before .before .before .before .before .put-act2 .ensures .0)
     _ _ _ (c .before .before .before .vacancy-for .ensures) (c .before .put-act3 .ensures .0) in
     (r .0, r .1, omega arith)
 
@@ -60,10 +53,8 @@ insert-spec =
     (tie.spec
     put-act-requires
     put-act-requires-2
-    same-length
-    returns
     vacancy-for-requires
     add-put-act
     put-act-requires-3
-    same-length-2
-    returns-2)
+    same-length
+    returns)

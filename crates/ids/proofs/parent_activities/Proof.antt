@@ -4,18 +4,18 @@ use mathlib.Core.Path.{_≡_, refl}
 use Prim.Native.Nat.{_-_}
 use native.Mathlib.Omega.{arith}
 use lib.ListN.{length}
-use Rattle.memory.specs.Fields.{parent, isSummary}
 use Rattle.order.specs.Plan.{planOf}
 use Rattle.order.specs.Checks.{judgeParent}
 use Rattle.ids.specs.Parented.{Parented}
 use Rattle.ids.specs.ParentedLaws.{indexed-kept}
 use Rattle.ids.specs.Lent.{stateIn}
+use Rattle.ids.specs.Answers.{OfParents}
 use Rattle.ids.specs.PassSteps.{Passing, passing-start, passing-turn, passing-stop, passing-end}
 use Rattle.ids.proofs.parent_activities.Statement.{statement}
 use Rattle.ids.proofs.parent_activities.Tie as tie
 
 abbrev Inv-loop : tie.InvT-loop
-Inv-loop sheet contents work₀ a i₀ work i = (length work ≡ length work₀) × Passing parent isSummary (Parented (planOf sheet contents)) (judgeParent (planOf sheet contents)) (contents .activities) (stateIn contents work₀) (stateIn contents work) i
+Inv-loop sheet contents work₀ a i₀ work i = (length work ≡ length work₀) × Passing OfParents (Parented (planOf sheet contents)) (judgeParent (planOf sheet contents)) (contents .activities) (stateIn contents work₀) (stateIn contents work) i
 
 abbrev μ-loop : tie.MeasureT-loop
 μ-loop sheet contents work₀ a i₀ work i = a - i
@@ -25,7 +25,7 @@ loop-holds c =
     let x = c .before .args in
     let p = planOf (x .sheet .now) (x .contents) in
     let S = stateIn (x .contents) (x .work .now) in
-    (refl, passing-start parent isSummary (Parented p) (judgeParent p) (x .contents .activities) S (c .before .pre .3))
+    (refl, passing-start OfParents (Parented p) (judgeParent p) (x .contents .activities) S (c .before .pre .3))
 
 parent-one-requires : tie.Need-parent-one-requires Inv-loop μ-loop
 parent-one-requires c κs =
@@ -53,7 +53,7 @@ returns c =
     let g = c .before .check .given in
     let o = c .before .before .before .before .parent-one in
     let a =
-    passing-stop parent isSummary (Parented p) (judgeParent p) (x .contents .activities) S (stateIn (x .contents) (L .work)) (L .i) (L .inv .1)
+    passing-stop OfParents (Parented p) (judgeParent p) (x .contents .activities) S (stateIn (x .contents) (L .work)) (L .i) (L .inv .1)
     (omega arith) _ _ (o .ensures .0) (o .ensures .1) (g .0 .0) (g .0 .1 .0) (g .1) in
     (a .0, a .1, omega arith)
 
@@ -74,7 +74,7 @@ loop-again c =
     let L = c .before .before .before .before .before .before .loop in
     let o = c .before .before .before .parent-one in (
       omega arith,
-      passing-turn parent isSummary (Parented p) (judgeParent p) (x .contents .activities) S (stateIn (x .contents) (L .work)) (L .i) (L .inv .1)
+      passing-turn OfParents (Parented p) (judgeParent p) (x .contents .activities) S (stateIn (x .contents) (L .work)) (L .i) (L .inv .1)
           (omega arith) _ _ (o .ensures .0) (o .ensures .1) (c .enum-told .given .1),
     )
 
@@ -87,7 +87,7 @@ returns-2 c =
     let p = planOf (x .sheet .now) (x .contents) in
     let S = stateIn (x .contents) (x .work .now) in
     let L = c .before .loop in
-    let a = passing-end parent isSummary (Parented p) (judgeParent p) (x .contents .activities) S (stateIn (x .contents) (L .work)) (L .i) (L .inv .1) (omega arith) in
+    let a = passing-end OfParents (Parented p) (judgeParent p) (x .contents .activities) S (stateIn (x .contents) (L .work)) (L .i) (L .inv .1) (omega arith) in
     (a .0, a .1, omega arith)
 
 pub parent-activities-spec : {M : Type 1} → statement M

@@ -3,10 +3,10 @@ use borrow.Author.Needs.{needs}
 use mathlib.Core.Path.{ap, _∙_}
 use Prim.Native.Nat.{_<_}
 use native.Mathlib.Omega.{arith}
-use Rattle.memory.specs.Fields.{parent, isSummary}
 use Rattle.order.specs.Plan.{planOf}
 use Rattle.order.specs.Checks.{refuse}
 use Rattle.ids.specs.Lent.{stateIn}
+use Rattle.ids.specs.Answers.{OfParents}
 use Rattle.ids.specs.AnswerLaws.{not-refused, answered-fine, answered-refused}
 use Rattle.ids.specs.LentLaws.{kept-refl}
 use Rattle.ids.specs.ParentedLaws.{top-fine, top-kept, top-parented, unknown-refused, known-fine, known-kept, known-parented}
@@ -55,7 +55,7 @@ returns-2 c =
     let d = c .before .before .before .before .before .parent-of .ensures .0 in
     let z = c .before .before .before .before .if1 .left in (
       answered-refused 10 _ (omega arith) (ap (refuse 10) (c .id-of .ensures .0) ∙ unknown-refused p S (x .i) P _ d z _ (c .before .before .find .ensures .0) (c .before .if2 .taken)),
-      record { kept = kept-refl parent isSummary S; holds = λ q. not-refused q },
+      record { kept = kept-refl OfParents S; holds = λ q. not-refused q },
       omega arith,
     )
 

@@ -2,11 +2,11 @@
 use borrow.Author.Needs.{needs}
 use native.Mathlib.Omega.{arith}
 use Rattle.memory.specs.State.{State}
-use Rattle.memory.specs.Fields.{parent, isSummary}
 use Rattle.order.specs.Plan.{planOf}
 use Rattle.ids.specs.Parented.{Parented}
 use Rattle.ids.specs.ParentedLaws.{indexed-kept, unmarked, unmarked-kept}
 use Rattle.ids.specs.Lent.{stateIn}
+use Rattle.ids.specs.Answers.{OfParents}
 use Rattle.ids.specs.PassSteps.{passed-from}
 use Rattle.ids.proofs.parents.Statement.{statement}
 use Rattle.ids.proofs.parents.Tie as tie
@@ -38,7 +38,7 @@ returns c =
     let S = stateIn (x .contents) (x .work .now) in
     let o = c .before .parent-activities .ensures in (
       o .0,
-      passed-from parent isSummary (λ (T : State). Parented p T (x .contents .activities)) (unmarked-kept p S _ (c .before .before .before .before .fill-act .ensures .0)) (o .1),
+      passed-from OfParents (λ (T : State). Parented p T (x .contents .activities)) (unmarked-kept p S _ (c .before .before .before .before .fill-act .ensures .0)) (o .1),
       omega arith,
     )
 
