@@ -1,15 +1,16 @@
 -- `rank`, `select`, `nextIn` and `works` a period at a time, as a loop over a day's periods goes.
 use mathlib.Core.Path.{_≡_, sym, _∙_}
 use mathlib.Core.Bool.{Bool, true, false}
-use mathlib.Core.List.{List, _∷_}
-use Prim.Native.Nat.{ℕ, _+_, _-_, min, max, _≤_, _<_}
+use mathlib.Core.List.{List, [], _∷_}
+use Prim.Native.Nat.{ℕ, zero, suc, _+_, _-_, min, max, _≤_, _<_}
+use native.Mathlib.Omega.{arith}
 use native.Mathlib.Numerals.{add-one}
 use lib.ListN.{getD, length, drop, drop-of-length-le}
 use lib.Seq.{drop-cons}
 use Rattle.calendar.specs.declared.Period.{Period}
 use Rattle.calendar.specs.declared.Found.{Found}
 use Rattle.calendar.specs.declared.Found.the-variants.{At, Nothing}
-use Rattle.calendar.specs.Hours.{none, rank, select, nextIn, works}
+use Rattle.calendar.specs.Hours.{none, Ordered, rank, select, nextIn, works}
 use Rattle.calendar.specs.HoursLaws.{select-in, select-past, next-in, next-past, works-here, works-rest}
 
 pub rank-step : (ps : List Period) (i m : ℕ) (p : Period) → p ≡ getD ps i none → i < length ps
@@ -20,6 +21,12 @@ rank-step ps i m p e h = rw (e, add-one, drop-cons ps i none)
 pub rank-end : (ps : List Period) (i m : ℕ) → length ps ≤ i → rank (drop i ps) m ≡ 0
 unfolding rank
 rank-end ps i m h = rw (drop-of-length-le ps h)
+
+-- hours in order end within the day, each period of them
+pub ordered-end : (a : ℕ) (ps : List Period) (i : ℕ) → Ordered a ps → getD ps i none .to ≤ 1440
+ordered-end a [] i o = omega arith
+ordered-end a (p ∷ ps) zero o = o .0
+ordered-end a (p ∷ ps) (suc i) o = ordered-end (max a (p .to)) ps i (o .2)
 
 module _ (ps : List Period) (i m : ℕ) (r : Found) (inv : nextIn (drop i ps) m ≡ r) (p : Period) (e : p ≡ getD ps i none) (h : i < length ps) where
   next-head : nextIn (p ∷ drop (i + 1) ps) m ≡ r

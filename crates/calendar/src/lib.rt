@@ -15,6 +15,12 @@ pub struct Period {
 // How many periods a row holds.
 const PERIODS: usize = 8;
 
+// So many E records that the search among them starts in the middle: with fewer the product in `guess` stays within its type.
+const MANY_RECORDS: usize = 65536;
+
+// How many E records beside the guess are looked at one by one.
+const NEAR: usize = 8;
+
 // The hours of a day: its weekday's row, or where its `n` E records stand if it has any.
 pub struct Hours {
     pub row: [Period; 8],
@@ -118,13 +124,33 @@ pub fn exception_period(sheet: &[u8], at: usize, i: usize) -> Period
     }
 }
 
-// The first of the `n` E records from `at` on whose day is `d` or later.
-pub fn first_from(sheet: &[u8], at: usize, n: usize, d: u64) -> usize
-    requires { ⌜ (at + 9 * n ≤ length (now sheet)) × ((i j : ℕ) → i ≤ j → j < n → exceptionDay (now sheet) at i ≤ exceptionDay (now sheet) at j) ⌝ }
+// Where to start the search for day `d` among the `n` E records: where it would stand if their days were spread evenly, as they mostly are.
+// Its value concerns speed alone: from any record the search finds the same place.
+fn guess(sheet: &[u8], at: usize, n: usize, d: u64) -> usize
+    requires { ⌜ (at + 9 * n ≤ length (now sheet)) × (0 < n) ⌝ }
+    ensures { λ r. ⌜ r < n ⌝ }
+{
+    let first = exception_day(sheet, at, 0);
+    let last = exception_day(sheet, at, n - 1);
+    if d <= first {
+        return 0;
+    }
+    if last < d {
+        return n - 1;
+    }
+    if MANY_RECORDS <= n {
+        return n / 2;
+    }
+    ((d - first) * n as u64 / (last - first + 1)) as usize
+}
+
+// The first of the `n` E records from `at` on whose day is `d` or later, where it is one of those from `low` up to `high`, or `high`.
+fn first_between(sheet: &[u8], at: usize, n: usize, d: u64, low: usize, high: usize) -> usize
+    requires { ⌜ Listed (now sheet) at n × (low ≤ high) × (high ≤ n) × ((j : ℕ) → j < low → exceptionDay (now sheet) at j < d) × ((j : ℕ) → high ≤ j → j < n → d ≤ exceptionDay (now sheet) at j) ⌝ }
     ensures { λ r. ⌜ FirstFrom (now (sheet .entry)) at n d r ⌝ }
 {
-    let mut lo: usize = 0;
-    let mut hi = n;
+    let mut lo = low;
+    let mut hi = high;
     while lo < hi {
         let mid = lo + (hi - lo) / 2;
         if exception_day(sheet, at, mid) < d {
@@ -134,6 +160,53 @@ pub fn first_from(sheet: &[u8], at: usize, n: usize, d: u64) -> usize
         }
     }
     lo
+}
+
+// The same where the day of record `start` is before `d`: one of the next, or else searched for.
+fn first_past(sheet: &[u8], at: usize, n: usize, d: u64, start: usize) -> usize
+    requires { ⌜ Listed (now sheet) at n × (start < n) × (exceptionDay (now sheet) at start < d) ⌝ }
+    ensures { λ r. ⌜ FirstFrom (now (sheet .entry)) at n d r ⌝ }
+{
+    let end = if n - start < NEAR { n } else { start + NEAR };
+    let mut i = start + 1;
+    while i < end {
+        if d <= exception_day(sheet, at, i) {
+            return i;
+        }
+        i += 1;
+    }
+    first_between(sheet, at, n, d, i, n)
+}
+
+// The same where the day of record `start` is `d` or later: it or one of the last before it, or else searched for.
+fn first_up_to(sheet: &[u8], at: usize, n: usize, d: u64, start: usize) -> usize
+    requires { ⌜ Listed (now sheet) at n × (start < n) × (d ≤ exceptionDay (now sheet) at start) ⌝ }
+    ensures { λ r. ⌜ FirstFrom (now (sheet .entry)) at n d r ⌝ }
+{
+    let end = if start < NEAR { 0 } else { start - NEAR };
+    let mut i = start;
+    while end < i {
+        if exception_day(sheet, at, i - 1) < d {
+            return i;
+        }
+        i -= 1;
+    }
+    first_between(sheet, at, n, d, 0, i)
+}
+
+// The first of the `n` E records from `at` on whose day is `d` or later. It is mostly near the guess, where a look at each costs less than halving.
+pub fn first_from(sheet: &[u8], at: usize, n: usize, d: u64) -> usize
+    requires { ⌜ (at + 9 * n ≤ length (now sheet)) × ((i j : ℕ) → i ≤ j → j < n → exceptionDay (now sheet) at i ≤ exceptionDay (now sheet) at j) ⌝ }
+    ensures { λ r. ⌜ FirstFrom (now (sheet .entry)) at n d r ⌝ }
+{
+    if n == 0 {
+        return 0;
+    }
+    let start = guess(sheet, at, n, d);
+    if exception_day(sheet, at, start) < d {
+        return first_past(sheet, at, n, d, start);
+    }
+    first_up_to(sheet, at, n, d, start)
 }
 
 // The first of the `n` E records from `at` on whose day is after `d`, where `from` is the first whose day is `d` or later.
@@ -275,11 +348,11 @@ pub fn exception_work(sheet: &[u8], at: usize, i: usize) -> u64
 }
 
 // How long a period is.
-fn period_length(p: Period) -> u64
+fn period_length(p: Period) -> u16
     ensures { λ r. ⌜ r ≡ p .to - p .from ⌝ }
 {
-    let from = p.from as u64;
-    let to = p.to as u64;
+    let from = p.from;
+    let to = p.to;
     if from < to { to - from } else { 0 }
 }
 
@@ -293,6 +366,21 @@ pub fn row_rank(row: [Period; 8], m: u16) -> u16
     while i < PERIODS {
         let p = row[i];
         sum += period_rank(p, m);
+        i += 1;
+    }
+    sum
+}
+
+// How many minutes the row has: cheaper than its rank at the day's end.
+pub fn row_work(row: [Period; 8]) -> u16
+    requires { ⌜ Ordered 0 row ⌝ }
+    ensures { λ r. ⌜ (r ≡ rank row 1440) × (r ≤ 1440) ⌝ }
+{
+    let mut sum: u16 = 0;
+    let mut i: usize = 0;
+    while i < PERIODS {
+        let p = row[i];
+        sum += period_length(p);
         i += 1;
     }
     sum
@@ -324,7 +412,7 @@ pub fn day_rank(hours: Hours, sheet: &[u8], m: u64) -> u64
 }
 
 // The minute of the day by which `k` minutes of the row are worked.
-fn row_select(row: [Period; 8], k: u64) -> u64
+pub fn row_select(row: [Period; 8], k: u64) -> u64
     requires { ⌜ Ordered 0 row × (0 < k) × (k ≤ rank row 1440) ⌝ }
     ensures { λ r. ⌜ (r ≡ select row k) × (0 < r) × (r ≤ 1440) ⌝ }
 {
@@ -332,7 +420,7 @@ fn row_select(row: [Period; 8], k: u64) -> u64
     let mut i: usize = 0;
     while i < PERIODS {
         let p = row[i];
-        let length = period_length(p);
+        let length = period_length(p) as u64;
         if left <= length {
             return p.from as u64 + left;
         }
@@ -357,7 +445,7 @@ pub fn day_select(hours: Hours, sheet: &[u8], k: u64) -> u64
     let mut i: usize = 0;
     while i < n {
         let p = exception_period(sheet, at, i);
-        let length = period_length(p);
+        let length = period_length(p) as u64;
         if left <= length {
             return p.from as u64 + left;
         }

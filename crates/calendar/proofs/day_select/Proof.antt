@@ -40,6 +40,9 @@ exception-period-requires c κs = search needs
 period-length-requires : tie.Need-period-length-requires Inv-loop μ-loop
 period-length-requires c κs = search needs
 
+cast-length : tie.Need-cast-length Inv-loop μ-loop
+cast-length c = search needs
+
 cast-result : tie.Need-cast-result Inv-loop μ-loop
 cast-result c = search needs
 
@@ -102,6 +105,7 @@ day-select-spec =
     loop-holds
     exception-period-requires
     period-length-requires
+    cast-length
     cast-result
     add-result
     returns-2

@@ -29,6 +29,9 @@ array-copy-out-p c = search needs
 period-length-requires : tie.Need-period-length-requires Inv-loop μ-loop
 period-length-requires c κs = search needs
 
+cast-length : tie.Need-cast-length Inv-loop μ-loop
+cast-length c = search needs
+
 cast-result : tie.Need-cast-result Inv-loop μ-loop
 cast-result c = search needs
 
@@ -79,6 +82,7 @@ row-select-spec =
     mul-p
     array-copy-out-p
     period-length-requires
+    cast-length
     cast-result
     add-result
     returns
