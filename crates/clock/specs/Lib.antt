@@ -6,6 +6,11 @@ pub mod Ways
 pub mod Weeks
 pub mod Regular
 pub mod RegularLaws
+pub mod RegularOrder
 pub mod OwnDayLaws
-pub mod Jumps
-pub mod JumpLaws
+pub mod Stands
+pub mod RecordLaws
+pub mod StandLaws
+pub mod SameLaws
+pub mod WeekdayLaws
+pub mod RetreatLaws

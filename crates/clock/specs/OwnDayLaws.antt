@@ -52,7 +52,7 @@ length-zero : (ps : List Period) → length ps ≡ 0 → ps ≡ []
 length-zero [] e = refl
 length-zero (p ∷ ps) e = absurd (omega arith)
 
-rank-append : (ps : List Period) (p : Period) (m : ℕ) → rank (ps ++ (p ∷ [])) m ≡ rank ps m + (min m (p .to) - p .from)
+pub rank-append : (ps : List Period) (p : Period) (m : ℕ) → rank (ps ++ (p ∷ [])) m ≡ rank ps m + (min m (p .to) - p .from)
 unfolding rank
 rank-append [] p m = omega arith
 rank-append (q ∷ ps) p m = omega (arith, rank-append ps p m)
@@ -109,7 +109,7 @@ module _ (week : List (List Period)) (s : List ℕ) (at : ℕ) where
 
   -- ---- with fewer records a day has at most 1,440 minutes, too
   module _ {n : ℕ} (valid : Valid week s at n) where
-    on-more : (x j k : ℕ) → rank (exceptionsOn s at x j) 1440 ≤ rank (exceptionsOn s at x (j + k)) 1440
+    pub on-more : (x j k : ℕ) → rank (exceptionsOn s at x j) 1440 ≤ rank (exceptionsOn s at x (j + k)) 1440
     on-more x j zero = rw add-zero (omega arith)
     on-more x j (suc k) =
         let e : j + suc k ≡ j + k + 1 = omega arith in

@@ -8,11 +8,13 @@ use worktime::Working;
 ghost use mathlib.Core.Path.{_≡_};
 ghost use Prim.Native.Nat.{ℕ, _+_, _*_, _^_, _≤_, _<_};
 ghost use Rattle.number.specs.Zed.{dn};
+ghost use Rattle.date.specs.Years.{firstDay, endDay};
 ghost use Rattle.calendar.specs.Records.{Valid, FirstFrom};
 ghost use Rattle.clock.specs.On.{workedOn};
 ghost use Rattle.worktime.specs.Worked.{count};
 ghost use Rattle.worktime.specs.Walks.{endMinute, nextStart, previousFinish, nextFinish, workingAt, previousStart, startBy, advance, retreat, shift, between, dayWork, workedBefore};
 
+mod records;
 mod weeks;
 
 // Row 8 of 01's table: too long.
@@ -22,8 +24,8 @@ const FIRST_DAY: u64 = 2143112061;
 
 const LAST_DAY: u64 = 2150416544;
 
-// The minutes of a day: only a walk of more passes days at once.
-const DAY: u64 = 1440;
+// More minutes than the years that may be read have.
+const MANY: u64 = 6184752906240;
 
 // The least worked minute at or after `t`.
 pub fn next_start(week: [[Period; 8]; 7], sheet: &[u8], at: usize, n: usize, t: u64) -> Walk
@@ -161,6 +163,46 @@ pub fn start_by(week: [[Period; 8]; 7], sheet: &[u8], at: usize, n: usize, t: u6
     }
 }
 
+// The closing minute with `work` worked minutes from the beginning of day `d` on; `from` is the first E record whose day is `d` or later.
+fn advance_from(
+    week: [[Period; 8]; 7],
+    sheet: &[u8],
+    at: usize,
+    n: usize,
+    d: u64,
+    from: usize,
+    work: u64,
+) -> Walk
+    requires { ⌜ Valid week (now sheet) at n × FirstFrom (now sheet) at n d from × (firstDay ≤ d) × (d < endDay) × (0 < work) × (work < 2 ^ 47) ⌝ }
+    ensures { λ r. ⌜ r ≡ advance (workedOn week (now (sheet .entry)) at n) (d * 1440) work ⌝ }
+{
+    let sums = weeks::sums_of(week);
+    let stand = records::ahead(sums, sheet, at, n, d, from, work);
+    let j = stand.at;
+    if j < n {
+        if stand.start < work {
+            let day = calendar::exception_day(sheet, at, j);
+            if LAST_DAY < day {
+                return Walk::Refused(TOO_LONG);
+            }
+            let period = calendar::exception_period(sheet, at, j);
+            return Walk::At(day * 1440 + period.from as u64 + (work - stand.start));
+        }
+    }
+    if sums[7] == 0 {
+        return Walk::Refused(TOO_LONG);
+    }
+    let p = stand.over + (work - stand.passed) - 1;
+    let next = weeks::day_after(sums, p);
+    if LAST_DAY + 1 < next {
+        return Walk::Refused(TOO_LONG);
+    }
+    let k = (next % 7) as usize;
+    let row = week[k];
+    let before = sums[7] * (next / 7) + sums[k];
+    Walk::At((next - 1) * 1440 + calendar::row_select(row, p - before + 1))
+}
+
 // The closing minute with `work` worked minutes from `t`, and `t` itself for none.
 pub fn advance(week: [[Period; 8]; 7], sheet: &[u8], at: usize, n: usize, t: u64, work: u64) -> Walk
     requires { ⌜ Valid week (now sheet) at n ⌝ }
@@ -169,32 +211,63 @@ pub fn advance(week: [[Period; 8]; 7], sheet: &[u8], at: usize, n: usize, t: u64
     if work == 0 {
         return Walk::At(t);
     }
-    let mut d = t / 1440;
-    let mut m = t % 1440;
-    let mut left = work;
+    let d = t / 1440;
     if d < FIRST_DAY {
         return Walk::Refused(TOO_LONG);
     }
-    let mut from = calendar::first_from(sheet, at, n, d);
-    while d <= LAST_DAY {
-        let row = week[((d + 1) % 7) as usize];
-        let hours = calendar::hours_from(row, sheet, at, n, d, from);
-        let done = calendar::day_rank(hours, sheet, m);
-        let today = calendar::day_rank(hours, sheet, 1440) - done;
-        if left <= today {
-            return Walk::At(d * 1440 + calendar::day_select(hours, sheet, done + left));
-        }
-        left -= today;
-        from += hours.n;
-        d += 1;
-        m = 0;
-        if DAY < left {
-            let ahead = weeks::days_ahead(week, sheet, at, n, d, from, left);
-            left -= ahead.minutes;
-            d = ahead.to;
+    if LAST_DAY < d {
+        return Walk::Refused(TOO_LONG);
+    }
+    if MANY < work {
+        return Walk::Refused(TOO_LONG);
+    }
+    let from = calendar::first_from(sheet, at, n, d);
+    let row = week[((d + 1) % 7) as usize];
+    let hours = calendar::hours_from(row, sheet, at, n, d, from);
+    let done = calendar::day_rank(hours, sheet, t % 1440);
+    advance_from(week, sheet, at, n, d, from, done + work)
+}
+
+// The worked minute with `work` worked minutes from it up to the beginning of day `d`; `from` is the first E record whose day is `d` or later.
+fn retreat_from(
+    week: [[Period; 8]; 7],
+    sheet: &[u8],
+    at: usize,
+    n: usize,
+    d: u64,
+    from: usize,
+    work: u64,
+) -> Walk
+    requires { ⌜ Valid week (now sheet) at n × FirstFrom (now sheet) at n d from × (firstDay ≤ d) × (d < endDay) × (0 < work) × (work < 2 ^ 47) ⌝ }
+    ensures { λ r. ⌜ r ≡ retreat (workedOn week (now (sheet .entry)) at n) (d * 1440) work ⌝ }
+{
+    let sums = weeks::sums_of(week);
+    let stand = records::back(sums, sheet, at, n, d, from, work);
+    let j = stand.at;
+    if 0 < j {
+        if stand.start < work {
+            let day = calendar::exception_day(sheet, at, j - 1);
+            if day < FIRST_DAY {
+                return Walk::Refused(TOO_LONG);
+            }
+            let period = calendar::exception_period(sheet, at, j - 1);
+            let left = calendar::exception_work(sheet, at, j - 1) - (work - stand.start);
+            return Walk::At(day * 1440 + period.from as u64 + left);
         }
     }
-    Walk::Refused(TOO_LONG)
+    let rest = work - stand.passed;
+    if stand.over < rest {
+        return Walk::Refused(TOO_LONG);
+    }
+    let p = stand.over - rest;
+    let next = weeks::day_after(sums, p);
+    if next <= FIRST_DAY {
+        return Walk::Refused(TOO_LONG);
+    }
+    let k = (next % 7) as usize;
+    let row = week[k];
+    let before = sums[7] * (next / 7) + sums[k];
+    Walk::At((next - 1) * 1440 + calendar::row_select(row, p - before + 1) - 1)
 }
 
 // The worked minute with `work` worked minutes from it up to `t`, and `t` itself for none.
@@ -205,31 +278,24 @@ pub fn retreat(week: [[Period; 8]; 7], sheet: &[u8], at: usize, n: usize, t: u64
     if work == 0 {
         return Walk::At(t);
     }
-    let mut d = t / 1440;
-    let mut m = t % 1440;
-    let mut left = work;
+    let d = t / 1440;
+    if d < FIRST_DAY {
+        return Walk::Refused(TOO_LONG);
+    }
     if LAST_DAY < d {
         return Walk::Refused(TOO_LONG);
     }
-    let mut to = calendar::first_from(sheet, at, n, d + 1);
-    while FIRST_DAY <= d {
-        let row = week[((d + 1) % 7) as usize];
-        let hours = calendar::hours_to(row, sheet, at, n, d, to);
-        let done = calendar::day_rank(hours, sheet, m);
-        if left <= done {
-            return Walk::At(d * 1440 + calendar::day_select(hours, sheet, done - left + 1) - 1);
-        }
-        left -= done;
-        to -= hours.n;
-        d -= 1;
-        m = 1440;
-        if DAY < left {
-            let back = weeks::days_back(week, sheet, at, n, d + 1, to, left);
-            left -= back.minutes;
-            d = back.to - 1;
-        }
+    if MANY < work {
+        return Walk::Refused(TOO_LONG);
     }
-    Walk::Refused(TOO_LONG)
+    let from = calendar::first_from(sheet, at, n, d);
+    let row = week[((d + 1) % 7) as usize];
+    let hours = calendar::hours_from(row, sheet, at, n, d, from);
+    let done = calendar::day_rank(hours, sheet, t % 1440);
+    if work <= done {
+        return Walk::At(d * 1440 + calendar::day_select(hours, sheet, done - work + 1) - 1);
+    }
+    retreat_from(week, sheet, at, n, d, from, work - done)
 }
 
 // `t` moved by `lag` worked minutes: forward for a lag, back for a lead.

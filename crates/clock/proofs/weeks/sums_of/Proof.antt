@@ -34,8 +34,8 @@ mul-sums c = search needs
 array-read-sums : tie.Need-array-read-sums Inv-loop μ-loop
 array-read-sums c = search needs
 
-row-rank-requires : tie.Need-row-rank-requires Inv-loop μ-loop
-row-rank-requires c κs = let l = c .before .before in l .before .pre (l .loop .k) (omega arith)
+row-work-requires : tie.Need-row-work-requires Inv-loop μ-loop
+row-work-requires c κs = let l = c .before .before in l .before .pre (l .loop .k) (omega arith)
 
 cast-sums : tie.Need-cast-sums Inv-loop μ-loop
 cast-sums c = search needs
@@ -64,14 +64,14 @@ loop-again c =
     let i = l .loop .inv in
     let k = l .loop .k in
     let ss = l .loop .sums in
-    let v = getD ss k 0 + c .row-rank .result in
+    let v = getD ss k 0 + c .row-work .result in
     let same = getD-set-same ss (k + 1) v 0 (omega arith) in
     let other : (j : ℕ) → j ≤ k → getD (set ss (k + 1) v) j 0 ≡ getD ss j 0 = λ j h. getD-set-other ss (k + 1) j v 0 (omega arith) in (
       omega arith,
       simp length-set (i .1),
       other 0 (omega arith) ∙ i .2,
-      below-more _ k (λ j h. omega (arith, other (j + 1) (omega arith), other j (omega arith), i .3 j h)) (omega (arith, same, other k (omega arith), c .row-rank .ensures .0)),
-      omega (arith, same, i .4, c .row-rank .ensures .1),
+      below-more _ k (λ j h. omega (arith, other (j + 1) (omega arith), other j (omega arith), i .3 j h)) (omega (arith, same, other k (omega arith), c .row-work .ensures .0)),
+      omega (arith, same, i .4, c .row-work .ensures .1),
     )
 
 returns : tie.Need-returns Inv-loop μ-loop
@@ -92,7 +92,7 @@ sums-of-spec =
     array-copy-out-row
     mul-sums
     array-read-sums
-    row-rank-requires
+    row-work-requires
     cast-sums
     add-sums
     add-sums-2
