@@ -1,6 +1,6 @@
 //! The benchmark's sheets are what their names say, and the times are those of its calls.
 
-use compare::bench::sheets::{CENTURY, Kind, SHARED_BITS, cases, days};
+use compare::bench::sheets::{CENTURY, Kind, cases, days, shared_bits};
 use compare::call::{oracle_schedule, repeat};
 use compare::oracle::answer;
 use compare::read::read;
@@ -20,7 +20,7 @@ fn the_sheets_are_what_their_names_say() {
         assert_eq!(sheet.calendars[0].exceptions.len(), case.exceptions, "{name}");
         assert_eq!(sheet.calendars.len(), if case.kind == Kind::Mix { 15 } else { 1 }, "{name}");
         assert_eq!(sheet.calendars[0].week.len(), if case.kind == Kind::ManyHours { 56 } else { 10 }, "{name}");
-        let long = sheet.activities.iter().all(|a| a.id % (1 << SHARED_BITS) == 1);
+        let long = sheet.activities.iter().all(|a| a.id % (1 << shared_bits(sheet.activities.len())) == 1);
         assert_eq!(long, case.kind == Kind::LongIds, "{name}");
         let verdict = answer(&bytes);
         assert!(verdict.answer.number() == 0 && verdict.agrees, "{name}");

@@ -238,12 +238,16 @@ fn date(s: &mut Sheet) {
     }
 }
 
-/// How many of their lowest bits the ids share: the index of `ids` goes by bits, from the lowest on.
-pub const SHARED_BITS: u32 = 20;
+/// How many of their lowest bits so many ids share: as many as can be, with one of the highest for each doubling.
+pub fn shared_bits(count: usize) -> u32 {
+    u32::BITS - count.ilog2()
+}
 
-/// As many ids as there may be activities differ in their highest bits alone.
+/// Ids that differ in their highest bits alone. Their number is a power of two, so they share their remainder by it and stand in
+/// one tree of the index of `ids`, and the bits that lead to them differ last.
 fn long_ids(s: &mut Sheet) {
-    let renamed = |id: u32| (((id - FIRST_ID) / ID_STEP) << SHARED_BITS) + 1;
+    let bits = shared_bits(s.activities.len());
+    let renamed = |id: u32| (((id - FIRST_ID) / ID_STEP) << bits) + 1;
     s.activities.iter_mut().for_each(|a| a.id = renamed(a.id));
     s.links.iter_mut().for_each(|l| (l.predecessor, l.successor) = (renamed(l.predecessor), renamed(l.successor)));
 }
