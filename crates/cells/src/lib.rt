@@ -1,4 +1,6 @@
 // Lent memory: cells of a slice of i64, each read and written as a natural number or as itself.
+#![tactic(auto)]
+
 ghost use Rattle.std.specs.Prelude.{◌≡◌, ℕ, ◌+◌, ◌^◌, ◌≤◌, ◌<◌, pos, length, replicate};
 ghost use Rattle.cells.specs.Cell.{cell, store, cell_z, store_z, filled};
 

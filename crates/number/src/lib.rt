@@ -1,4 +1,6 @@
 // Numbers: little-endian reads and signed arithmetic.
+#![tactic(auto)]
+
 ghost use Rattle.std.specs.Prelude.{◌≡◌, ℕ, ◌+◌, ◌^◌, ◌≤◌, ◌<◌, length};
 ghost use Rattle.number.specs.Bytes.{byte_at, u16_at, u32_at, signed32, i32_at, biased_at};
 
