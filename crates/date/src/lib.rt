@@ -1,4 +1,6 @@
 // Civil dates of the proleptic Gregorian calendar, as a count of days from 1 January 1970.
+#![tactic(auto)]
+
 ghost use Rattle.std.specs.Prelude.{◌≡◌, ℕ, ◌+◌, ◌*◌, ◌/◌, ◌^◌, ◌≤◌, ◌<◌};
 ghost use Rattle.number.specs.Zed.{up, dn};
 ghost use Rattle.date.specs.Years.{in_years};

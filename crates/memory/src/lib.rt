@@ -1,5 +1,7 @@
 // The lent work memory: two tables, of 64 fields of each activity and, after them, 16 of each link, laid out field by field, since a pass reads few fields of many rows;
 // but eight fields of a result, which are written and read together, row by row.
+#![tactic(auto)]
+
 ghost use Rattle.std.specs.Prelude.{◌≡◌, ◌≢◌, ℕ, ◌+◌, ◌*◌, ◌^◌, ◌≤◌, ◌<◌, length};
 ghost use Rattle.memory.specs.State.{Room, place, state_of, put_act, put_act_z, put_link, put_link_z, fill_act};
 ghost use Rattle.memory.specs.Chains.{linked, linked_from, with_chains, Chains};

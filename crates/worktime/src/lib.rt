@@ -1,4 +1,5 @@
 // The clock's answers: a time, a count of worked minutes or a test, or the number of the refusal.
+#![tactic(auto)]
 
 // A time, in minutes from the first day that an i32 can name.
 #[derive(Drop)]

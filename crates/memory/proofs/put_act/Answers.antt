@@ -1,0 +1,17 @@
+-- `memory::put_act` meets its contract.
+use borrow.Author.Rules.{rules}
+use mathlib.Core.Path.{ap, ◌∙◌}
+use Prim.Native.Nat.{ℕ}
+use native.Mathlib.Omega.{arith}
+use lib.IntN.{pos}
+use Rattle.cells.specs.Cell.{store_z}
+use Rattle.cells.specs.CellLaws.{store_pos}
+use Rattle.memory.specs.State.{state_of}
+use Rattle.memory.specs.StateLaws.{state_put_act}
+use Rattle.memory.proofs.put_act.Goals as goal
+
+pub returns : goal.returns
+returns c =
+    let x = c.args in
+    let e = c.place.ensures.0 in
+    (ap (state_of x.a x.l) (c.put.ensures ∙ store_pos _ _ _ ∙ ap (λ (k : ℕ). store_z x.work.now k (pos x.v)) e) ∙ state_put_act x.a x.l x.work.now (omega arith) x.f x.i (pos x.v) (omega arith) (omega arith), omega arith)
