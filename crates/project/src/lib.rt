@@ -1,4 +1,6 @@
 // The types that the scheduling run reads, and what it asks of an activity and of a constraint.
+#![tactic(auto)]
+
 ghost use Rattle.std.specs.Prelude.{◌≡◌};
 ghost use Rattle.project.specs.Status.{is_milestone, on_start, bounds_start, status_of};
 

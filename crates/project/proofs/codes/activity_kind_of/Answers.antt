@@ -1,0 +1,16 @@
+-- `project::codes::activity_kind_of` meets its contract.
+use borrow.Author.Tests.{ne_eqb}
+use Rattle.project.specs.Records.{activity_kind_of}
+use Rattle.project.proofs.codes.activity_kind_of.Goals as goal
+
+pub returns-in-0 : goal.returns-in-0
+unfolding activity_kind_of
+returns-in-0 c = rw c.in-0.is
+
+pub returns-in-1 : goal.returns-in-1
+unfolding activity_kind_of
+returns-in-1 c = rw c.in-1.is
+
+pub returns-in_default : goal.returns-in_default
+unfolding activity_kind_of
+returns-in_default c = simp (ne_eqb c.args.code 0 c.in_default.in_default-own.rest.0.1, ne_eqb c.args.code 1 c.in_default.in_default-own.rest.1)

@@ -1,0 +1,16 @@
+-- `project::status_of` meets its contract.
+use borrow.Author.Rules.{rules}
+use Rattle.project.specs.Status.{status_of}
+use Rattle.project.proofs.status_of.Goals as goal
+
+pub returns-in_default : goal.returns-in_default
+unfolding status_of
+returns-in_default c = rw c.in_default.is
+
+pub returns-in_default-actual_start : goal.returns-in_default-actual_start
+unfolding status_of
+returns-in_default-actual_start c = rw (c.in-Absent.is, c.in_default-actual_start.is)
+
+pub returns : goal.returns
+unfolding status_of
+returns c = rw (c.in-Absent.is, c.in-Absent-actual_start.is)
