@@ -11,7 +11,7 @@ use calendar::Period;
 use sheet::{Contents, Place};
 
 // A calendar's E records: `n` from the byte `at` of the sheet on.
-#[derive(Drop)]
+#[derive(Clone, Copy)]
 pub struct Exceptions {
     pub at: usize,
     pub n: usize,

@@ -25,7 +25,7 @@ use memory::fields;
 use sheet::Contents;
 
 // The answer: how many links are kept and how many ignored, and how many open ends there are; or a row's number and its id.
-#[derive(Drop)]
+#[derive(Clone, Copy)]
 pub enum Checked {
     Fine(usize, usize, u64),
     Refused(u64, u64),

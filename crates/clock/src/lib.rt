@@ -342,7 +342,7 @@ pub fn worked_before(week: [[Period; 8]; 7], sheet: &[u8], at: usize, n: usize, 
 }
 
 // The minutes of days in a row, and the first E record whose day is after them.
-#[derive(Drop)]
+#[derive(Clone, Copy)]
 struct Days {
     minutes: u64,
     to: usize,

@@ -8,7 +8,7 @@ ghost use Rattle.clock.specs.Regular.{Sums, Rising, regular};
 ghost use Rattle.clock.specs.Stands.{record_work, Ahead, Behind};
 
 // Where a walk stands between two E records: the first that comes after, the minutes passed, those of all days up to there by their weekdays, and the minutes to pass up to the record that is next on its way.
-#[derive(Drop)]
+#[derive(Clone, Copy)]
 pub struct Standing {
     pub at: usize,
     pub passed: u64,

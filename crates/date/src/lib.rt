@@ -10,11 +10,11 @@ ghost use Rattle.date.specs.Days.{biased, from_days, weekday, midnight, signed_d
 mod civil;
 
 // A day, counted from 1 January 1970 (negative before it).
-#[derive(Drop)]
+#[derive(Clone, Copy)]
 pub struct Date(pub i32);
 
 // A date as the calendar has it: the month from 1 on, and the day of the month.
-#[derive(Drop)]
+#[derive(Clone, Copy)]
 pub struct Ymd {
     pub year: i32,
     pub month: u32,
@@ -22,7 +22,7 @@ pub struct Ymd {
 }
 
 // The date of a day, if its year is one that a date may lie in.
-#[derive(Drop)]
+#[derive(Clone, Copy)]
 pub enum FromDays {
     Is(Date),
     OutOfRange,

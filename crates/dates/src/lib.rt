@@ -16,7 +16,7 @@ use sheet::Contents;
 use worktime::Walk;
 
 // A kept link: the activities at its ends, its type, and its lag in minutes of a calendar.
-#[derive(Drop)]
+#[derive(Clone, Copy)]
 pub struct Tie {
     pub from: usize,
     pub to: usize,
@@ -26,7 +26,7 @@ pub struct Tie {
 }
 
 // How a pass ends: all of it is done, or a walk was refused.
-#[derive(Drop)]
+#[derive(Clone, Copy)]
 pub enum Step {
     Done,
     Refused(u64),

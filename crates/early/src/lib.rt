@@ -19,7 +19,7 @@ use sheet::Contents;
 use worktime::{Walk, Work};
 
 // What the pass reads of the project.
-#[derive(Drop)]
+#[derive(Clone, Copy)]
 pub struct Times {
     pub origin: u64,
     pub floor: u64,
@@ -28,7 +28,7 @@ pub struct Times {
 }
 
 // An activity's early start, early finish and minutes of work left, or the refusal of a walk.
-#[derive(Drop)]
+#[derive(Clone, Copy)]
 pub enum Placement {
     At(u64, u64, u64),
     Refused(u64),

@@ -28,7 +28,7 @@ use sheet::Contents;
 use worktime::{Walk, Work};
 
 // Where a held late move puts an activity: its new start and finish.
-#[derive(Drop)]
+#[derive(Clone, Copy)]
 enum Moved {
     To(u64, u64),
     Refused(u64),

@@ -20,14 +20,14 @@ use sheet::Contents;
 pub mod fields;
 
 // The answer of a check of rows 6 to 10: fine, or the row's number and its id.
-#[derive(Drop)]
+#[derive(Clone, Copy)]
 pub enum Check {
     Fine,
     Refused(u64, u64),
 }
 
 // The answer of rows 11 and 12: fine, the id of a milestone that is a parent, or the first activity of a loop of parents and its steps.
-#[derive(Drop)]
+#[derive(Clone, Copy)]
 pub enum SummaryCheck {
     Fine,
     Milestone(u64),
@@ -87,7 +87,7 @@ fn judge_activity(sheet: &[u8], contents: Contents, work: &[i64], i: usize) -> C
 }
 
 // Where an activity comes in: as a child, at its parent's row, or as the root of a tree, at the tree's row; and the field of that row.
-#[derive(Drop)]
+#[derive(Clone, Copy)]
 struct Vacancy {
     parent: usize,
     side: usize,

@@ -23,7 +23,7 @@ pub mod limits;
 pub mod links;
 
 // An activity that is not completed: where its calendar's E records stand, its minutes of work left, and the project's start.
-#[derive(Drop)]
+#[derive(Clone, Copy)]
 pub struct Unfinished {
     pub activity: Activity,
     pub at: usize,
@@ -33,7 +33,7 @@ pub struct Unfinished {
 }
 
 // A late start and a late finish.
-#[derive(Drop)]
+#[derive(Clone, Copy)]
 pub enum LateDates {
     Dates(u64, u64),
     Refused(u64),

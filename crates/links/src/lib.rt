@@ -19,7 +19,7 @@ use sheet::Contents;
 use ties::LinkCheck;
 
 // The answer for one link: the row that refuses it and its id, or ignored, or kept.
-#[derive(Drop)]
+#[derive(Clone, Copy)]
 pub enum LinkStep {
     Refused(u64, u64),
     Ignored,
@@ -27,7 +27,7 @@ pub enum LinkStep {
 }
 
 // The answer for all links: the first refusal, or how many are kept and how many ignored.
-#[derive(Drop)]
+#[derive(Clone, Copy)]
 pub enum Linked {
     Refused(u64, u64),
     Linked(usize, usize),

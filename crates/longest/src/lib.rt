@@ -21,7 +21,7 @@ use sheet::Contents;
 use worktime::Walk;
 
 // Whether a link sets the start of its successor.
-#[derive(Drop)]
+#[derive(Clone, Copy)]
 pub enum Driving {
     Sets,
     Leaves,

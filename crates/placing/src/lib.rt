@@ -12,7 +12,7 @@ use worktime::Walk;
 pub mod dates;
 
 // What is recorded of an activity's work: the minutes of its start and finish.
-#[derive(Drop)]
+#[derive(Clone, Copy)]
 pub enum Actual {
     Unstarted,
     Begun(u64),
@@ -21,7 +21,7 @@ pub enum Actual {
 }
 
 // The time of a constraint, if it has one.
-#[derive(Drop)]
+#[derive(Clone, Copy)]
 pub enum Moment {
     At(u64),
     Nowhere,

@@ -11,7 +11,7 @@ pub mod fields;
 pub mod records;
 
 // What an activity is, as far as scheduling cares.
-#[derive(Drop)]
+#[derive(Clone, Copy)]
 pub enum ActivityKind {
     Task,
     StartMilestone,
@@ -19,7 +19,7 @@ pub enum ActivityKind {
 }
 
 // A date that an activity is held to, beyond its links.
-#[derive(Drop)]
+#[derive(Clone, Copy)]
 pub enum Constraint {
     Unconstrained,
     StartOnOrAfter(Date),
@@ -34,20 +34,20 @@ pub enum Constraint {
 }
 
 // A day that a record may leave out.
-#[derive(Drop)]
+#[derive(Clone, Copy)]
 pub enum OptionalDate {
     On(Date),
     Absent,
 }
 
 // Minutes of work left that a record may leave out.
-#[derive(Drop)]
+#[derive(Clone, Copy)]
 pub enum Remaining {
     Minutes(i32),
     Absent,
 }
 
-#[derive(Drop)]
+#[derive(Clone, Copy)]
 pub struct Activity {
     pub id: u32,
     pub kind: ActivityKind,
@@ -64,7 +64,7 @@ pub struct Activity {
 }
 
 // Which ends a link ties.
-#[derive(Drop)]
+#[derive(Clone, Copy)]
 pub enum RelationshipType {
     FinishToStart,
     StartToStart,
@@ -73,7 +73,7 @@ pub enum RelationshipType {
 }
 
 // How a link's lag counts: working time on the lag calendar, elapsed time, or a share of the predecessor's minutes in hundredths of one percent.
-#[derive(Drop)]
+#[derive(Clone, Copy)]
 pub enum LagKind {
     WorkingDays(i32),
     WorkingMinutes(i32),
@@ -82,7 +82,7 @@ pub enum LagKind {
     Percent(i32),
 }
 
-#[derive(Drop)]
+#[derive(Clone, Copy)]
 pub struct Relationship {
     pub predecessor: u32,
     pub successor: u32,
@@ -91,7 +91,7 @@ pub struct Relationship {
 }
 
 // The calendar that a working lag counts on.
-#[derive(Drop)]
+#[derive(Clone, Copy)]
 pub enum LagCalendar {
     Predecessor,
     Successor,
@@ -100,7 +100,7 @@ pub enum LagCalendar {
 }
 
 // How total float is measured.
-#[derive(Drop)]
+#[derive(Clone, Copy)]
 pub enum FloatKind {
     Finish,
     Start,
@@ -108,21 +108,21 @@ pub enum FloatKind {
 }
 
 // How the work left of an activity under way is scheduled.
-#[derive(Drop)]
+#[derive(Clone, Copy)]
 pub enum ProgressMode {
     RetainedLogic,
     ProgressOverride,
 }
 
 // What makes an activity critical: total float at or below so many days, or the longest path.
-#[derive(Drop)]
+#[derive(Clone, Copy)]
 pub enum CriticalBy {
     TotalFloat(i32),
     LongestPath,
 }
 
 // The sheet's P record.
-#[derive(Drop)]
+#[derive(Clone, Copy)]
 pub struct Project {
     pub start: Date,
     pub data_date: OptionalDate,
@@ -134,7 +134,7 @@ pub struct Project {
 }
 
 // Which end of an activity a constraint bounds, and on which day.
-#[derive(Drop)]
+#[derive(Clone, Copy)]
 pub enum End {
     Start(Date),
     Finish(Date),
@@ -142,7 +142,7 @@ pub enum End {
 }
 
 // How far an activity's work has come, by its recorded days.
-#[derive(Drop)]
+#[derive(Clone, Copy)]
 pub enum Status {
     NotStarted,
     InProgress,

@@ -22,7 +22,7 @@ use sheet::Contents;
 use worktime::Work;
 
 // Days counted from the first that an i32 can name, floats in minutes, and for the roll-up the early and the late finish.
-#[derive(Drop)]
+#[derive(Clone, Copy)]
 pub struct Shown {
     pub es: u64,
     pub ef: u64,
@@ -37,14 +37,14 @@ pub struct Shown {
 }
 
 // What is shown of an activity, or the refusal of a walk.
-#[derive(Drop)]
+#[derive(Clone, Copy)]
 pub enum Showing {
     Is(Shown),
     Refused(u64),
 }
 
 // What the passes leave of an activity.
-#[derive(Drop)]
+#[derive(Clone, Copy)]
 pub struct Times {
     pub es: u64,
     pub ef: u64,
@@ -56,7 +56,7 @@ pub struct Times {
 }
 
 // The days that are shown.
-#[derive(Drop)]
+#[derive(Clone, Copy)]
 pub struct Days {
     pub es: u64,
     pub ef: u64,

@@ -15,7 +15,7 @@ use sheet::Contents;
 use worktime::Walk;
 
 // The late dates by the end of the project, or the refusal of a walk.
-#[derive(Drop)]
+#[derive(Clone, Copy)]
 pub enum Late {
     Refused(u64),
     By(u64),

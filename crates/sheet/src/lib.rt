@@ -8,21 +8,21 @@ ghost use Rattle.sheet.specs.Known.{CalendarRead};
 pub mod runs;
 
 // How many records of one kind stand in a row, or the refusal of one of them.
-#[derive(Drop)]
+#[derive(Clone, Copy)]
 pub enum Run {
     Count(usize),
     Refused(u64),
 }
 
 // How many calendars there are, and where they end; or a refusal.
-#[derive(Drop)]
+#[derive(Clone, Copy)]
 pub enum Calendars {
     Ended(usize, usize),
     Refused(u64),
 }
 
 // What a sheet holds: its calendars, where its activities begin, and how many activities and links there are.
-#[derive(Drop)]
+#[derive(Clone, Copy)]
 pub struct Contents {
     pub calendars: usize,
     pub at: usize,
@@ -31,7 +31,7 @@ pub struct Contents {
 }
 
 // Where a calendar's records stand: how many W it has, where its E begin and how many there are, and where it ends.
-#[derive(Drop)]
+#[derive(Clone, Copy)]
 pub struct Place {
     pub weeks: usize,
     pub at: usize,
@@ -39,7 +39,7 @@ pub struct Place {
     pub next: usize,
 }
 
-#[derive(Drop)]
+#[derive(Clone, Copy)]
 pub enum Sheet {
     Read(Contents),
     Refused(u64),

@@ -4,7 +4,7 @@ ghost use Rattle.std.specs.Prelude.{◌+◌, ◌≤◌, length};
 use libc::STDOUT_FILENO;
 
 // Where the next sheet of the file begins, and how long this one is.
-#[derive(Drop)]
+#[derive(Clone, Copy)]
 struct Built {
     next: usize,
     size: usize,

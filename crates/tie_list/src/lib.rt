@@ -4,7 +4,7 @@ ghost use Rattle.network.specs.Kahn.{into};
 ghost use Rattle.tie_list.specs.Tied.{links_of, one_more};
 
 // A link from one activity to another, each by its number.
-#[derive(Drop)]
+#[derive(Clone, Copy)]
 pub struct Tie {
     pub from: usize,
     pub to: usize,

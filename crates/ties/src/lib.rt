@@ -20,14 +20,14 @@ pub mod fields;
 pub mod lags;
 
 // The ends of a link by the activities' numbers, or the row that refuses it and its id.
-#[derive(Drop)]
+#[derive(Clone, Copy)]
 pub enum Ends {
     Refused(u64, u64),
     Known(usize, usize),
 }
 
 // The answer of rows 13, 14 and 8 for a link: the row that refuses it and its id, or ignored, or kept with its ends.
-#[derive(Drop)]
+#[derive(Clone, Copy)]
 pub enum LinkCheck {
     Refused(u64, u64),
     Ignored,

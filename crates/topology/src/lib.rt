@@ -196,7 +196,7 @@ fn step_back(work: &mut [i64], a: usize, l: usize, t: usize, m: usize, x: usize)
 }
 
 // Where the loop stands in the path.
-#[derive(Drop)]
+#[derive(Clone, Copy)]
 struct Way {
     from: usize,
     end: usize,
