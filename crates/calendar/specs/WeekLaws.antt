@@ -195,12 +195,12 @@ whole_held m l = held_here (record { from = 0; to = 1440 }) (replicate 7 none) m
 
 pub whole_ordered : Ordered 0 whole_day
 whole_ordered =
-    let e : (a : ℕ) (n : ℕ) → Ordered a (replicate n none) = empty in
-    (omega arith, λ l. (omega arith, omega arith), e _ 7)
+    let e : (n : ℕ) (a : ℕ) → Ordered a (replicate n none) = empty in
+    (omega arith, λ l. (omega arith, omega arith), e 7 _)
   where
-    empty : (a : ℕ) (n : ℕ) → Ordered a (replicate n none)
-    empty a zero = tt
-    empty a (suc n) = (omega arith, λ l. absurd (omega arith), empty _ n)
+    empty : (n : ℕ) (a : ℕ) → Ordered a (replicate n none)
+    empty zero a = tt
+    empty (suc n) a = (omega arith, λ l. absurd (omega arith), empty n _)
 
 pub clock_held : (d m : ℕ) → m < 1440 → held (get_or round_the_clock (weekday d) []) m ≡ true
 clock_held d m l = rw (clock_row (weekday d) (omega arith)) (whole_held m l)

@@ -1,10 +1,12 @@
 // A work calendar: the periods worked on each day of the week, and the days that have periods of their own.
+#![tactic(auto)]
+
 ghost use Rattle.std.specs.Prelude.{◌≡◌, List, ℕ, ◌+◌, ◌-◌, ◌*◌, ◌^◌, min, max, ◌≤◌, ◌<◌, length, get_or};
 ghost use Rattle.calendar.specs.Hours.{none, rank, select, next_in, works, Ordered};
 ghost use Rattle.calendar.specs.Records.{week_periods, week_period_at, pad, week_of, round_the_clock, weekly_hours, exception_day, exception_period, hours_on, Valid, periods_of, Within, FirstFrom, Listed, InHand};
 
 // A work period within a day: from and to, in minutes after midnight.
-#[derive(Drop)]
+#[derive(Clone, Copy)]
 pub struct Period {
     pub from: u16,
     pub to: u16,
@@ -20,7 +22,7 @@ const MANY_RECORDS: usize = 65536;
 const NEAR: usize = 8;
 
 // The hours of a day: its weekday's row, or where its `n` E records stand if it has any.
-#[derive(Drop)]
+#[derive(Clone, Copy)]
 pub struct Hours {
     pub row: [Period; 8],
     pub at: usize,
@@ -28,7 +30,7 @@ pub struct Hours {
 }
 
 // A minute of the day, if there is one.
-#[derive(Drop)]
+#[derive(Clone, Copy)]
 pub enum Found {
     At(u64),
     Nothing,
