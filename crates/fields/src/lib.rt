@@ -1,4 +1,6 @@
 // The tests of one record's fields: 3 of 01's table is given where one of them fails.
+#![tactic(auto)]
+
 ghost use Rattle.std.specs.Prelude.{◌≡◌, ◌+◌, ◌≤◌, ◌<◌, leb, length};
 ghost use Rattle.number.specs.Bytes.{byte_at, biased_at};
 ghost use Rattle.fields.specs.Parts.{header_days, activity_codes, activity_dates};

@@ -1,4 +1,6 @@
 // The judges of one record: 4 or 3 of 01's table for one that is in its place and whole, 0 where it may stand.
+#![tactic(auto)]
+
 ghost use Rattle.std.specs.Prelude.{◌≡◌, ◌+◌, ◌*◌, ◌≤◌, length};
 ghost use Rattle.calendar.specs.Records.{week_periods};
 ghost use Rattle.project.specs.Fields.{calendar_size};
