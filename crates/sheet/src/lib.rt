@@ -1,4 +1,6 @@
 // Reading the sheet: rows 2, 3 and 4 of 01's table, and where every record stands.
+#![tactic(auto)]
+
 ghost use Rattle.std.specs.Prelude.{◌≡◌, suc, ◌+◌, ◌*◌, ◌≤◌, ◌<◌, length};
 ghost use Rattle.project.specs.Fields.{header_size, calendar_size, activity_size};
 ghost use Rattle.sheet.specs.Reading.{calendars_from, after_links, after_activities, links_from, activities_from, read_sheet};
