@@ -1,4 +1,6 @@
 // Activities by their ids, through an index in the lent memory, and rows 6 to 12 of 01's table.
+#![tactic(auto)]
+
 ghost use Rattle.std.specs.Prelude.{◌≡◌, ◌&&◌, ℕ, ◌+◌, ◌≤◌, ◌<◌, length};
 ghost use Rattle.order.specs.Plan.{plan_of};
 ghost use Rattle.order.specs.IdLaws.{DistinctIds};

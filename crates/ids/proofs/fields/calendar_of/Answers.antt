@@ -1,0 +1,8 @@
+-- `ids::fields::calendar_of` meets its contract.
+use borrow.Author.Rules.{rules}
+use Rattle.order.specs.Plan.{plan_of}
+use Rattle.ids.proofs.fields.calendar_of.Goals as goal
+
+pub returns : goal.returns
+unfolding plan_of
+returns c = c.read_calendar.ensures

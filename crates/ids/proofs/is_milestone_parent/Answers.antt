@@ -1,0 +1,26 @@
+-- `ids::is_milestone_parent` meets its contract.
+use borrow.Author.Rules.{rules}
+use mathlib.Core.Path.{ap, ◌∙◌}
+use native.Mathlib.Omega.{arith}
+use Rattle.project.specs.Status.{is_milestone}
+use Rattle.order.specs.Plan.{plan_of}
+use Rattle.ids.specs.Lent.{state_in}
+use Rattle.ids.specs.SummaryLaws.{no_summary, summary_kind}
+use Rattle.ids.proofs.is_milestone_parent.Goals as goal
+
+pub returns-then-get_act-eq0 : goal.returns-then-get_act-eq0
+unfolding plan_of
+returns-then-get_act-eq0 c =
+    let x = c.args in
+    let p = plan_of x.sheet.now x.contents in
+    let S = state_in x.contents x.work.now in
+    no_summary p S c.requires.2 x.i (omega arith) _ c.get_act.ensures.0 c.if-get_act-eq0.true
+
+pub returns : goal.returns
+unfolding plan_of
+returns c =
+    let x = c.args in
+    let p = plan_of x.sheet.now x.contents in
+    let S = state_in x.contents x.work.now in
+    c.is_milestone.ensures ∙ ap is_milestone c.kind_of.ensures
+    ∙ summary_kind p S c.requires.2 x.i (omega arith) _ c.get_act.ensures.0 c.if-get_act-eq0.false
