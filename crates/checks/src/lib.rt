@@ -36,7 +36,7 @@ fn name_one(sheet: &[u8], contents: Contents, names: &mut [u32], k: usize, i: us
     requires { SheetRead sheet.now contents × (i < contents.activities) × (k < length names.old) }
     ensures { names.new ≡ set names.old k (id_of (plan_of sheet.now contents) i) }
 {
-    names[k] = ids::fields::id_of(sheet, contents, i) as u32;
+    names[k] = ids::activity_fields::id_of(sheet, contents, i) as u32;
 }
 
 // Row 12's names: the ids from activity `first` so many steps upward, which lead back to it, then zeros.

@@ -19,7 +19,7 @@ ghost use Rattle.ids.specs.Summaries.{SummaryAnswered};
 
 use sheet::Contents;
 
-pub mod fields;
+pub mod activity_fields;
 
 // The answer of a check of rows 6 to 10: fine, or the row's number and its id.
 #[derive(Clone, Copy)]
@@ -54,7 +54,7 @@ pub fn find(sheet: &[u8], contents: Contents, work: &[i64], n: usize, id: u64) -
     let mut j = first - 1;
     let mut rest = id / a as u64;
     loop {
-        if fields::id_of(sheet, contents, j) == id {
+        if activity_fields::id_of(sheet, contents, j) == id {
             return j;
         }
         let k = memory::get_act(work, a, l, j, rest as usize % 2) as usize;
@@ -71,18 +71,18 @@ fn judge_activity(sheet: &[u8], contents: Contents, work: &[i64], i: usize) -> C
     requires { Lent sheet.now contents work.now × (i < contents.activities) × Indexed (plan_of sheet.now contents) (state_in contents work.now) i }
     ensures { Answered result (judge_activity (plan_of sheet.now contents) i) }
 {
-    let id = fields::id_of(sheet, contents, i);
+    let id = activity_fields::id_of(sheet, contents, i);
     if find(sheet, contents, work, i, id) < contents.activities {
         return Check::Refused(6, id);
     }
-    let minutes = fields::minutes_of(sheet, contents, i);
+    let minutes = activity_fields::minutes_of(sheet, contents, i);
     if minutes < 0 {
         return Check::Refused(7, id);
     }
     if minutes > 48_000_000 {
         return Check::Refused(8, 0);
     }
-    if fields::calendar_of(sheet, contents, i) >= contents.calendars as u64 {
+    if activity_fields::calendar_of(sheet, contents, i) >= contents.calendars as u64 {
         return Check::Refused(9, id);
     }
     Check::Fine
@@ -102,7 +102,7 @@ fn vacancy_for(sheet: &[u8], contents: Contents, work: &[i64], i: usize) -> Vaca
 {
     let a = contents.activities;
     let l = contents.links;
-    let id = fields::id_of(sheet, contents, i);
+    let id = activity_fields::id_of(sheet, contents, i);
     let tree = id as usize % a;
     let first = memory::get_act(work, a, l, tree, memory::fields::ROOT) as usize;
     if first == 0 {
@@ -199,14 +199,14 @@ fn parent_one(sheet: &[u8], contents: Contents, work: &mut [i64], i: usize) -> C
 {
     let a = contents.activities;
     let l = contents.links;
-    let id = fields::parent_of(sheet, contents, i);
+    let id = activity_fields::parent_of(sheet, contents, i);
     if id == 0 {
         memory::put_act(work, a, l, i, memory::fields::PARENT, 0);
         return Check::Fine;
     }
     let j = find(sheet, contents, work, a, id);
     if j == a {
-        return Check::Refused(10, fields::id_of(sheet, contents, i));
+        return Check::Refused(10, activity_fields::id_of(sheet, contents, i));
     }
     memory::put_act(work, a, l, i, memory::fields::PARENT, j as u64 + 1);
     memory::put_act(work, a, l, j, memory::fields::IS_SUMMARY, 1);
@@ -278,7 +278,7 @@ fn is_milestone_parent(sheet: &[u8], contents: Contents, work: &[i64], i: usize)
     if memory::get_act(work, a, l, i, memory::fields::IS_SUMMARY) == 0 {
         return false;
     }
-    project::is_milestone(fields::kind_of(sheet, contents, i))
+    project::is_milestone(activity_fields::kind_of(sheet, contents, i))
 }
 
 // Rows 11 and 12 for activity `i`.
@@ -287,7 +287,7 @@ fn summary_one(sheet: &[u8], contents: Contents, work: &[i64], i: usize) -> Summ
     ensures { SummaryAnswered (plan_of sheet.now contents) result (judge_summary (plan_of sheet.now contents) i) }
 {
     if is_milestone_parent(sheet, contents, work, i) {
-        return SummaryCheck::Milestone(fields::id_of(sheet, contents, i));
+        return SummaryCheck::Milestone(activity_fields::id_of(sheet, contents, i));
     }
     let a = contents.activities;
     let l = contents.links;

@@ -54,8 +54,8 @@ fn tie_lag(
     requires { SheetRead sheet.now contents × (k < contents.links) × ActivitiesFine (plan_of sheet.now contents) × Lengths (plan_of sheet.now contents) lengths.now × Between (plan_of sheet.now contents) k from to × (tie_too_long (plan_of sheet.now contents) k ≡ false) × (calendar ≡ tie_calendar (plan_of sheet.now contents) k) × (calendar ≤ contents.calendars) }
     ensures { result ≡ (tie_of (plan_of sheet.now contents) k).lag }
 {
-    let lag = ties::fields::lag_of(sheet, contents, k);
-    let minutes = ids::fields::minutes_of(sheet, contents, from);
+    let lag = ties::link_fields::lag_of(sheet, contents, k);
+    let minutes = ids::activity_fields::minutes_of(sheet, contents, from);
     ties::lags::lag_minutes(lag, lengths[calendar as usize], minutes as i64)
 }
 

@@ -16,7 +16,7 @@ ghost use Rattle.ties.specs.Checked.{LinkAnswered};
 
 use sheet::Contents;
 
-pub mod fields;
+pub mod link_fields;
 pub mod lags;
 
 // The ends of a link by the activities' numbers, or the row that refuses it and its id.
@@ -40,12 +40,12 @@ pub fn link_ends(sheet: &[u8], contents: Contents, work: &[i64], k: usize) -> En
     ensures { EndsOf (plan_of sheet.now contents) k result }
 {
     let a = contents.activities;
-    let pred = fields::predecessor_of(sheet, contents, k);
+    let pred = link_fields::predecessor_of(sheet, contents, k);
     let from = ids::find(sheet, contents, work, a, pred);
     if from == a {
         return Ends::Refused(13, pred);
     }
-    let succ = fields::successor_of(sheet, contents, k);
+    let succ = link_fields::successor_of(sheet, contents, k);
     let to = ids::find(sheet, contents, work, a, succ);
     if to == a {
         return Ends::Refused(13, succ);
@@ -72,10 +72,10 @@ pub fn tie_calendar(sheet: &[u8], contents: Contents, k: usize, from: usize, to:
     requires { SheetRead sheet.now contents × (k < contents.links) × ActivitiesFine (plan_of sheet.now contents) × Between (plan_of sheet.now contents) k from to }
     ensures { (result ≡ tie_calendar (plan_of sheet.now contents) k) × (result ≤ contents.calendars) }
 {
-    let by = fields::lag_calendar_of(sheet, contents);
-    let pred = ids::fields::calendar_of(sheet, contents, from);
-    let succ = ids::fields::calendar_of(sheet, contents, to);
-    let lag = fields::lag_of(sheet, contents, k);
+    let by = link_fields::lag_calendar_of(sheet, contents);
+    let pred = ids::activity_fields::calendar_of(sheet, contents, from);
+    let succ = ids::activity_fields::calendar_of(sheet, contents, to);
+    let lag = link_fields::lag_of(sheet, contents, k);
     lags::lag_calendar(lag, by, pred, succ, contents.calendars as u64)
 }
 
@@ -92,8 +92,8 @@ pub fn is_tie_too_long(
     ensures { result ≡ tie_too_long (plan_of sheet.now contents) k }
 {
     let calendar = tie_calendar(sheet, contents, k, from, to);
-    let lag = fields::lag_of(sheet, contents, k);
-    let minutes = ids::fields::minutes_of(sheet, contents, from);
+    let lag = link_fields::lag_of(sheet, contents, k);
+    let minutes = ids::activity_fields::minutes_of(sheet, contents, from);
     lags::is_lag_too_long(lag, lengths[calendar as usize], minutes as i64)
 }
 

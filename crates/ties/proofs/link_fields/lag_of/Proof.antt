@@ -1,8 +1,8 @@
--- `ties::fields::lag_of` meets its contract.
+-- `ties::link_fields::lag_of` meets its contract.
 use borrow.Author.Rules.{rules}
 use Rattle.order.specs.Plan.{plan_of}
-use Rattle.ties.proofs.fields.lag_of.Statement.{statement}
-use Rattle.ties.proofs.fields.lag_of.Tie as tie
+use Rattle.ties.proofs.link_fields.lag_of.Statement.{statement}
+use Rattle.ties.proofs.link_fields.lag_of.Tie as tie
 
 mul-read-lag : tie.Need-overflow-mul-read-lag
 mul-read-lag c = search rules

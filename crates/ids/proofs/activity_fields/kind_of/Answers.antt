@@ -1,7 +1,7 @@
--- `ids::fields::kind_of` meets its contract.
+-- `ids::activity_fields::kind_of` meets its contract.
 use borrow.Author.Rules.{rules}
 use Rattle.order.specs.Plan.{plan_of}
-use Rattle.ids.proofs.fields.kind_of.Goals as goal
+use Rattle.ids.proofs.activity_fields.kind_of.Goals as goal
 
 pub returns : goal.returns
 unfolding plan_of

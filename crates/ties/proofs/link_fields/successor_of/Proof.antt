@@ -1,8 +1,8 @@
--- `ties::fields::successor_of` meets its contract.
+-- `ties::link_fields::successor_of` meets its contract.
 use borrow.Author.Rules.{rules}
 use Rattle.order.specs.Plan.{plan_of}
-use Rattle.ties.proofs.fields.successor_of.Statement.{statement}
-use Rattle.ties.proofs.fields.successor_of.Tie as tie
+use Rattle.ties.proofs.link_fields.successor_of.Statement.{statement}
+use Rattle.ties.proofs.link_fields.successor_of.Tie as tie
 
 mul-read-successor : tie.Need-overflow-mul-read-successor
 mul-read-successor c = search rules

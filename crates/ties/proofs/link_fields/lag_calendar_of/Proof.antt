@@ -1,11 +1,11 @@
--- `ties::fields::lag_calendar_of` meets its contract.
+-- `ties::link_fields::lag_calendar_of` meets its contract.
 use borrow.Author.Rules.{rules}
 use mathlib.Core.Path.{◌∙◌, ap}
 use native.Mathlib.Omega.{arith}
 use Rattle.project.specs.Records.{lag_calendar_of, project_at}
 use Rattle.order.specs.Plan.{plan_of}
-use Rattle.ties.proofs.fields.lag_calendar_of.Statement.{statement}
-use Rattle.ties.proofs.fields.lag_calendar_of.Tie as tie
+use Rattle.ties.proofs.link_fields.lag_calendar_of.Statement.{statement}
+use Rattle.ties.proofs.link_fields.lag_calendar_of.Tie as tie
 
 byte-requires : tie.Need-byte-requires
 byte-requires c κs = omega (arith, c.before.requires.header.within)

@@ -1,8 +1,8 @@
--- `ties::fields::predecessor_of` meets its contract.
+-- `ties::link_fields::predecessor_of` meets its contract.
 use borrow.Author.Rules.{rules}
 use Rattle.order.specs.Plan.{plan_of}
-use Rattle.ties.proofs.fields.predecessor_of.Statement.{statement}
-use Rattle.ties.proofs.fields.predecessor_of.Tie as tie
+use Rattle.ties.proofs.link_fields.predecessor_of.Statement.{statement}
+use Rattle.ties.proofs.link_fields.predecessor_of.Tie as tie
 
 mul-read-predecessor : tie.Need-overflow-mul-read-predecessor
 mul-read-predecessor c = search rules

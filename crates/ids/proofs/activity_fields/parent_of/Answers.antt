@@ -1,7 +1,7 @@
--- `ids::fields::parent_of` meets its contract.
+-- `ids::activity_fields::parent_of` meets its contract.
 use borrow.Author.Rules.{rules}
 use Rattle.order.specs.Plan.{plan_of}
-use Rattle.ids.proofs.fields.parent_of.Goals as goal
+use Rattle.ids.proofs.activity_fields.parent_of.Goals as goal
 
 pub returns : goal.returns
 unfolding plan_of

@@ -1,10 +1,10 @@
--- `ids::fields::minutes_of` meets its contract.
+-- `ids::activity_fields::minutes_of` meets its contract.
 use borrow.Author.Rules.{rules}
 use mathlib.Core.Path.{◌∙◌}
 use mir.Facts.{to_z-of_z}
 use mir.Syntax.{w32}
 use Rattle.order.specs.Plan.{plan_of}
-use Rattle.ids.proofs.fields.minutes_of.Goals as goal
+use Rattle.ids.proofs.activity_fields.minutes_of.Goals as goal
 
 pub returns : goal.returns
 unfolding plan_of
