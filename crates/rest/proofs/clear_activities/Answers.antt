@@ -1,5 +1,4 @@
 -- `rest::clear_activities` meets its contract: the columns between the three stretches stand.
-use borrow.Author.Rules.{rules}
 use native.Mathlib.Omega.{arith}
 use Rattle.rest.specs.ClearedLaws.{clear_at, activities_cleared}
 use Rattle.rest.proofs.clear_activities.Goals as goal

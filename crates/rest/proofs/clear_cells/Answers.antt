@@ -1,5 +1,4 @@
 -- `rest::clear_cells` meets its contract.
-use borrow.Author.Rules.{rules}
 use mathlib.Core.Path.{sym, subst}
 use mathlib.Core.List.{List}
 use native.Mathlib.Omega.{arith}

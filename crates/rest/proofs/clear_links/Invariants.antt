@@ -1,12 +1,6 @@
 -- `rest::clear_links` meets its contract: after f turns the first f columns are cleared.
-use borrow.Author.Rules.{rules}
-use mathlib.Core.Path.{◌≡◌, subst}
-use mathlib.Core.Logic.{inl}
-use Prim.Native.Nat.{ℕ, ◌+◌, ◌*◌, ◌-◌, ◌≤◌}
-use native.Mathlib.Omega.{arith}
-use Rattle.memory.specs.Columns.{column_ends}
+use Prim.Native.Nat.{◌*◌, ◌-◌, ◌≤◌}
 use Rattle.rest.specs.Stands.{of_link, ColumnsCleared}
-use Rattle.rest.specs.ClearedLaws.{clear_at, columns_stand, columns_then, column_cleared}
 use Rattle.rest.proofs.clear_links.Given as goal
 
 abbrev pub invariant-loop-f : goal.invariant-loop-f

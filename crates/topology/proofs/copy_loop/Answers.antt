@@ -1,13 +1,10 @@
 -- `topology::copy_loop` meets its contract: the first k places are copied.
-use mathlib.Core.Path.{◌≡◌, refl}
-use Prim.Native.Nat.{ℕ, ◌-◌, ◌≤◌, ◌<◌}
+use mathlib.Core.Path.{refl}
 use native.Mathlib.Omega.{arith}
-use lib.ListN.{length}
 use Rattle.memory.specs.State.{state_of}
 use Rattle.memory.specs.Fields.{seen, path_at}
 use Rattle.topology.specs.Frame.{Frame}
 use Rattle.topology.specs.FrameLaws.{frame_refl, frame_then, frame_put}
-use Rattle.topology.specs.Loop.{loop_at}
 use Rattle.topology.specs.LoopLaws.{copied_step}
 use lib.IntN.{pos}
 use Rattle.topology.proofs.copy_loop.Goals as goal

@@ -1,17 +1,12 @@
 -- `topology::count_links` meets its contract: the first k links are counted.
-use borrow.Author.Rules.{rules}
-use mathlib.Core.Path.{◌≡◌, refl, ap}
-use Prim.Native.Nat.{ℕ, ◌-◌, ◌≤◌}
-use native.Mathlib.Omega.{arith}
+use mathlib.Core.Path.{◌≡◌}
+use Prim.Native.Nat.{◌-◌, ◌≤◌}
 use lib.ListN.{length}
 use Rattle.memory.specs.State.{state_of}
-use Rattle.memory.specs.Fields.{waiting, order_at, to_field}
-use Rattle.network.specs.Prefix.{Counted, counted_start, counted_done, into_take_le}
+use Rattle.memory.specs.Fields.{waiting, order_at}
+use Rattle.network.specs.Prefix.{Counted}
 use Rattle.topology.specs.Links.{links_of}
-use Rattle.topology.specs.LinksLaws.{links_length}
 use Rattle.topology.specs.Frame.{Frame}
-use Rattle.topology.specs.FrameLaws.{frame_refl, frame_then}
-use Rattle.topology.specs.StepLaws.{counted_frame, counted_step}
 use Rattle.topology.proofs.count_links.Given as goal
 
 abbrev pub invariant-loop-k : goal.invariant-loop-k

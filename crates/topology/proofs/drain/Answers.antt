@@ -1,8 +1,6 @@
 -- `topology::drain` meets its contract: h activities are out.
 use mathlib.Core.Path.{◌≡◌, refl, ◌∙◌}
-use Prim.Native.Nat.{◌-◌}
 use native.Mathlib.Omega.{arith}
-use lib.ListN.{length}
 use Rattle.memory.specs.State.{state_of}
 use Rattle.memory.specs.Fields.{waiting, seen}
 use Rattle.network.specs.ProgressLaws.{progress_le}

@@ -1,14 +1,10 @@
 -- `topology::first_ready` meets its contract: the first m activities are looked at.
-use borrow.Author.Rules.{rules}
 use mathlib.Core.Path.{◌≡◌, refl}
-use Prim.Native.Nat.{◌-◌, ◌≤◌}
 use native.Mathlib.Omega.{arith}
-use lib.ListN.{length}
 use Rattle.memory.specs.State.{state_of}
 use Rattle.memory.specs.Fields.{waiting, order_at, seen}
 use Rattle.network.specs.Array.{Filled}
 use Rattle.network.specs.ProgressEnds.{filled_start, filled_le}
-use Rattle.topology.specs.Frame.{Frame}
 use Rattle.topology.specs.FrameLaws.{frame_refl, frame_then}
 use Rattle.topology.specs.StepLaws.{readied_frame, readied_filled}
 use Rattle.topology.proofs.first_ready.Goals as goal

@@ -1,12 +1,8 @@
 -- `topology::first_waiting` meets its contract: none below i waits.
-use mathlib.Core.Path.{◌≡◌, sym, ◌∙◌}
-use mathlib.Core.List.{List}
-use Prim.Native.Nat.{◌-◌, ◌≤◌}
+use mathlib.Core.Path.{sym, ◌∙◌}
 use native.Mathlib.Omega.{arith}
 use Rattle.memory.specs.State.{state_of}
 use Rattle.memory.specs.Fields.{waiting}
-use Rattle.network.specs.Links.{Link}
-use Rattle.network.specs.Kahn.{first_waiting}
 use Rattle.network.specs.BackSteps.{first_skip, first_here}
 use Rattle.topology.specs.LoopLaws.{first_start, first_end}
 use Rattle.topology.proofs.first_waiting.Goals as goal

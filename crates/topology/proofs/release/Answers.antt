@@ -1,12 +1,10 @@
 -- `topology::release` meets its contract: the links of the chain before k are met.
-use mathlib.Core.Path.{◌≡◌, refl, ap, ◌∙◌}
-use Prim.Native.Nat.{◌+◌, ◌-◌}
+use mathlib.Core.Path.{refl, ap, ◌∙◌}
 use native.Mathlib.Omega.{arith}
-use lib.ListN.{length}
 use Rattle.memory.specs.State.{state_of}
 use Rattle.memory.specs.Fields.{first_out}
 use Rattle.network.specs.ProgressLaws.{progress_le, progress_at, progress_pos, progress_target, progress_space}
-use Rattle.topology.specs.OrderLaws.{Walk, walk_start, walk_meets, walk_step, walk_next, walk_later, walk_end}
+use Rattle.topology.specs.OrderLaws.{walk_start, walk_meets, walk_step, walk_next, walk_later, walk_end}
 use Rattle.topology.proofs.release.Goals as goal
 
 pub get_act-v-requires : goal.get_act-v-requires

@@ -1,12 +1,9 @@
 -- `topology::release` meets its contract: the links of the chain before k are met.
-use mathlib.Core.Path.{◌≡◌, refl, ap, ◌∙◌}
+use mathlib.Core.Path.{◌≡◌}
 use Prim.Native.Nat.{◌+◌, ◌-◌}
-use native.Mathlib.Omega.{arith}
 use lib.ListN.{length}
 use Rattle.memory.specs.State.{state_of}
-use Rattle.memory.specs.Fields.{first_out}
-use Rattle.network.specs.ProgressLaws.{progress_le, progress_at, progress_pos, progress_target, progress_space}
-use Rattle.topology.specs.OrderLaws.{Walk, walk_start, walk_meets, walk_step, walk_next, walk_later, walk_end}
+use Rattle.topology.specs.OrderLaws.{Walk}
 use Rattle.topology.proofs.release.Given as goal
 
 abbrev pub invariant-loop-k : goal.invariant-loop-k

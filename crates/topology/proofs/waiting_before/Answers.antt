@@ -1,10 +1,9 @@
 -- `topology::waiting_before` meets its contract: none of the links into x before k comes from one that waits.
 use mathlib.Core.Path.{ap, ◌∙◌}
-use Prim.Native.Nat.{◌-◌}
 use native.Mathlib.Omega.{arith}
 use Rattle.memory.specs.State.{state_of}
 use Rattle.memory.specs.Fields.{waiting}
-use Rattle.topology.specs.LoopLaws.{Looking, looking_start, looking_found, looking_step, looking_later, looking_end}
+use Rattle.topology.specs.LoopLaws.{looking_start, looking_found, looking_step, looking_later, looking_end}
 use Rattle.topology.proofs.waiting_before.Goals as goal
 
 pub get_act-k-requires : goal.get_act-k-requires

@@ -1,11 +1,10 @@
 -- `topology::walk_back` meets its contract: m activities were passed.
-use mathlib.Core.Path.{◌≡◌, refl, ◌∙◌}
+use mathlib.Core.Path.{refl, ◌∙◌}
 use Prim.Native.Nat.{◌-◌}
 use native.Mathlib.Omega.{arith}
-use lib.ListN.{length}
 use Rattle.memory.specs.State.{state_of}
 use Rattle.topology.specs.Loop.{WalkedBack}
-use Rattle.topology.specs.LoopLaws.{ends_left, chains_left, GoingBack, going_start, going_inside, going_room, going_step, going_stop}
+use Rattle.topology.specs.LoopLaws.{ends_left, chains_left, going_start, going_inside, going_room, going_step, going_stop}
 use Rattle.topology.proofs.walk_back.Goals as goal
 
 pub loop-a-init : goal.loop-a-init

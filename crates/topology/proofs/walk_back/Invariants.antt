@@ -1,11 +1,9 @@
 -- `topology::walk_back` meets its contract: m activities were passed.
-use mathlib.Core.Path.{◌≡◌, refl, ◌∙◌}
+use mathlib.Core.Path.{◌≡◌}
 use Prim.Native.Nat.{◌-◌}
-use native.Mathlib.Omega.{arith}
 use lib.ListN.{length}
 use Rattle.memory.specs.State.{state_of}
-use Rattle.topology.specs.Loop.{WalkedBack}
-use Rattle.topology.specs.LoopLaws.{ends_left, chains_left, GoingBack, going_start, going_inside, going_room, going_step, going_stop}
+use Rattle.topology.specs.LoopLaws.{GoingBack}
 use Rattle.topology.proofs.walk_back.Given as goal
 
 abbrev pub invariant-loop-a : goal.invariant-loop-a
