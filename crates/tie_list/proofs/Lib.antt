@@ -1,2 +1,0 @@
--- What the proofs of the functions over a lent list of links share.
-pub mod Again
