@@ -2,7 +2,7 @@
 use Rattle.std.proofs.Common.{length, subst, sym, ◌∙◌, ap, arith, length-set, ◌≡◌, ◌<◌, ◌+◌, ℕ}
 use Rattle.std.proofs.lemmas.List.{length-replicate}
 use Rattle.tie_list.specs.Tied.{leads_to, Counted}
-use Rattle.tie_list.specs.TiedLaws.{counted_none, counted_more, counted_fits, counted_all}
+use Rattle.tie_list.proofs.TiedLaws.{counted_none, counted_more, counted_fits, counted_all}
 use Rattle.tie_list.proofs.count_incoming.Goals as goal
 
 pub loop-k-init : goal.loop-k-init

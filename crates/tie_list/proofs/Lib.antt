@@ -1,0 +1,2 @@
+-- The laws of counting a lent list of links.
+pub mod TiedLaws
