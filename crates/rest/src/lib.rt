@@ -1,4 +1,6 @@
 // The rest of the lent memory: every cell that no pass reads of the checks is made 0.
+#![tactic(auto)]
+
 ghost use Rattle.std.specs.Prelude.{◌≡◌, ℕ, ◌+◌, ◌*◌, ◌≤◌, pos, length};
 ghost use Rattle.cells.specs.Cell.{cell_z};
 ghost use Rattle.memory.specs.State.{Room, state_of};

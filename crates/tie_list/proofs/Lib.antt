@@ -1,2 +1,2 @@
--- What the proofs of the functions over a lent list of links share.
-pub mod Again
+-- The laws of counting a lent list of links.
+pub mod TiedLaws

@@ -1,3 +1,2 @@
--- A lent list of links as what counting reads of it, and its laws.
+-- A lent list of links as what counting reads of it.
 pub mod Tied
-pub mod TiedLaws

@@ -1,4 +1,6 @@
 // Links as a caller holds them: a lent slice of structs. Only `count_incoming` takes it; the counting itself is on numbers.
+#![tactic(auto)]
+
 ghost use Rattle.std.specs.Prelude.{◌≡◌, ℕ, ◌+◌, ◌<◌, ◌^◌, length, get_or, replicate};
 ghost use Rattle.network.specs.Kahn.{into};
 ghost use Rattle.tie_list.specs.Tied.{links_of, one_more};

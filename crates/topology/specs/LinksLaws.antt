@@ -40,15 +40,15 @@ module _ (S : State) where
       ⊎_elim (λ (e : k ≡ t). get_or_at (links_of S t) (link_at S t) [] no_link k (links_length t ∙ sym e) ∙ ap (link_at S) (sym e))
       (λ (e : k ≢ t). get_or-append (links_of S t) (link_at S t ∷ []) no_link k (omega (arith, links_length t)) ∙ links_at t k (omega arith)) (eq_or_ne k t)
 
-  pub from_at : (t k : ℕ) → k < t → from_at (links_of S t) k ≡ S.link from_field k
-  from_at t k h = ap (λ (e : Link). e.from) (links_at t k h)
+  pub from_at_lem : (t k : ℕ) → k < t → from_at (links_of S t) k ≡ S.link from_field k
+  from_at_lem t k h = ap (λ (e : Link). e.from) (links_at t k h)
 
   pub to_at_lem : (t k : ℕ) → k < t → to_at (links_of S t) k ≡ S.link to_field k
   to_at_lem t k h = ap (λ (e : Link). e.to) (links_at t k h)
 
   pub links_ranged : {a t : ℕ} → Ends a t S → Ranged (links_of S t) a
   links_ranged {a} {t} E = record {
-    leaves = λ k h. let b : k < t = omega (arith, links_length t) in omega (arith, from_at t k b, E.leaves k b);
+    leaves = λ k h. let b : k < t = omega (arith, links_length t) in omega (arith, from_at_lem t k b, E.leaves k b);
     enters = λ k h. let b : k < t = omega (arith, links_length t) in omega (arith, to_at_lem t k b, E.enters k b);
   }
 
@@ -77,7 +77,7 @@ module _ (S : State) (t v : ℕ) where
   unfolding targets_from
   targets_after k h =
       ap (λ (n : ℕ). map (to_at (links_of S t)) (keyed (from_at (links_of S t)) v (n - k) k)) (links_length S t)
-      ∙ ap (map (to_at (links_of S t))) (keyed_ext (from_at (links_of S t)) (S.link from_field) v (t - k) k (λ p b. from_at S t p (omega arith)))
+      ∙ ap (map (to_at (links_of S t))) (keyed_ext (from_at (links_of S t)) (S.link from_field) v (t - k) k (λ p b. from_at_lem S t p (omega arith)))
 
   sources_after : (k : ℕ) → k ≤ t → sources_from (links_of S t) v k ≡ map (from_at (links_of S t)) (after (S.link to_field) t v k)
   unfolding sources_from
@@ -102,11 +102,11 @@ module _ (S : State) (t v : ℕ) where
 
   pub targets_hit : (k : ℕ) → k < t → S.link from_field k ≡ v → targets_from (links_of S t) v k ≡ S.link to_field k ∷ targets_from (links_of S t) v (k + 1)
   targets_hit k h e =
-      targets_here (links_of S t) v k (omega (arith, links_length S t)) (from_at S t k h ∙ e) ∙ ap (λ (j : ℕ). j ∷ targets_from (links_of S t) v (k + 1)) (to_at_lem S t k h)
+      targets_here (links_of S t) v k (omega (arith, links_length S t)) (from_at_lem S t k h ∙ e) ∙ ap (λ (j : ℕ). j ∷ targets_from (links_of S t) v (k + 1)) (to_at_lem S t k h)
 
   pub sources_hit : (k : ℕ) → k < t → S.link to_field k ≡ v → sources_from (links_of S t) v k ≡ S.link from_field k ∷ sources_from (links_of S t) v (k + 1)
   sources_hit k h e =
-      sources_here (links_of S t) v k (omega (arith, links_length S t)) (to_at_lem S t k h ∙ e) ∙ ap (λ (j : ℕ). j ∷ sources_from (links_of S t) v (k + 1)) (from_at S t k h)
+      sources_here (links_of S t) v k (omega (arith, links_length S t)) (to_at_lem S t k h ∙ e) ∙ ap (λ (j : ℕ). j ∷ sources_from (links_of S t) v (k + 1)) (from_at_lem S t k h)
 
   pub targets_none : (k : ℕ) → t ≤ k → targets_from (links_of S t) v k ≡ []
   targets_none k h = targets_end (links_of S t) v k (omega (arith, links_length S t))

@@ -1,4 +1,6 @@
 // The order of the activities by Kahn's algorithm over the lent memory, and the loop that is named where it stops early.
+#![tactic(auto)]
+
 ghost use Rattle.std.specs.Prelude.{◌≡◌, List, [], ℕ, ◌+◌, ◌-◌, ◌≤◌, ◌<◌, length};
 ghost use Rattle.memory.specs.State.{Room, state_of};
 ghost use Rattle.memory.specs.Fields.{first_in, waiting, order_at, seen, path_at, to_field, next_into};

@@ -1,0 +1,26 @@
+-- `topology::count_link` meets its contract.
+use mathlib.Core.Path.{ap, ◌∙◌}
+use Prim.Native.Nat.{◌+◌}
+use native.Mathlib.Omega.{arith}
+use Rattle.memory.specs.State.{state_of, put_act}
+use Rattle.memory.specs.Fields.{waiting}
+use Rattle.topology.specs.Steps.{counted}
+use Rattle.topology.proofs.count_link.Goals as goal
+
+pub put_act-requires : goal.put_act-requires
+put_act-requires c =
+    let x = c.args in
+    let p = c.requires in
+    let S = state_of x.a x.l x.work.now in
+    let e = c.get_link-i.ensures.0 in
+    let n = c.get_act-n.ensures.0 ∙ ap (S.act waiting) e in
+    (omega arith, omega arith, omega arith, omega (arith, n, p.3))
+
+pub returns : goal.returns
+unfolding counted
+returns c =
+    let x = c.args in
+    let S = state_of x.a x.l x.work.now in
+    let e = c.get_link-i.ensures.0 in
+    let n = c.get_act-n.ensures.0 ∙ ap (S.act waiting) e in
+    (c.put_act.ensures.0 ∙ (λ z. put_act S waiting (e z) (n z + 1)), omega arith)
