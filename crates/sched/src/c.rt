@@ -1,4 +1,4 @@
-// The scheduling call in C's form: each slice a pointer with its count of elements, the answer five numbers in a slice.
+// The scheduling call as C has it: the answer five numbers in a slice. The crate `sched_c` exports it.
 ghost use Rattle.std.specs.Prelude.{◌≡◌, [], ◌∷◌, ◌++◌, ◌≤◌, length, drop};
 ghost use Rattle.sched.specs.InC.{held_as, numbers_of, called};
 
@@ -42,15 +42,14 @@ fn put_answer(answer: &mut [i64], r: Answer)
 }
 
 // The scheduling call: `answer` takes 0, finish day, activities, ignored links, open ends; or 1, row, id, 0, 0. Where it is shorter nothing is written.
-#[unsafe(no_mangle)]
-pub extern "C" fn neakspuoy_schedule(
+pub fn neakspuoy_schedule(
     sheet: &[u8],
     results: &mut [i64],
     names: &mut [u32],
     work: &mut [i64],
     answer: &mut [i64],
 )
-    ensures { record { lent = record { results = results.exit.now; names = names.new; work = work.new }; answer = answer.new } ≡ called sheet.now (record { results = results.entry.now; names = names.old; work = work.old }) answer.old }
+    ensures { record { lent = record { results = results.new; names = names.new; work = work.new }; answer = answer.new } ≡ called sheet.now (record { results = results.old; names = names.old; work = work.old }) answer.old }
 {
     if answer.len() < 5 {
         return;
