@@ -1,5 +1,7 @@
 // Time on one calendar, in minutes from the first day that an i32 can name. An activity starts at a worked minute and finishes at a closing one.
 // A calendar is its week, and its `n` E records from the byte `at` of the sheet on.
+#![tactic(auto)]
+
 ghost use Rattle.std.specs.Prelude.{◌≡◌, ℕ, ◌+◌, ◌*◌, ◌^◌, ◌≤◌, ◌<◌};
 ghost use Rattle.number.specs.Zed.{dn};
 ghost use Rattle.date.specs.Years.{first_day, end_day};

@@ -1,0 +1,22 @@
+-- `clock::next_finish` meets its contract. It is closing if the minute before is worked.
+use mathlib.Core.Path.{sym, ◌∙◌}
+use native.Mathlib.Omega.{arith}
+use Rattle.date.specs.Years.{years_before, years_after}
+use Rattle.worktime.specs.Answers.{next_finish_out}
+use Rattle.clock.specs.Ways.{next_finish_here, next_finish_start, next_finish_refuses}
+use Rattle.clock.proofs.next_finish.Goals as goal
+
+pub returns-then-d-lt-FIRST_DAY : goal.returns-then-d-lt-FIRST_DAY
+returns-then-d-lt-FIRST_DAY c = sym (next_finish_out _ _ (years_before _ (omega arith)))
+
+pub returns-then-d-gt-LAST_DAY : goal.returns-then-d-gt-LAST_DAY
+returns-then-d-gt-LAST_DAY c = sym (next_finish_out _ _ (years_after _ (omega arith)))
+
+pub returns-then-closing : goal.returns-then-closing
+returns-then-closing c = next_finish_here _ _ _ c.working_at.ensures (omega arith) (omega arith) _ c.in-Is.is c.if-closing.true
+
+pub returns-else-closing : goal.returns-else-closing
+returns-else-closing c = c.next_start.ensures ∙ next_finish_start _ _ _ c.working_at.ensures (omega arith) (omega arith) _ c.in-Is.is c.if-closing.false
+
+pub returns-in-Refused : goal.returns-in-Refused
+returns-in-Refused c = next_finish_refuses _ _ _ c.working_at.ensures (omega arith) (omega arith) _ c.in-Refused.is
