@@ -1,4 +1,6 @@
 // The plan's calendars: where each stands in the sheet and what its week is, found once a call; and each as a value.
+#![tactic(auto)]
+
 ghost use Rattle.std.specs.Prelude.{◌≡◌, ◌+◌, ◌*◌, ◌/◌, ◌≤◌, length};
 ghost use Rattle.sheet.specs.Known.{SheetRead};
 ghost use Rattle.order.specs.Plan.{plan_of, week_of_calendar, exception_place, exception_number};

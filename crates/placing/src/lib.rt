@@ -1,5 +1,7 @@
 // Where an activity's work can begin and end, on its own calendar: its week, and its `n` E records from the byte `at` of the sheet on.
 // Each takes the activity, whose calendar it is; `left` is its minutes of work left.
+#![tactic(auto)]
+
 ghost use Rattle.std.specs.Prelude.{◌≡◌};
 ghost use Rattle.calendar.specs.Records.{Valid};
 ghost use Rattle.clock.specs.On.{worked_on};

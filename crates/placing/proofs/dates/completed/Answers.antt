@@ -1,0 +1,27 @@
+-- `placing::dates::completed` meets its contract. Each way out has its law.
+use borrow.Author.Rules.{rules}
+use mathlib.Core.Path.{◌≡◌, sym, ap, ◌∙◌}
+use Rattle.worktime.specs.Walks.{next_start}
+use Rattle.placing.specs.PlacingLaws.{actual_start_refuses, actual_finish_refuses, actual_finished, actual_raised}
+use Rattle.placing.proofs.dates.completed.Goals as goal
+
+pub returns-then-f-s : goal.returns-then-f-s
+returns-then-f-s c =
+    sym
+    (actual_raised _ _ _ _ _ (ap (next_start _) (sym c.midnight.ensures.0) ∙ sym c.next_start.ensures ∙ c.in-At.is)
+    (sym c.finish_by_day.ensures ∙ c.in-At-finish_by_day.is) c.if-f-s.true)
+
+pub returns-else-f-s : goal.returns-else-f-s
+returns-else-f-s c =
+    sym
+    (actual_finished _ _ _ _ _ (ap (next_start _) (sym c.midnight.ensures.0) ∙ sym c.next_start.ensures ∙ c.in-At.is)
+    (sym c.finish_by_day.ensures ∙ c.in-At-finish_by_day.is) c.if-f-s.false)
+
+pub returns-in-Refused-finish_by_day : goal.returns-in-Refused-finish_by_day
+returns-in-Refused-finish_by_day c =
+    sym
+    (actual_finish_refuses _ _ _ _ _ (ap (next_start _) (sym c.midnight.ensures.0) ∙ sym c.next_start.ensures ∙ c.in-At.is)
+    (sym c.finish_by_day.ensures ∙ c.in-Refused-finish_by_day.is))
+
+pub returns-in-Refused : goal.returns-in-Refused
+returns-in-Refused c = sym (actual_start_refuses _ _ _ _ (ap (next_start _) (sym c.midnight.ensures.0) ∙ sym c.next_start.ensures ∙ c.in-Refused.is))

@@ -1,0 +1,7 @@
+-- `placing::dates::finish_by_day` meets its contract.
+use borrow.Author.Rules.{rules}
+use mathlib.Core.Path.{◌≡◌, sym, ap, ◌∙◌}
+use Rattle.placing.proofs.dates.finish_by_day.Goals as goal
+
+pub returns : goal.returns
+returns c = rw c.midnight.ensures.0 at c.previous_finish.ensures
