@@ -1,4 +1,6 @@
 // The run's dates in the lent memory, and what the passes read of the plan: links, recorded work, the start and the floor.
+#![tactic(auto)]
+
 ghost use Rattle.std.specs.Prelude.{◌≡◌, ◌+◌, ◌^◌, ◌<◌};
 ghost use Rattle.number.specs.Zed.{dn};
 ghost use Rattle.calendar.specs.Hours.{worked};
