@@ -1,4 +1,6 @@
 // The bound that a kept link puts on its successor, and the start that it leaves it.
+#![tactic(auto)]
+
 ghost use Rattle.std.specs.Prelude.{◌≡◌, ℕ, ◌^◌, ◌<◌};
 ghost use Rattle.number.specs.Zed.{dn};
 ghost use Rattle.calendar.specs.Records.{Valid};

@@ -1,0 +1,27 @@
+-- `bounds::link_bound` meets its contract. The link is the plan's, and its predecessor's dates and recorded work are read from the memory.
+use borrow.Author.Rules.{rules}
+use native.Mathlib.Omega.{arith}
+use Rattle.bounds.specs.LinkLaws.{from_in, lead_fits, link_bound_is}
+use Rattle.bounds.specs.ReadyLaws.{kept_within}
+use Rattle.bounds.proofs.link_bound.Goals as goal
+use Rattle.bounds.proofs.link_bound.Tie as tie
+
+pub tie_at-tie-requires : goal.tie_at-tie-requires
+tie_at-tie-requires c = (c.requires.0.room, omega (arith, kept_within c.requires.0, c.requires.2))
+
+pub recorded_at-recorded-requires : goal.recorded_at-recorded-requires
+recorded_at-recorded-requires c = (c.requires.0.room, from_in c.requires.0 _ c.requires.2 _ c.tie_at-tie.ensures)
+
+pub get_act-early-requires : goal.get_act-early-requires
+get_act-early-requires c = (c.requires.0.room, from_in c.requires.0 _ c.requires.2 _ c.tie_at-tie.ensures, omega arith)
+
+pub get_act-ef-requires : goal.get_act-ef-requires
+get_act-ef-requires c = (c.requires.0.room, from_in c.requires.0 _ c.requires.2 _ c.tie_at-tie.ensures, omega arith)
+
+pub forward_bound-requires : goal.forward_bound-requires
+forward_bound-requires c = (c.requires.0.read, c.requires.0.located, lead_fits c.requires.0 _ c.requires.2 _ c.tie_at-tie.ensures)
+
+pub returns : goal.returns
+returns c =
+    link_bound_is c.requires.0 _ c.requires.2 _ c.tie_at-tie.ensures c.requires.1 _ _ _ _ _
+    c.recorded_at-recorded.ensures c.get_act-early.ensures.0 c.begun_at-es.ensures c.get_act-ef.ensures.0 c.forward_bound.ensures
