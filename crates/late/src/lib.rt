@@ -1,4 +1,6 @@
 // The late dates of one activity: the finish that its links and constraints leave, and where its work then begins and ends.
+#![tactic(auto)]
+
 ghost use Rattle.std.specs.Prelude.{◌≡◌, ℕ, ◌^◌, ◌<◌, min};
 ghost use Rattle.worktime.specs.declared.Walk.TheVariants.{At};
 ghost use Rattle.calendar.specs.Records.{Valid};

@@ -1,0 +1,60 @@
+-- `late::late_from` meets its contract. Each way out has its law.
+use borrow.Author.Rules.{rules}
+use mathlib.Core.Path.{sym, ◌∙◌}
+use native.Mathlib.Omega.{arith}
+use Rattle.order.specs.Plan.{plan_of}
+use Rattle.memory.specs.State.{state_of}
+use Rattle.dates.specs.Columns.{early_in, late_in}
+use Rattle.late.specs.PlaceLaws.{fitting_refused}
+use Rattle.late.specs.StandLaws.{early_at, summary_at, unfinished_placed, unfinished_held, unfinished_lowered}
+use Rattle.late.proofs.late_from.Goals as goal
+
+pub get_act-mark-requires : goal.get_act-mark-requires
+get_act-mark-requires c = (c.requires.0.room, c.requires.1, omega arith)
+
+pub get_act-early-requires : goal.get_act-early-requires
+get_act-early-requires c = (c.requires.0.room, c.requires.1, omega arith)
+
+pub lower-requires : goal.lower-requires
+lower-requires c = let p = c.requires in (p.0, p.1, p.2, p.3, p.6)
+
+pub hold_late-requires : goal.hold_late-requires
+hold_late-requires c = c.requires.2
+
+pub place_late-requires : goal.place_late-requires
+place_late-requires c = (c.requires.2, c.requires.4, c.get_act-early.ensures.1)
+
+pub returns-in-At-hold_late : goal.returns-in-At-hold_late
+returns-in-At-hold_late c =
+    let R = c.requires.0 in
+    let p = plan_of c.args.sheet.now c.args.contents in
+    let S = state_of c.args.contents.activities c.args.contents.links c.args.work.now in
+    let d = early_in p S in
+    let m = late_in p S c.args.last in
+    let i = c.args.i in
+    let q = c.get_act-early.ensures.0 ∙ sym (early_at R i c.requires.1) in
+    let h = c.hold_late.ensures p d m i c.requires.3 (summary_at R i _ c.requires.1 c.get_act-mark.ensures.0) c.requires.5 in (
+      c.place_late.ensures.0 p d m i c.requires.3 q ∙ sym (unfinished_placed p d m i c.args.last _ _ (sym c.lower.ensures ∙ c.in-At.is) (sym h ∙ c.in-At-hold_late.is)),
+      c.place_late.ensures.1,
+    )
+
+pub returns-in-Refused-hold_late : goal.returns-in-Refused-hold_late
+returns-in-Refused-hold_late c =
+    let R = c.requires.0 in
+    let p = plan_of c.args.sheet.now c.args.contents in
+    let S = state_of c.args.contents.activities c.args.contents.links c.args.work.now in
+    let d = early_in p S in
+    let m = late_in p S c.args.last in
+    let i = c.args.i in
+    let h = c.hold_late.ensures p d m i c.requires.3 (summary_at R i _ c.requires.1 c.get_act-mark.ensures.0) c.requires.5 in
+    (sym (unfinished_held p d m i c.args.last _ _ (sym c.lower.ensures ∙ c.in-At.is) (sym h ∙ c.in-Refused-hold_late.is)), fitting_refused _)
+
+pub returns-in-Refused : goal.returns-in-Refused
+returns-in-Refused c =
+    let R = c.requires.0 in
+    let p = plan_of c.args.sheet.now c.args.contents in
+    let S = state_of c.args.contents.activities c.args.contents.links c.args.work.now in
+    let d = early_in p S in
+    let m = late_in p S c.args.last in
+    let i = c.args.i in
+    (sym (unfinished_lowered p d m i c.args.last _ (sym c.lower.ensures ∙ c.in-Refused.is)), fitting_refused _)

@@ -1,0 +1,94 @@
+-- `late::links::link_finish` meets its contract. The link is the plan's, and its successor's times are read from the memory.
+use borrow.Author.Rules.{rules}
+use mathlib.Core.Path.{refl, sym, ap, ◌∙◌}
+use Prim.Native.Nat.{ℕ, ◌+◌, ◌^◌, ◌<◌}
+use native.Mathlib.Omega.{arith}
+use mir.Facts.{to_z-of_z}
+use mir.Syntax.{w64}
+use Rattle.bounds.specs.LinkLaws.{to_in, lag_in}
+use Rattle.bounds.specs.ReadyLaws.{kept_within}
+use Rattle.dates.specs.Standing.{as_tie}
+use Rattle.dates.specs.Columns.{early_in, late_in}
+use Rattle.passes.specs.Backward.{over_lag}
+use Rattle.passes.specs.Plan.{own}
+use Rattle.order.specs.Plan.{plan_of}
+use Rattle.memory.specs.State.{state_of}
+use Rattle.number.specs.Zed.{up, dn}
+use Rattle.late.specs.StandLaws.{times_are, over_are, by_are}
+use Rattle.late.specs.LinkLaws.{link_times_refused, link_lag_refused, link_finish_refused, link_at}
+use Rattle.late.specs.UnfinishedLaws.{own_bounded, own_by}
+use Rattle.late.proofs.links.link_finish.Goals as goal
+use Rattle.late.proofs.links.link_finish.Tie as tie
+
+pub tie_at-tie-requires : goal.tie_at-tie-requires
+tie_at-tie-requires c = (c.requires.0.room, omega (arith, c.requires.1, kept_within c.requires.0))
+
+pub successor_times-requires : goal.successor_times-requires
+successor_times-requires c = let R = c.requires.0 in (R.read, R.located, R.room, to_in R _ c.requires.1 _ c.tie_at-tie.ensures, c.requires.3)
+
+pub over_lag-requires : goal.over_lag-requires
+over_lag-requires c =
+    let R = c.requires.0 in
+    let τ = c.tie_at-tie.result in
+    let h : up τ.lag + dn τ.lag < 2 ^ 63 = omega (arith, lag_in R _ c.requires.1 _ c.tie_at-tie.ensures) in
+    (R.read, R.located, rw (to_z-of_z (record { sfits = c.struct_told-1.given.1.1.1.0.1 })) h)
+
+pub returns-in-At-finish_by : goal.returns-in-At-finish_by
+returns-in-At-finish_by c =
+    λ i last O.
+    let R = c.requires.0 in
+    let p = plan_of c.args.sheet.now c.args.contents in
+    let S = state_of c.args.contents.activities c.args.contents.links c.args.work.now in
+    let d = early_in p S in
+    let m = late_in p S last in
+    let τ = c.tie_at-tie.result in
+    let e = c.tie_at-tie.ensures in
+    let A = times_are R _ c.requires.1 τ e last ∙ sym c.successor_times.ensures ∙ c.in-Dates.is in
+    let F = to_z-of_z {w = w64} (record { sfits = c.struct_told-1.given.1.1.1.0.1 }) in
+    let B = over_are R _ c.requires.1 τ e d m _ _ ∙ ap (λ (x : ℕ). over_lag p d m (as_tie τ) x) (sym c.target-x.ensures) ∙ sym (c.over_lag.ensures d m (as_tie τ) refl (sym F)) ∙ c.in-At.is in
+    let C = by_are R _ c.requires.1 τ e (own p i) (d.left i) c.in-At.v ∙ own_by O τ.kind c.in-At.v ∙ sym c.finish_by.ensures ∙ c.in-At-finish_by.is in
+    c.bounded.ensures ∙ sym (own_bounded O _) ∙ sym (link_at p d m i c.args.k _ _ A _ B _ C)
+
+pub returns-in-Refused-finish_by : goal.returns-in-Refused-finish_by
+returns-in-Refused-finish_by c =
+    λ i last O.
+    let R = c.requires.0 in
+    let p = plan_of c.args.sheet.now c.args.contents in
+    let S = state_of c.args.contents.activities c.args.contents.links c.args.work.now in
+    let d = early_in p S in
+    let m = late_in p S last in
+    let τ = c.tie_at-tie.result in
+    let e = c.tie_at-tie.ensures in
+    let A = times_are R _ c.requires.1 τ e last ∙ sym c.successor_times.ensures ∙ c.in-Dates.is in
+    let F = to_z-of_z {w = w64} (record { sfits = c.struct_told-1.given.1.1.1.0.1 }) in
+    let B = over_are R _ c.requires.1 τ e d m _ _ ∙ ap (λ (x : ℕ). over_lag p d m (as_tie τ) x) (sym c.target-x.ensures) ∙ sym (c.over_lag.ensures d m (as_tie τ) refl (sym F)) ∙ c.in-At.is in
+    let C = by_are R _ c.requires.1 τ e (own p i) (d.left i) c.in-At.v ∙ own_by O τ.kind c.in-At.v ∙ sym c.finish_by.ensures ∙ c.in-Refused-finish_by.is in
+    sym (link_finish_refused p d m i c.args.k _ _ A _ B _ C)
+
+pub returns-in-Refused-over_lag : goal.returns-in-Refused-over_lag
+returns-in-Refused-over_lag c =
+    λ i last O.
+    let R = c.requires.0 in
+    let p = plan_of c.args.sheet.now c.args.contents in
+    let S = state_of c.args.contents.activities c.args.contents.links c.args.work.now in
+    let d = early_in p S in
+    let m = late_in p S last in
+    let τ = c.tie_at-tie.result in
+    let e = c.tie_at-tie.ensures in
+    let A = times_are R _ c.requires.1 τ e last ∙ sym c.successor_times.ensures ∙ c.in-Dates.is in
+    let F = to_z-of_z {w = w64} (record { sfits = c.struct_told-1.given.1.1.1.0.1 }) in
+    let B = over_are R _ c.requires.1 τ e d m _ _ ∙ ap (λ (x : ℕ). over_lag p d m (as_tie τ) x) (sym c.target-x.ensures) ∙ sym (c.over_lag.ensures d m (as_tie τ) refl (sym F)) ∙ c.in-Refused-over_lag.is in
+    sym (link_lag_refused p d m i c.args.k _ _ A _ B)
+
+pub returns-in-Refused : goal.returns-in-Refused
+returns-in-Refused c =
+    λ i last O.
+    let R = c.requires.0 in
+    let p = plan_of c.args.sheet.now c.args.contents in
+    let S = state_of c.args.contents.activities c.args.contents.links c.args.work.now in
+    let d = early_in p S in
+    let m = late_in p S last in
+    let τ = c.tie_at-tie.result in
+    let e = c.tie_at-tie.ensures in
+    let A = times_are R _ c.requires.1 τ e last ∙ sym c.successor_times.ensures ∙ c.in-Refused.is in
+    sym (link_times_refused p d m i c.args.k _ A)

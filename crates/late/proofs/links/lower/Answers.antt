@@ -1,0 +1,40 @@
+-- `late::links::lower` meets its contract. The loop's invariant: the links before `k` are met, and `latest` is what they leave.
+-- The measure is what is left of the links.
+use borrow.Author.Rules.{rules}
+use mathlib.Core.Path.{sym, ◌∙◌}
+use Prim.Native.Nat.{◌-◌}
+use native.Mathlib.Omega.{arith}
+use Rattle.bounds.specs.ReadyLaws.{kept_within}
+use Rattle.dates.specs.Standing.{Ready}
+use Rattle.late.specs.StandLaws.{Lowering, lowering_start, lowering_next, lowering_on, lowering_stop, lowering_end}
+use Rattle.late.proofs.links.lower.Goals as goal
+
+pub get_act-k-requires : goal.get_act-k-requires
+get_act-k-requires c = (c.requires.0.room, c.requires.1, omega arith)
+
+pub loop-k-init : goal.loop-k-init
+loop-k-init c = λ R. lowering_start R _ _ _ c.requires.1 c.get_act-k.ensures.0
+
+pub link_finish-requires : goal.link_finish-requires
+link_finish-requires c = (c.requires.0, c.loop-k-test.true, c.requires.2, c.requires.4)
+
+pub returns-in-Refused : goal.returns-in-Refused
+returns-in-Refused c =
+    lowering_stop c.requires.0 c.args.i c.args.last (c.loop-k.invariant c.requires.0) _ c.loop-k-test.true (sym (c.link_finish.ensures c.args.i c.args.last c.requires.3) ∙ c.in-Refused.is)
+
+pub get_link-k-requires : goal.get_link-k-requires
+get_link-k-requires c = (c.requires.0.room, omega (arith, kept_within c.requires.0, c.loop-k-test.true), omega arith)
+
+pub loop-k-smaller : goal.loop-k-smaller
+loop-k-smaller c =
+    let h = lowering_on c.requires.0 c.args.i c.args.last (c.loop-k.invariant c.requires.0) _ c.loop-k-test.true c.get_link-k.ensures.0 in
+    omega (arith, h, c.loop-k-test.true)
+
+pub loop-k-preserved : goal.loop-k-preserved
+loop-k-preserved c =
+    λ R.
+    lowering_next R c.args.i c.args.last (c.loop-k.invariant R) _ _ _ c.loop-k-test.true (sym (c.link_finish.ensures c.args.i c.args.last c.requires.3) ∙ c.in-At.is) c.earlier-latest.ensures
+    c.get_link-k.ensures.0
+
+pub returns : goal.returns
+returns c = lowering_end c.requires.0 c.args.i c.args.last (c.loop-k.invariant c.requires.0) c.loop-k-test.false

@@ -1,0 +1,56 @@
+-- `late::links::over_lag` meets its contract.
+use borrow.Author.Rules.{rules}
+use mathlib.Core.Path.{sym, ap, ◌∙◌}
+use Prim.Native.Nat.{◌^◌, ◌<◌, ℕ}
+use native.Mathlib.Omega.{arith}
+use lib.IntN.{neg_ℤ}
+use mir.Facts.{to_z-of_z}
+use mir.Syntax.{w64}
+use mir.Val.{to_z, of_z}
+use Rattle.number.specs.ZedLaws.{neg_dn}
+use Rattle.number.specs.Zed.{dn}
+use Rattle.calendars.specs.CalendarLaws.{calendar_valid, calendar_worked}
+use Rattle.order.specs.Plan.{plan_of}
+use Rattle.worktime.specs.Walks.{next_start, shift}
+use Rattle.calendar.specs.Hours.{worked}
+use Rattle.late.specs.LinkLaws.{negated_back, none_is, over_none, over_refused, over_at}
+use Rattle.late.proofs.links.over_lag.Goals as goal
+
+pub returns-then-lag-eq0 : goal.returns-then-lag-eq0
+returns-then-lag-eq0 c = λ d l t e f. sym (over_none _ d l t _ (f ∙ sym (to_z-of_z c.ranges.lag) ∙ ap (to_z w64) c.if-lag-eq0.true))
+
+pub negate-back-requires : goal.negate-back-requires
+negate-back-requires c =
+    let h : dn c.args.lag < 2 ^ 63 = omega (arith, c.requires.2) in
+    rw (to_z-of_z c.ranges.lag) h
+
+pub shift-requires : goal.shift-requires
+shift-requires c =
+    let h : dn (neg_ℤ c.args.lag) < 2 ^ 63 = omega (arith, neg_dn c.args.lag, c.requires.2) in (
+      calendar_valid (record { week_is = c.week_of-week.ensures; at_is = c.exceptions_of-e.ensures.0; n_is = c.exceptions_of-e.ensures.1 }) c.requires.0,
+      rw (negated_back c.args.lag c.ranges.lag (omega (arith, c.requires.2)) _ c.negate-back.ensures) h,
+    )
+
+pub next_start-requires : goal.next_start-requires
+next_start-requires c = calendar_valid (record { week_is = c.week_of-week.ensures; at_is = c.exceptions_of-e.ensures.0; n_is = c.exceptions_of-e.ensures.1 }) c.requires.0
+
+pub returns-in-At : goal.returns-in-At
+returns-in-At c =
+    λ d l t e f.
+    let p = plan_of c.args.sheet.now c.args.contents in
+    let E = c.exceptions_of-e.ensures in
+    let w = calendar_worked (record { week_is = c.week_of-week.ensures; at_is = E.0; n_is = E.1 }) ∙ ap (λ (j : ℕ). worked (p.hours j)) (sym e) in
+    let m = ap neg_ℤ f ∙ sym (negated_back c.args.lag c.ranges.lag (omega (arith, c.requires.2)) _ c.negate-back.ensures) in
+    c.next_start.ensures ∙ (λ z. next_start (w z) c.in-At.v)
+    ∙ sym
+    (over_at p d l t c.args.x _ ((λ z. shift (sym w z) c.args.x (m z)) ∙ sym c.shift.ensures ∙ c.in-At.is)
+    (λ h. c.if-lag-eq0.false (ap (of_z w64) (sym f ∙ none_is t.lag h))))
+
+pub returns-in-Refused : goal.returns-in-Refused
+returns-in-Refused c =
+    λ d l t e f.
+    let p = plan_of c.args.sheet.now c.args.contents in
+    let E = c.exceptions_of-e.ensures in
+    let w = calendar_worked (record { week_is = c.week_of-week.ensures; at_is = E.0; n_is = E.1 }) ∙ ap (λ (j : ℕ). worked (p.hours j)) (sym e) in
+    let m = ap neg_ℤ f ∙ sym (negated_back c.args.lag c.ranges.lag (omega (arith, c.requires.2)) _ c.negate-back.ensures) in
+    sym (over_refused p d l t c.args.x _ ((λ z. shift (sym w z) c.args.x (m z)) ∙ sym c.shift.ensures ∙ c.in-Refused.is))
