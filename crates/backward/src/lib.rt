@@ -1,4 +1,6 @@
 // The greatest early finish, the end that the plan is held to, and the backward pass: late starts and finishes.
+#![tactic(auto)]
+
 ghost use Rattle.std.specs.Prelude.{◌≡◌, reverse, ℕ, ◌^◌, ◌≤◌, ◌<◌, length};
 ghost use Rattle.memory.specs.State.{Room, state_of};
 ghost use Rattle.memory.specs.Fields.{early_start, early_finish};

@@ -1,4 +1,6 @@
 // Free float and held late moves, from the last activity of the order to the first.
+#![tactic(auto)]
+
 ghost use Rattle.std.specs.Prelude.{◌≡◌, ◌&&◌, reverse, ℕ, ◌^◌, ◌<◌, ltb, length};
 ghost use Rattle.number.specs.Bit.{bit};
 ghost use Rattle.calendar.specs.Records.{Valid};

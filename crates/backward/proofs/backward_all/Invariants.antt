@@ -1,0 +1,32 @@
+-- `backward::backward_all` meets its contract. The loop's invariant: the last `q` activities of the order are done.
+use borrow.Author.Rules.{rules}
+use mathlib.Core.List.{reverse}
+use mathlib.Core.Path.{◌≡◌, refl, ap, ◌∙◌}
+use Prim.Native.Nat.{◌-◌, ◌≤◌, ◌<◌}
+use native.Mathlib.Omega.{arith}
+use lib.ListN.{length}
+use Rattle.dates.specs.ThroughLaws.{Through, through_start, through_turn, through_stop, through_end}
+use Rattle.dates.specs.Columns.{early_in, late_in}
+use Rattle.passes.specs.Backward.{backward}
+use Rattle.passes.specs.Dates.{Early}
+use Rattle.order.specs.Checks.{order}
+use Rattle.order.specs.Plan.{plan_of}
+use Rattle.topology.specs.FrameLaws.{frame_refl, frame_then}
+use Rattle.topology.specs.Frame.{Frame}
+use Rattle.memory.specs.State.{state_of}
+use Rattle.dates.specs.KeptLaws.{ready_kept, recorded_kept, early_kept}
+use Rattle.dates.specs.OrderLaws.{backward_length, backward_at, backward_below}
+use Rattle.backward.proofs.backward_all.Given as goal
+
+abbrev pub invariant-loop-q : goal.invariant-loop-q
+invariant-loop-q l =
+    (l.q ≤ l.contents.activities) × (length l.work ≡ length l.initial.work)
+    × Frame 10 12 0 0 (state_of l.contents.activities l.contents.links l.initial.work) (state_of l.contents.activities l.contents.links l.work)
+    × Through (backward (plan_of l.sheet l.contents) (early_in (plan_of l.sheet l.contents) (state_of l.contents.activities l.contents.links l.initial.work)) l.last)
+    (reverse (order (plan_of l.sheet l.contents)))
+    (late_in (plan_of l.sheet l.contents) (state_of l.contents.activities l.contents.links l.initial.work) l.last)
+    (late_in (plan_of l.sheet l.contents) (state_of l.contents.activities l.contents.links l.work) l.last)
+    l.q
+
+abbrev pub decreases-loop-q : goal.decreases-loop-q
+decreases-loop-q l = l.contents.activities - l.q

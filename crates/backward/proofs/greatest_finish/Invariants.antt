@@ -1,0 +1,21 @@
+-- `backward::greatest_finish` meets its contract. The loop's invariant: `top` is the number of the first `i` activities.
+use mathlib.Core.Path.{◌≡◌, sym, ap, ◌∙◌}
+use Prim.Native.Nat.{ℕ, ◌-◌, ◌^◌, ◌≤◌}
+use native.Mathlib.Omega.{arith}
+use Rattle.bounds.specs.ReadyLaws.{activities_are}
+use Rattle.dates.specs.Columns.{early_in}
+use Rattle.order.specs.Ids.{summary}
+use Rattle.order.specs.Plan.{plan_of}
+use Rattle.memory.specs.State.{state_of}
+use Rattle.backward.specs.FinishLaws.{finish_at, one_none, one_more, finish_none, finish_some}
+use Rattle.backward.specs.Finish.{Marked, onward, greatest_one}
+use Rattle.backward.proofs.greatest_finish.Given as goal
+
+abbrev pub invariant-loop-i : goal.invariant-loop-i
+invariant-loop-i l =
+    (l.i ≤ l.contents.activities) × (l.top ≤ 2 ^ 63)
+    × (Marked (plan_of l.sheet l.contents) (state_of l.contents.activities l.contents.links l.work)
+    → l.top ≡ greatest_one (plan_of l.sheet l.contents) (early_in (plan_of l.sheet l.contents) (state_of l.contents.activities l.contents.links l.work)) l.i)
+
+abbrev pub decreases-loop-i : goal.decreases-loop-i
+decreases-loop-i l = l.contents.activities - l.i

@@ -1,0 +1,11 @@
+-- `backward::keep_early` meets its contract.
+use borrow.Author.Rules.{rules}
+use mathlib.Core.Path.{◌∙◌}
+use Rattle.memory.specs.State.{state_of}
+use Rattle.backward.specs.Stored.{stored}
+use Rattle.backward.proofs.keep_early.Goals as goal
+
+pub returns : goal.returns
+returns c =
+    let x = c.args in
+    (c.store_late.ensures.0 ∙ (λ z. stored (state_of x.a x.l x.work.now) x.i (c.get_act-start.ensures.0 z) (c.get_act-finish.ensures.0 z)), c.store_late.ensures.1)

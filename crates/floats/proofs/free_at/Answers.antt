@@ -1,0 +1,54 @@
+-- `floats::free_at` meets its contract. Each way out has its law.
+use borrow.Author.Rules.{rules}
+use mathlib.Core.Path.{refl, ◌∙◌}
+use native.Mathlib.Omega.{arith}
+use Prim.Native.Nat.{◌<◌}
+use Rattle.memory.specs.State.{state_of}
+use Rattle.topology.specs.FrameLaws.{frame_refl}
+use Rattle.order.specs.Plan.{plan_of}
+use Rattle.bounds.specs.ReadyLaws.{activities_are}
+use Rattle.floats.specs.StoreLaws.{free_found, free_refused}
+use Rattle.floats.specs.PassLaws.{own_is}
+use Rattle.floats.proofs.free_at.Goals as goal
+
+pub activity_of-activity-requires : goal.activity_of-activity-requires
+activity_of-activity-requires c = let q = c.requires in (q.0.read, q.2)
+
+pub week_of-week-requires : goal.week_of-week-requires
+week_of-week-requires c = let q = c.requires in (q.0.read, q.0.located)
+
+pub exceptions_of-e-requires : goal.exceptions_of-e-requires
+exceptions_of-e-requires c = let q = c.requires in (q.0.read, q.0.located)
+
+pub free_of-requires : goal.free_of-requires
+free_of-requires c =
+    let x = c.args in
+    let q = c.requires in
+    let o = own_is x.sheet.now x.contents x.i _ _ _ _ c.activity_of-activity.ensures c.week_of-week.ensures c.exceptions_of-e.ensures.0 c.exceptions_of-e.ensures.1 in (q.0, q.1, q.2, o.calendar)
+
+pub use_float-requires : goal.use_float-requires
+use_float-requires c =
+    let x = c.args in
+    let q = c.requires in
+    let i : x.i < (plan_of x.sheet.now x.contents).activities = omega (arith, activities_are x.sheet.now x.contents, q.2) in
+    let o = own_is x.sheet.now x.contents x.i _ _ _ _ c.activity_of-activity.ensures c.week_of-week.ensures c.exceptions_of-e.ensures.0 c.exceptions_of-e.ensures.1 in
+    (q.0.read, q.0.room, q.2, o, q.0.standing.marks x.i i, q.1 x.i i, c.free_of.ensures.1 _ c.in-At.is)
+
+pub returns-in-At : goal.returns-in-At
+returns-in-At c =
+    let x = c.args in
+    let q = c.requires in
+    let p = plan_of x.sheet.now x.contents in
+    let S = state_of x.contents.activities x.contents.links x.work.now in
+    let i : x.i < p.activities = omega (arith, activities_are x.sheet.now x.contents, q.2) in
+    let r = c.use_float.ensures in
+    (λ e. r.0 ∙ free_found p S x.i i x.finish e _ c.free_of.ensures.0 _ c.in-At.is, r.1, r.2)
+
+pub returns-in-Refused : goal.returns-in-Refused
+returns-in-Refused c =
+    let x = c.args in
+    let q = c.requires in
+    let p = plan_of x.sheet.now x.contents in
+    let S = state_of x.contents.activities x.contents.links x.work.now in
+    let i : x.i < p.activities = omega (arith, activities_are x.sheet.now x.contents, q.2) in
+    (λ e. free_refused p S x.i i x.finish e _ c.free_of.ensures.0 _ c.in-Refused.is, frame_refl 12 16 0 0 S, refl)

@@ -1,0 +1,88 @@
+-- `floats::free_each` meets its contract: q activities are done, and the late dates are as they were.
+use borrow.Author.Rules.{rules}
+use mathlib.Core.Path.{◌≡◌, refl, ◌∙◌}
+use mathlib.Core.List.{reverse}
+use native.Mathlib.Omega.{arith}
+use Prim.Native.Nat.{ℕ, ◌-◌}
+use lib.ListN.{length}
+use Rattle.memory.specs.State.{state_of}
+use Rattle.topology.specs.Frame.{Frame}
+use Rattle.topology.specs.FrameLaws.{frame_refl, frame_then}
+use Rattle.order.specs.Plan.{plan_of}
+use Rattle.order.specs.Checks.{order}
+use Rattle.passes.specs.Floats.{free_float}
+use Rattle.dates.specs.Columns.{late_in}
+use Rattle.dates.specs.KeptLaws.{ready_kept, recorded_kept}
+use Rattle.dates.specs.OrderLaws.{backward_at, backward_below, backward_length}
+use Rattle.dates.specs.ThroughLaws.{Through, through_start, through_turn, through_stop, through_end}
+use Rattle.floats.specs.Slack.{freed_in}
+use Rattle.floats.specs.PassLaws.{step_kept}
+use Rattle.floats.proofs.free_each.Goals as goal
+
+pub loop-q-init : goal.loop-q-init
+loop-q-init c =
+    let x = c.args in
+    (refl, frame_refl 12 16 0 0 (state_of x.contents.activities x.contents.links x.work.now), λ e. through_start _ _ _)
+
+pub get_act-i-requires : goal.get_act-i-requires
+get_act-i-requires c =
+    let x = c.args in
+    let p = plan_of x.sheet.now x.contents in
+    let S = state_of x.contents.activities x.contents.links x.work.now in
+    let L = c.loop-q in
+    let R = ready_kept c.requires.0 L.invariant.1 L.invariant.0 (omega arith) in
+    (R.room, omega arith, omega arith)
+
+pub free_at-requires : goal.free_at-requires
+free_at-requires c =
+    let x = c.args in
+    let p = plan_of x.sheet.now x.contents in
+    let S = state_of x.contents.activities x.contents.links x.work.now in
+    let L = c.loop-q in
+    let R = ready_kept c.requires.0 L.invariant.1 L.invariant.0 (omega arith) in
+    (R, recorded_kept L.invariant.1 p refl refl refl c.requires.1, omega (arith, backward_below R L.q c.loop-q-test.true, c.get_act-i.ensures.0))
+
+pub shape_of-work-in-Refused : goal.shape_of-work-in-Refused
+shape_of-work-in-Refused c = c.free_at.ensures.2 ∙ c.loop-q.invariant.0
+
+pub returns-in-Refused : goal.returns-in-Refused
+returns-in-Refused c =
+    let x = c.args in
+    let p = plan_of x.sheet.now x.contents in
+    let S = state_of x.contents.activities x.contents.links x.work.now in
+    let L = c.loop-q in
+    let R = ready_kept c.requires.0 L.invariant.1 L.invariant.0 (omega arith) in
+    let y = freed_in p (state_of x.contents.activities x.contents.links c.free_at.new.work) in
+    let r = c.free_at.result in (
+      λ e. through_stop (free_float p x.finish (late_in p S e)) (reverse (order p)) (freed_in p S) (L.invariant.2 e) _ (c.get_act-i.ensures.0 ∙ backward_at R L.q c.loop-q-test.true) (omega (arith, backward_length R, c.loop-q-test.true)) y r
+          (step_kept L.invariant.1 p x.finish _ y r c.free_at.ensures.0 e) y _ c.in-Refused.is,
+      frame_then 12 16 0 0 L.invariant.1 c.free_at.ensures.1,
+      c.free_at.ensures.2 ∙ L.invariant.0,
+    )
+
+pub loop-q-preserved : goal.loop-q-preserved
+loop-q-preserved c =
+    let x = c.args in
+    let p = plan_of x.sheet.now x.contents in
+    let S = state_of x.contents.activities x.contents.links x.work.now in
+    let L = c.loop-q in
+    let R = ready_kept c.requires.0 L.invariant.1 L.invariant.0 (omega arith) in
+    let y = freed_in p (state_of x.contents.activities x.contents.links c.free_at.new.work) in
+    let r = c.free_at.result in (
+      c.free_at.ensures.2 ∙ L.invariant.0,
+      frame_then 12 16 0 0 L.invariant.1 c.free_at.ensures.1,
+      λ e. through_turn (free_float p x.finish (late_in p S e)) (reverse (order p)) (freed_in p S) (L.invariant.2 e) _ (c.get_act-i.ensures.0 ∙ backward_at R L.q c.loop-q-test.true) (omega (arith, backward_length R, c.loop-q-test.true)) y r
+          (step_kept L.invariant.1 p x.finish _ y r c.free_at.ensures.0 e) c.in-Done.is,
+    )
+
+pub shape_of-work : goal.shape_of-work
+shape_of-work c = c.loop-q.invariant.0
+
+pub returns : goal.returns
+returns c =
+    let x = c.args in
+    let p = plan_of x.sheet.now x.contents in
+    let S = state_of x.contents.activities x.contents.links x.work.now in
+    let L = c.loop-q in
+    let R = ready_kept c.requires.0 L.invariant.1 L.invariant.0 (omega arith) in
+    (λ e. through_end (free_float p x.finish (late_in p S e)) (reverse (order p)) (freed_in p S) (L.invariant.2 e) (omega (arith, backward_length R, c.loop-q-test.false)), L.invariant.1, L.invariant.0)

@@ -1,0 +1,76 @@
+-- `floats::free_of` meets its contract. Each way out has its law.
+use borrow.Author.Rules.{rules}
+use mathlib.Core.Path.{refl, sym, ap, ◌∙◌}
+use native.Mathlib.Omega.{arith}
+use Prim.Native.Nat.{ℕ, ◌<◌}
+use mir.Facts.{to_z-of_z}
+use Rattle.worktime.specs.Reads.{at_or_refused}
+use Rattle.clock.specs.On.{worked_on}
+use Rattle.memory.specs.State.{state_of}
+use Rattle.order.specs.Plan.{plan_of}
+use Rattle.calendars.specs.CalendarLaws.{calendar_valid, calendar_worked}
+use Rattle.dates.specs.Columns.{early_in}
+use Rattle.bounds.specs.ReadyLaws.{activities_are}
+use Rattle.placing.specs.PlacingSound.{same_time}
+use Rattle.floats.specs.Slack.{free_of}
+use Rattle.floats.specs.StoreLaws.{ef_at}
+use Rattle.floats.specs.GapLaws.{free_of_found, free_of_late, free_of_refused}
+use Rattle.floats.proofs.free_of.Goals as goal
+
+pub slack_of-requires : goal.slack_of-requires
+slack_of-requires c = let q = c.requires in (q.0, q.1, q.2, q.3)
+
+pub get_act-ef-requires : goal.get_act-ef-requires
+get_act-ef-requires c = let q = c.requires in (q.0.room, q.2, omega arith)
+
+pub get_act-lf-requires : goal.get_act-lf-requires
+get_act-lf-requires c = let q = c.requires in (q.0.room, q.2, omega arith)
+
+pub between-requires : goal.between-requires
+between-requires c = let q = c.requires in calendar_valid q.3 q.0.read
+
+pub recorded_at-recorded-requires : goal.recorded_at-recorded-requires
+recorded_at-recorded-requires c = let q = c.requires in (q.0.room, q.2)
+
+pub returns-in-Minutes-between : goal.returns-in-Minutes-between
+returns-in-Minutes-between c =
+    let x = c.args in
+    let q = c.requires in
+    let p = plan_of x.sheet.now x.contents in
+    let S = state_of x.contents.activities x.contents.links x.work.now in
+    let d = early_in p S in
+    let w = worked_on x.week x.sheet.now x.at x.n in
+    let i : x.i < p.activities = omega (arith, activities_are x.sheet.now x.contents, q.2) in
+    let f =
+    rw (to_z-of_z (record { sfits = c.in-Minutes.known_told-1-own.given.0.1 }), to_z-of_z (record { sfits = c.in-Minutes-between.known_told-in-Minutes-between-1-own.given.0.1 }))
+    at (c.free_by.ensures.0 p d)
+    in (
+      free_of_found q.0 x.i x.finish _ c.slack_of.ensures _ _ c.in-Minutes.is _ w (calendar_worked q.3) (c.get_act-ef.ensures.0 ∙ sym (ef_at p S x.i i)) _
+          (sym c.between.ensures ∙ c.in-Minutes-between.is) _ (c.recorded_at-recorded.ensures ∙ q.1 x.i i) _ f
+          ∙ ap (λ (u : ℕ). free_of p d x.finish u x.i) c.get_act-lf.ensures.0,
+      λ m e. let k = same_time refl e in omega (arith, c.free_by.ensures.1),
+    )
+
+pub returns-in-Refused-between : goal.returns-in-Refused-between
+returns-in-Refused-between c =
+    let x = c.args in
+    let q = c.requires in
+    let p = plan_of x.sheet.now x.contents in
+    let S = state_of x.contents.activities x.contents.links x.work.now in
+    let d = early_in p S in
+    let w = worked_on x.week x.sheet.now x.at x.n in
+    let i : x.i < p.activities = omega (arith, activities_are x.sheet.now x.contents, q.2) in (
+      free_of_late q.0 x.i x.finish _ c.slack_of.ensures _ _ c.in-Minutes.is _ w (calendar_worked q.3) (c.get_act-ef.ensures.0 ∙ sym (ef_at p S x.i i)) _
+          (sym c.between.ensures ∙ c.in-Refused-between.is)
+          ∙ ap (λ (u : ℕ). free_of p d x.finish u x.i) c.get_act-lf.ensures.0,
+      λ m e. absurd (at_or_refused e refl),
+    )
+
+pub returns-in-Refused : goal.returns-in-Refused
+returns-in-Refused c =
+    let x = c.args in
+    let q = c.requires in
+    let p = plan_of x.sheet.now x.contents in
+    let S = state_of x.contents.activities x.contents.links x.work.now in
+    let d = early_in p S in
+    (free_of_refused q.0 x.i x.finish _ c.slack_of.ensures _ _ c.in-Refused.is, λ m e. absurd (at_or_refused e refl))

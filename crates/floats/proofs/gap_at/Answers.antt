@@ -1,0 +1,38 @@
+-- `floats::gap_at` meets its contract. Each way out has its law.
+use borrow.Author.Rules.{rules}
+use mathlib.Core.Path.{◌∙◌}
+use native.Mathlib.Omega.{arith}
+use Rattle.clock.specs.On.{worked_on}
+use Rattle.order.specs.Plan.{plan_of}
+use Rattle.bounds.specs.ReadyLaws.{kept_within}
+use Rattle.bounds.specs.LinkLaws.{to_in, lead_fits}
+use Rattle.floats.specs.GapLaws.{gap_refused, gap_between}
+use Rattle.floats.proofs.gap_at.Goals as goal
+use Rattle.floats.proofs.gap_at.Tie as tie
+
+pub tie_at-tie-requires : goal.tie_at-tie-requires
+tie_at-tie-requires c = let q = c.requires in (q.0.room, omega (arith, kept_within q.0, q.1))
+
+pub forward_bound-requires : goal.forward_bound-requires
+forward_bound-requires c = let q = c.requires in (q.0.read, q.0.located, lead_fits q.0 _ q.1 _ c.tie_at-tie.ensures)
+
+pub get_act-target-requires : goal.get_act-target-requires
+get_act-target-requires c =
+    let q = c.requires in (q.0.room, to_in q.0 _ q.1 _ c.tie_at-tie.ensures, c.target_field-field.ensures.1)
+
+pub between-requires : goal.between-requires
+between-requires c = c.requires.2
+
+pub returns-in-At : goal.returns-in-At
+returns-in-At c =
+    let x = c.args in
+    let w = worked_on x.week x.sheet.now x.at x.n in
+    c.between.ensures
+    ∙ gap_between c.requires.0 x.k c.requires.1 _ c.tie_at-tie.ensures w x.start x.finish _ c.forward_bound.ensures _ _ _ c.in-At.is
+    (c.target_field-field.ensures.0 (plan_of x.sheet.now x.contents)) c.get_act-target.ensures.0
+
+pub returns-in-Refused : goal.returns-in-Refused
+returns-in-Refused c =
+    let x = c.args in
+    let w = worked_on x.week x.sheet.now x.at x.n in
+    gap_refused c.requires.0 x.k c.requires.1 _ c.tie_at-tie.ensures w x.start x.finish _ c.forward_bound.ensures _ c.in-Refused.is

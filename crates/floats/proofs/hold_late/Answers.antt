@@ -1,0 +1,60 @@
+-- `floats::hold_late` meets its contract. Each way out has its law.
+use borrow.Author.Rules.{rules}
+use mathlib.Core.Path.{refl, sym, ap, ◌∙◌}
+use native.Mathlib.Omega.{arith}
+use Rattle.project.specs.declared.Activity.{Activity}
+use Rattle.calendars.specs.CalendarLaws.{calendar_valid, calendar_worked}
+use Rattle.order.specs.Plan.{plan_of}
+use Rattle.passes.specs.Dates.{leaves}
+use Rattle.memory.specs.State.{State, state_of}
+use Rattle.topology.specs.Frame.{Frame}
+use Rattle.topology.specs.FrameLaws.{frame_refl}
+use Rattle.bounds.specs.ReadyLaws.{activities_are}
+use Rattle.floats.specs.Slack.{freed_in}
+use Rattle.floats.specs.FitLaws.{moved_bound}
+use Rattle.floats.specs.StoreLaws.{stored_frame, held_to, held_refused}
+use Rattle.floats.proofs.hold_late.Goals as goal
+
+pub get_act-es-requires : goal.get_act-es-requires
+get_act-es-requires c = let q = c.requires in (q.1, q.2, omega arith)
+
+pub get_act-ef-requires : goal.get_act-ef-requires
+get_act-ef-requires c = let q = c.requires in (q.1, q.2, omega arith)
+
+pub get_act-left-requires : goal.get_act-left-requires
+get_act-left-requires c = let q = c.requires in (q.1, q.2, omega arith)
+
+pub held_move-requires : goal.held_move-requires
+held_move-requires c = let q = c.requires in calendar_valid q.3.calendar q.0
+
+pub store_move-requires : goal.store_move-requires
+store_move-requires c =
+    let q = c.requires in
+    let m = moved_bound _ _ _ _ _ _ _ _ (sym c.held_move.ensures ∙ c.in-To.is) in
+    (q.1, q.2, omega arith, omega arith)
+
+pub returns-in-To : goal.returns-in-To
+returns-in-To c =
+    let x = c.args in
+    let q = c.requires in
+    let p = plan_of x.sheet.now x.contents in
+    let S = state_of x.contents.activities x.contents.links x.work.now in
+    let h =
+    held_to p S x.i x.free (omega (arith, activities_are x.sheet.now x.contents, q.2)) _ (calendar_worked q.3.calendar) _ (ap (λ (a : Activity). a.kind) q.3.is) _ _ _
+    c.get_act-es.ensures.0 c.get_act-ef.ensures.0 c.get_act-left.ensures.0 _ _ (sym c.held_move.ensures ∙ c.in-To.is)
+    in
+    let e = c.store_move.ensures.0 in
+    let F : Frame 12 16 0 0 S (state_of x.contents.activities x.contents.links c.store_move.new.work) = rw e (stored_frame S x.i _ _) in
+    (ap (λ (T : State). leaves (freed_in p T)) e ∙ h, F, c.store_move.ensures.1)
+
+pub returns-in-Refused : goal.returns-in-Refused
+returns-in-Refused c =
+    let x = c.args in
+    let q = c.requires in
+    let p = plan_of x.sheet.now x.contents in
+    let S = state_of x.contents.activities x.contents.links x.work.now in
+    let h =
+    held_refused p S x.i x.free (omega (arith, activities_are x.sheet.now x.contents, q.2)) _ (calendar_worked q.3.calendar) _ (ap (λ (a : Activity). a.kind) q.3.is) _ _ _
+    c.get_act-es.ensures.0 c.get_act-ef.ensures.0 c.get_act-left.ensures.0 _ (sym c.held_move.ensures ∙ c.in-Refused.is)
+    in
+    (h, frame_refl 12 16 0 0 S, refl)

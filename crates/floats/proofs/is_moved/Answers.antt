@@ -1,0 +1,37 @@
+-- `floats::is_moved` meets its contract. Each way out has its law.
+use borrow.Author.Rules.{rules}
+use mathlib.Core.Path.{◌∙◌}
+use native.Mathlib.Omega.{arith}
+use Rattle.order.specs.Plan.{plan_of}
+use Rattle.memory.specs.State.{state_of}
+use Rattle.dates.specs.Columns.{early_in}
+use Rattle.floats.specs.StoreLaws.{unmoved_none, unmoved_summary, moved_by_mark}
+use Rattle.floats.proofs.is_moved.Goals as goal
+
+pub returns-then-free-eq0 : goal.returns-then-free-eq0
+returns-then-free-eq0 c =
+    let x = c.args in
+    let p = plan_of x.sheet.now x.contents in
+    let d = early_in p (state_of x.contents.activities x.contents.links x.work.now) in
+    unmoved_none p d x.i x.free c.if-free-eq0.true
+
+pub get_act-requires : goal.get_act-requires
+get_act-requires c = let q = c.requires in (q.0, q.1, omega arith)
+
+pub returns-then-get_act-gt0 : goal.returns-then-get_act-gt0
+returns-then-get_act-gt0 c =
+    let x = c.args in
+    let p = plan_of x.sheet.now x.contents in
+    let d = early_in p (state_of x.contents.activities x.contents.links x.work.now) in
+    unmoved_summary p d x.i x.free _ (c.get_act.ensures.0 ∙ c.requires.3) c.if-get_act-gt0.true
+
+pub recorded_at-recorded-requires : goal.recorded_at-recorded-requires
+recorded_at-recorded-requires c = let q = c.requires in (q.0, q.1)
+
+pub returns : goal.returns
+returns c =
+    let x = c.args in
+    let p = plan_of x.sheet.now x.contents in
+    let d = early_in p (state_of x.contents.activities x.contents.links x.work.now) in
+    c.is_marked_late.ensures p d
+    ∙ moved_by_mark p d x.i x.free _ (c.get_act.ensures.0 ∙ c.requires.3) c.if-get_act-gt0.false c.if-free-eq0.false _ (c.recorded_at-recorded.ensures ∙ c.requires.4) _ c.requires.2

@@ -1,0 +1,66 @@
+-- `floats::least_slack` meets its contract: `least` is the least of the links before k.
+use borrow.Author.Rules.{rules}
+use mathlib.Core.Path.{sym, ◌∙◌}
+use native.Mathlib.Omega.{arith}
+use Prim.Native.Nat.{◌-◌}
+use mir.Val.{to_z}
+use mir.Facts.{to_z-of_z}
+use mir.Syntax.{w64}
+use Rattle.worktime.specs.declared.Work.TheVariants.{Minutes}
+use Rattle.clock.specs.On.{worked_on}
+use Rattle.cells.specs.ChainLaws.{Cursor}
+use Rattle.memory.specs.State.{state_of}
+use Rattle.memory.specs.Fields.{from_field}
+use Rattle.order.specs.Plan.{plan_of}
+use Rattle.calendars.specs.CalendarLaws.{calendar_valid, calendar_worked}
+use Rattle.dates.specs.Columns.{early_in}
+use Rattle.bounds.specs.ReadyLaws.{kept_within}
+use Rattle.floats.specs.Slack.{slack_step}
+use Rattle.floats.specs.GapLaws.{gap_own, slack_start, slack_later, slack_turn, slack_stop, slack_end}
+use Rattle.floats.proofs.least_slack.Goals as goal
+
+pub get_act-k-requires : goal.get_act-k-requires
+get_act-k-requires c = let q = c.requires in (q.0.room, q.1, omega arith)
+
+pub loop-k-init : goal.loop-k-init
+loop-k-init c =
+    let x = c.args in
+    rw (to_z-of_z c.ranges.slack) (slack_start c.requires.0 x.i x.slack _ c.requires.1 c.get_act-k.ensures.0)
+
+pub gap_at-requires : goal.gap_at-requires
+gap_at-requires c = let q = c.requires in (q.0, c.loop-k-test.true, calendar_valid q.2 q.0.read)
+
+pub returns-in-Refused : goal.returns-in-Refused
+returns-in-Refused c =
+    let x = c.args in
+    let q = c.requires in
+    let w = worked_on x.week x.sheet.now x.at x.n in
+    let L = c.loop-k in
+    let C = rw (to_z-of_z c.ranges.slack) at L.invariant in
+    slack_stop q.0 x.i x.slack C c.loop-k-test.true _ (sym (c.gap_at.ensures ∙ gap_own q.0 x.i L.k x.start x.finish w (calendar_worked q.2) q.3) ∙ c.in-Refused.is)
+
+pub get_link-k-requires : goal.get_link-k-requires
+get_link-k-requires c = let q = c.requires in (q.0.room, omega (arith, kept_within q.0, c.loop-k-test.true), omega arith)
+
+pub loop-k-smaller : goal.loop-k-smaller
+loop-k-smaller c =
+    let L = c.loop-k in
+    let t = c.loop-k-test.true in
+    omega (arith, t, slack_later c.requires.0 c.args.i c.args.slack L.k _ t c.get_link-k.ensures.0)
+
+pub loop-k-preserved : goal.loop-k-preserved
+loop-k-preserved c =
+    let x = c.args in
+    let q = c.requires in
+    let w = worked_on x.week x.sheet.now x.at x.n in
+    let L = c.loop-k in
+    let C = rw (to_z-of_z c.ranges.slack) at L.invariant in
+    let g = rw (to_z-of_z (record { sfits = c.in-Minutes.known_told-1-own.given.0.1 })) at c.min-least.ensures in
+    rw (to_z-of_z c.ranges.slack, to_z-of_z (record { sfits = c.min-least.type_inv }), g)
+    (slack_turn q.0 x.i x.slack C c.loop-k-test.true _ (sym (c.gap_at.ensures ∙ gap_own q.0 x.i L.k x.start x.finish w (calendar_worked q.2) q.3) ∙ c.in-Minutes.is) _ c.get_link-k.ensures.0)
+
+pub returns : goal.returns
+returns c =
+    let x = c.args in
+    let C = rw (to_z-of_z c.ranges.slack) at c.loop-k.invariant in
+    slack_end c.requires.0 x.i x.slack C c.loop-k-test.false

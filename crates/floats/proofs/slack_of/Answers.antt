@@ -1,0 +1,52 @@
+-- `floats::slack_of` meets its contract. Each way out has its law.
+use borrow.Author.Rules.{rules}
+use mathlib.Core.Path.{sym, ◌∙◌}
+use native.Mathlib.Omega.{arith}
+use mir.Facts.{to_z-of_z}
+use Rattle.clock.specs.On.{worked_on}
+use Rattle.memory.specs.State.{state_of}
+use Rattle.order.specs.Plan.{plan_of}
+use Rattle.calendars.specs.CalendarLaws.{calendar_valid, calendar_worked}
+use Rattle.bounds.specs.ReadyLaws.{activities_are}
+use Rattle.floats.specs.StoreLaws.{ef_at}
+use Rattle.floats.specs.GapLaws.{from_is, slack_found, slack_refused}
+use Rattle.floats.proofs.slack_of.Goals as goal
+
+pub recorded_at-recorded-requires : goal.recorded_at-recorded-requires
+recorded_at-recorded-requires c = let q = c.requires in (q.0.room, q.2)
+
+pub get_act-es-requires : goal.get_act-es-requires
+get_act-es-requires c = let q = c.requires in (q.0.room, q.2, omega arith)
+
+pub get_act-ef-requires : goal.get_act-ef-requires
+get_act-ef-requires c = let q = c.requires in (q.0.room, q.2, omega arith)
+
+pub between-requires : goal.between-requires
+between-requires c = let q = c.requires in calendar_valid q.3 q.0.read
+
+pub least_slack-requires : goal.least_slack-requires
+least_slack-requires c =
+    let x = c.args in
+    let q = c.requires in
+    (q.0, q.2, q.3, from_is q.0 q.1 x.i q.2 _ _ _ _ c.recorded_at-recorded.ensures c.get_act-es.ensures.0 c.begun_at-start.ensures c.get_act-ef.ensures.0)
+
+pub returns-in-Minutes : goal.returns-in-Minutes
+returns-in-Minutes c =
+    let x = c.args in
+    let q = c.requires in
+    let p = plan_of x.sheet.now x.contents in
+    let S = state_of x.contents.activities x.contents.links x.work.now in
+    let w = worked_on x.week x.sheet.now x.at x.n in
+    let l = ef_at p S x.i (omega (arith, activities_are x.sheet.now x.contents, q.2)) in
+    let e = rw (to_z-of_z (record { sfits = c.in-Minutes.known_told-1-own.given.0.1 })) at c.least_slack.ensures in
+    e ∙ slack_found q.0 x.i x.finish _ w (calendar_worked q.3) (c.get_act-ef.ensures.0 ∙ sym l) _ (sym c.between.ensures ∙ c.in-Minutes.is)
+
+pub returns-in-Refused : goal.returns-in-Refused
+returns-in-Refused c =
+    let x = c.args in
+    let q = c.requires in
+    let p = plan_of x.sheet.now x.contents in
+    let S = state_of x.contents.activities x.contents.links x.work.now in
+    let w = worked_on x.week x.sheet.now x.at x.n in
+    let l = ef_at p S x.i (omega (arith, activities_are x.sheet.now x.contents, q.2)) in
+    slack_refused q.0 x.i x.finish _ w (calendar_worked q.3) (c.get_act-ef.ensures.0 ∙ sym l) _ (sym c.between.ensures ∙ c.in-Refused.is)

@@ -1,0 +1,50 @@
+-- `floats::use_float` meets its contract.
+use borrow.Author.Rules.{rules}
+use mathlib.Core.Path.{sym, ap, ◌∙◌}
+use native.Mathlib.Omega.{arith}
+use Rattle.order.specs.Plan.{plan_of}
+use Rattle.passes.specs.Dates.{leaves}
+use Rattle.memory.specs.State.{State, state_of}
+use Rattle.memory.specs.Fields.{free_float}
+use Rattle.topology.specs.Frame.{Frame}
+use Rattle.topology.specs.FrameLaws.{frame_put}
+use lib.IntN.{pos}
+use Rattle.bounds.specs.ReadyLaws.{activities_are}
+use Rattle.floats.specs.Slack.{freed_in}
+use Rattle.floats.specs.StoreLaws.{free_stored, freed_held, freed_stays}
+use Rattle.floats.proofs.use_float.Goals as goal
+
+pub is_moved-requires : goal.is_moved-requires
+is_moved-requires c = let q = c.requires in (q.1, q.2, q.3.is, q.4, q.5)
+
+pub hold_late-requires : goal.hold_late-requires
+hold_late-requires c = let q = c.requires in (q.0, q.1, q.2, q.3)
+
+pub returns-then-is_moved : goal.returns-then-is_moved
+returns-then-is_moved c =
+    let x = c.args in
+    let q = c.requires in
+    let p = plan_of x.sheet.now x.contents in
+    let S = state_of x.contents.activities x.contents.links x.work.now in
+    let r = c.hold_late.ensures in
+    (r.0 ∙ sym (freed_held p S x.i x.free (sym c.is_moved.ensures ∙ c.if-is_moved.true)), r.1, r.2)
+
+pub put_act-requires : goal.put_act-requires
+put_act-requires c = let q = c.requires in (q.1, q.2, omega arith, q.6)
+
+pub returns : goal.returns
+returns c =
+    let x = c.args in
+    let q = c.requires in
+    let p = plan_of x.sheet.now x.contents in
+    let S = state_of x.contents.activities x.contents.links x.work.now in
+    let e = c.put_act.ensures.0 in
+    let F : Frame 12 16 0 0 S (state_of x.contents.activities x.contents.links c.put_act.new.work) =
+    rw e (frame_put 12 16 0 0 free_float (omega arith) (omega arith) S x.i (pos x.free))
+    in (
+      ap (λ (T : State). leaves (freed_in p T)) e
+          ∙ ap leaves (free_stored p S x.i (omega (arith, activities_are x.sheet.now x.contents, q.2)) x.free)
+          ∙ sym (freed_stays p S x.i x.free (sym c.is_moved.ensures ∙ c.if-is_moved.false)),
+      F,
+      c.put_act.ensures.1,
+    )
