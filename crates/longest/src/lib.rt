@@ -1,4 +1,6 @@
 // The longest path: from the activities that finish the project back along the links that set a start.
+#![tactic(auto)]
+
 ghost use Rattle.std.specs.Prelude.{◌≡◌, Bool, reverse, ℕ, ◌<◌, length};
 ghost use Rattle.number.specs.Bit.{bit};
 ghost use Rattle.memory.specs.State.{Room, state_of};

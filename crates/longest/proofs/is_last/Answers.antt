@@ -1,0 +1,37 @@
+-- `longest::is_last` meets its contract, each way out by its law.
+use mathlib.Core.Path.{sym, ◌∙◌}
+use native.Mathlib.Omega.{arith}
+use Rattle.memory.specs.State.{state_of}
+use Rattle.longest.specs.LastLaws.{last_summary, last_completed, last_finish}
+use Rattle.longest.proofs.is_last.Goals as goal
+
+pub get_act-requires : goal.get_act-requires
+get_act-requires c = (c.requires.0, c.requires.1, omega arith)
+
+pub returns-then-get_act-ne0 : goal.returns-then-get_act-ne0
+returns-then-get_act-ne0 c =
+    let x = c.args in
+    λ p t e W R. sym (last_summary p (state_of x.a x.l x.work.now) t W R x.finish x.i (rw e c.requires.1) c.get_act.result c.get_act.ensures.0 c.if-get_act-ne0.true)
+
+pub recorded_at-recorded-requires : goal.recorded_at-recorded-requires
+recorded_at-recorded-requires c = c.requires
+
+pub is_completed-requires : goal.is_completed-requires
+is_completed-requires c = tt
+
+pub returns-then-is_completed : goal.returns-then-is_completed
+returns-then-is_completed c =
+    let x = c.args in
+    λ p t e W R.
+    sym
+    (last_completed p (state_of x.a x.l x.work.now) t W R x.finish x.i (rw e c.requires.1) c.get_act.result c.get_act.ensures.0 c.if-get_act-ne0.false c.recorded_at-recorded.result c.recorded_at-recorded.ensures (sym (c.is_completed.ensures p) ∙ c.if-is_completed.true))
+
+pub get_act-requires-2 : goal.get_act-requires-2
+get_act-requires-2 c = (c.requires.0, c.requires.1, omega arith)
+
+pub returns : goal.returns
+returns c =
+    let x = c.args in
+    λ p t e W R.
+    sym
+    (last_finish p (state_of x.a x.l x.work.now) t W R x.finish x.i (rw e c.requires.1) c.get_act.result c.get_act.ensures.0 c.if-get_act-ne0.false c.recorded_at-recorded.result c.recorded_at-recorded.ensures (sym (c.is_completed.ensures p) ∙ c.if-is_completed.false) c.get_act-2.result c.get_act-2.ensures.0)

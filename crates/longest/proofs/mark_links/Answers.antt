@@ -1,0 +1,107 @@
+-- `longest::mark_links` meets its contract: the links of the chain before k have had their turns.
+use borrow.Author.Rules.{rules}
+use mathlib.Core.Path.{◌≡◌, refl, ◌∙◌}
+use mathlib.Core.Bool.{Bool}
+use Prim.Native.Nat.{ℕ, ◌-◌}
+use native.Mathlib.Omega.{arith}
+use lib.ListN.{length}
+use Rattle.memory.specs.State.{state_of}
+use Rattle.topology.specs.Frame.{Frame}
+use Rattle.topology.specs.FrameLaws.{frame_refl, frame_then}
+use Rattle.order.specs.Plan.{plan_of}
+use Rattle.bounds.specs.ReadyLaws.{activities_are}
+use Rattle.longest.specs.KeptLaws.{lent_kept}
+use Rattle.longest.specs.OwnLaws.{link_in}
+use Rattle.longest.specs.WalkLaws.{Marking, marking_start, next_stands, marking_turn, marking_stop, marking_end}
+use Rattle.longest.proofs.mark_links.Goals as goal
+
+pub get_act-k-requires : goal.get_act-k-requires
+get_act-k-requires c = (c.requires.0.ready.room, c.requires.2, omega arith)
+
+pub loop-k-init : goal.loop-k-init
+loop-k-init c =
+    let x = c.args in
+    let p = plan_of x.sheet.now x.contents in
+    let S = state_of x.contents.activities x.contents.links x.work.now in
+    (refl, frame_refl 16 17 0 0 S, marking_start p c.requires.0.ready.standing x.i (omega (arith, c.requires.2, activities_are x.sheet.now x.contents)) c.get_act-k.result c.get_act-k.ensures.0)
+
+pub mark_link-requires : goal.mark_link-requires
+mark_link-requires c =
+    let x = c.args in
+    let p = plan_of x.sheet.now x.contents in
+    let a = x.contents.activities in
+    let l = x.contents.links in
+    let v = c.loop-k.invariant in
+    (lent_kept c.requires.0 c.loop-k.work v.1 v.0, c.requires.1, c.requires.2, c.loop-k-test.true)
+
+pub shape_of-work-in-Refused : goal.shape_of-work-in-Refused
+shape_of-work-in-Refused c =
+    let x = c.args in
+    let p = plan_of x.sheet.now x.contents in
+    let a = x.contents.activities in
+    let l = x.contents.links in
+    let v = c.loop-k.invariant in
+    c.mark_link.ensures.2 ∙ v.0
+
+pub returns-in-Refused : goal.returns-in-Refused
+returns-in-Refused c =
+    let x = c.args in
+    let p = plan_of x.sheet.now x.contents in
+    let a = x.contents.activities in
+    let l = x.contents.links in
+    let v = c.loop-k.invariant in
+    let m = c.mark_link in
+    let S = state_of a l c.loop-k.work in
+    let T = state_of a l m.new.work in (
+      λ other.
+          marking_stop p c.requires.0.ready.standing x.i v.1 c.loop-k-test.true other (v.2 other) T m.result (m.ensures.0 other) c.in-Refused.r c.in-Refused.is,
+      frame_then 16 17 0 0 v.1 m.ensures.1,
+      m.ensures.2 ∙ v.0,
+    )
+
+pub get_link-k-requires : goal.get_link-k-requires
+get_link-k-requires c =
+    let x = c.args in
+    let p = plan_of x.sheet.now x.contents in
+    let a = x.contents.activities in
+    let l = x.contents.links in
+    let v = c.loop-k.invariant in
+    let m = c.mark_link in
+    (omega (arith, c.requires.0.ready.room, v.0, m.ensures.2), link_in c.requires.0 c.loop-k.k c.loop-k-test.true, omega arith)
+
+pub loop-k-smaller : goal.loop-k-smaller
+loop-k-smaller c =
+    let x = c.args in
+    let p = plan_of x.sheet.now x.contents in
+    let a = x.contents.activities in
+    let l = x.contents.links in
+    let v = c.loop-k.invariant in
+    let m = c.mark_link in
+    omega (arith, (next_stands p c.requires.0.ready.standing x.i v.1 c.loop-k-test.true m.ensures.1 c.get_link-k.result c.get_link-k.ensures.0).low, c.loop-k-test.true)
+
+pub loop-k-preserved : goal.loop-k-preserved
+loop-k-preserved c =
+    let x = c.args in
+    let p = plan_of x.sheet.now x.contents in
+    let a = x.contents.activities in
+    let l = x.contents.links in
+    let v = c.loop-k.invariant in
+    let m = c.mark_link in
+    let T = state_of a l m.new.work in (
+      m.ensures.2 ∙ v.0,
+      frame_then 16 17 0 0 v.1 m.ensures.1,
+      λ other.
+          marking_turn p c.requires.0.ready.standing x.i v.1 c.loop-k-test.true other (v.2 other) T m.result (m.ensures.0 other) m.ensures.1 c.in-Done.is c.get_link-k.result c.get_link-k.ensures.0,
+    )
+
+pub shape_of-work : goal.shape_of-work
+shape_of-work c = c.loop-k.invariant.0
+
+pub returns : goal.returns
+returns c =
+    let x = c.args in
+    let p = plan_of x.sheet.now x.contents in
+    let a = x.contents.activities in
+    let l = x.contents.links in
+    let v = c.loop-k.invariant in
+    (λ other. marking_end p c.requires.0.ready.standing x.i (state_of a l c.loop-k.work) other (v.2 other) c.loop-k-test.false, v.1, v.0)

@@ -1,0 +1,59 @@
+-- `longest::on_path` meets its contract, each way out by its law.
+use borrow.Author.Rules.{rules}
+use mathlib.Core.Path.{refl, sym, ◌∙◌}
+use native.Mathlib.Omega.{arith}
+use Rattle.memory.specs.State.{state_of}
+use Rattle.topology.specs.FrameLaws.{frame_refl}
+use Rattle.order.specs.Plan.{plan_of}
+use Rattle.bounds.specs.ReadyLaws.{activities_are}
+use Rattle.longest.specs.OwnLaws.{own_made}
+use Rattle.longest.specs.WalkLaws.{turn_on, turn_off}
+use Rattle.longest.proofs.on_path.Goals as goal
+
+pub get_act-requires : goal.get_act-requires
+get_act-requires c = (c.requires.0.ready.room, c.requires.1, omega arith)
+
+pub shape_of-work-then-get_act-eq0 : goal.shape_of-work-then-get_act-eq0
+shape_of-work-then-get_act-eq0 c = refl
+
+pub returns-then-get_act-eq0 : goal.returns-then-get_act-eq0
+returns-then-get_act-eq0 c =
+    let x = c.args in
+    let p = plan_of x.sheet.now x.contents in
+    let S = state_of x.contents.activities x.contents.links x.work.now in (
+      λ other.
+          sym
+          (turn_off p S x.i (omega (arith, c.requires.1, activities_are x.sheet.now x.contents)) other c.get_act.result c.get_act.ensures.0 c.if-get_act-eq0.true),
+      frame_refl 16 17 0 0 S,
+      refl,
+    )
+
+pub activity_of-activity-requires : goal.activity_of-activity-requires
+activity_of-activity-requires c = (c.requires.0.ready.read, c.requires.1)
+
+pub week_of-week-requires : goal.week_of-week-requires
+week_of-week-requires c = (c.requires.0.ready.read, c.requires.0.ready.located)
+
+pub exceptions_of-exceptions-requires : goal.exceptions_of-exceptions-requires
+exceptions_of-exceptions-requires c = (c.requires.0.ready.read, c.requires.0.ready.located)
+
+pub mark_links-requires : goal.mark_links-requires
+mark_links-requires c =
+    (c.requires.0, own_made c.activity_of-activity.ensures (record { week_is = c.week_of-week.ensures; at_is = c.exceptions_of-exceptions.ensures.0; n_is = c.exceptions_of-exceptions.ensures.1 }), c.requires.1)
+
+pub shape_of-work : goal.shape_of-work
+shape_of-work c = c.mark_links.ensures.2
+
+pub returns : goal.returns
+returns c =
+    let x = c.args in
+    let p = plan_of x.sheet.now x.contents in
+    let S = state_of x.contents.activities x.contents.links x.work.now in
+    let m = c.mark_links.ensures in (
+      λ other.
+          m.0 other
+          ∙ sym
+          (turn_on p S x.i (omega (arith, c.requires.1, activities_are x.sheet.now x.contents)) other c.get_act.result c.get_act.ensures.0 c.if-get_act-eq0.false),
+      m.1,
+      m.2,
+    )
