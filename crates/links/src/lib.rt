@@ -1,4 +1,6 @@
 // The links of a plan: each is judged, the kept ones stand in the lent memory, and the ignored ones are named.
+#![tactic(auto)]
+
 ghost use Rattle.std.specs.Prelude.{◌≡◌, false, ◌^◌, ◌≤◌, ◌<◌, length};
 ghost use Rattle.memory.specs.State.{Room, state_of};
 ghost use Rattle.project.specs.Records.{relationship_type_of};

@@ -1,5 +1,5 @@
 -- The ways of rows 13 and 14 as the code takes them: each end is looked for by its id.
-use Rattle.std.specs.Prelude.{◌≡◌, true, false, ◌≢◌, ℕ, ◌≤◌, ◌<◌}
+use Rattle.std.specs.Prelude.{◌≡◌, true, false, ◌≢◌, ℕ, ◌<◌}
 use Rattle.std.proofs.Common.{sym, ap, ◌∙◌, arith}
 use Rattle.order.specs.Plan.{Plan}
 use Rattle.order.specs.Ids.{known, index_of}

@@ -1,5 +1,5 @@
 -- The marks, the calendar and the length of a link's lag, as the code finds them from its ends.
-use Rattle.std.specs.Prelude.{◌≡◌, ◌||◌, ℕ, ◌≤◌, ◌<◌, ℤ}
+use Rattle.std.specs.Prelude.{◌≡◌, ◌||◌, ℕ, ℤ}
 use Rattle.std.proofs.Math.Path.{sym}
 use Rattle.std.proofs.Math.Dec.{ltb}
 use Rattle.memory.specs.State.{State}
@@ -9,7 +9,7 @@ use Rattle.project.specs.declared.LagCalendar.{LagCalendar}
 use Rattle.order.specs.Plan.{Plan}
 use Rattle.order.specs.Ids.{summary}
 use Rattle.order.specs.Lags.{lag_calendar, lag_too_long}
-use Rattle.order.specs.Ties.{from_of, to_of, ignored, calendar_of, tie_calendar, tie_too_long}
+use Rattle.order.specs.Ties.{ignored, calendar_of, tie_calendar, tie_too_long}
 use Rattle.number.specs.BitLaws.{mark_flag}
 use Rattle.ids.specs.Parented.{Parented}
 use Rattle.ids.specs.SummaryLaws.{marks_summary}

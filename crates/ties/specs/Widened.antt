@@ -1,6 +1,6 @@
 -- A signed number of 32 bits as one of 64: it fits, and what the machine reads back is the number.
 use Rattle.std.specs.Prelude.{◌≡◌, ◌<◌, ◌^◌, ℤ}
-use Rattle.std.proofs.Common.{◌∙◌, arith, to_z-of_z, SFits, to_z, of_z}
+use Rattle.std.proofs.Common.{arith, to_z-of_z, SFits, to_z, of_z}
 use Rattle.std.proofs.Math.Facts.{sfits_widen}
 use Rattle.std.specs.Int.{w32, w64}
 use Rattle.number.specs.Zed.{dn}

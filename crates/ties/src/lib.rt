@@ -1,4 +1,6 @@
 // Links: rows 13, 14 and 8 of 01's table, kept and ignored links, and lags in minutes.
+#![tactic(auto)]
+
 ghost use Rattle.std.specs.Prelude.{◌≡◌, ◌||◌, ◌≤◌, ◌<◌, ltb};
 ghost use Rattle.memory.specs.State.{Room, state_of};
 ghost use Rattle.memory.specs.Fields.{is_summary};
@@ -16,8 +18,8 @@ ghost use Rattle.ties.specs.Checked.{LinkAnswered};
 
 use sheet::Contents;
 
-pub mod link_fields;
 pub mod lags;
+pub mod link_fields;
 
 // The ends of a link by the activities' numbers, or the row that refuses it and its id.
 #[derive(Clone, Copy)]

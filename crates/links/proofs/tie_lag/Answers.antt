@@ -1,0 +1,40 @@
+-- `links::tie_lag` meets its contract.
+use mathlib.Core.Path.{ap, ◌∙◌}
+use native.Mathlib.Omega.{arith}
+use mir.Facts.{to_z-of_z}
+use Rattle.order.specs.Plan.{plan_of}
+use Rattle.ties.specs.Widened.{widened_back}
+use Rattle.links.specs.StoreLaws.{short_before, lag_is}
+use Rattle.links.proofs.tie_lag.Goals as goal
+
+pub minutes_of-minutes-requires : goal.minutes_of-minutes-requires
+unfolding plan_of
+minutes_of-minutes-requires c = let h = c.requires in (h.0, h.4.from_below)
+
+pub bounds-lengths-calendar : goal.bounds-lengths-calendar
+unfolding plan_of
+bounds-lengths-calendar c = let h = c.requires in omega (arith, h.7, h.3.size)
+
+pub lag_minutes-requires : goal.lag_minutes-requires
+unfolding plan_of
+lag_minutes-requires c =
+    let x = c.args in
+    let h = c.requires in
+    let F = h.2 x.from h.4.from_below in
+    rw (widened_back _ (record { sfits = c.minutes_of-minutes.type_inv }), c.minutes_of-minutes.ensures, c.lag_of-lag.ensures) (
+      short_before (plan_of x.sheet.now x.contents) x.k h.5,
+      omega (arith, h.3.is x.calendar h.7, h.3.low x.calendar h.7),
+      omega (arith, F.whole, F.short),
+    )
+
+pub returns : goal.returns
+unfolding plan_of
+returns c =
+    let x = c.args in
+    let h = c.requires in
+    let p = plan_of x.sheet.now x.contents in
+    let e = rw (widened_back _ (record { sfits = c.minutes_of-minutes.type_inv })) at c.lag_minutes.ensures.0 in
+    rw (to_z-of_z (record { sfits = c.lag_minutes.type_inv }))
+    (e
+    ∙ lag_is p x.k x.from x.to h.4 _ _ _ c.lag_of-lag.ensures (h.3.is x.calendar h.7 ∙ ap p.day_length h.6)
+    c.minutes_of-minutes.ensures)

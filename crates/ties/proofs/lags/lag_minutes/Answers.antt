@@ -1,0 +1,76 @@
+-- `ties::lags::lag_minutes` meets its contract, by the five kinds of lag.
+use borrow.Author.Rules.{rules}
+use mathlib.Core.Path.{◌≡◌, refl, sym, ap, ◌∙◌}
+use Prim.Native.Nat.{◌+◌, ◌≤◌}
+use native.Mathlib.Omega.{arith}
+use lib.IntN.{pos, ◌*ℤ◌}
+use mir.Facts.{to_z-of_z}
+use Rattle.number.specs.Zed.{up, dn}
+use Rattle.number.specs.Sign.{percent_of}
+use Rattle.order.specs.Lags.{lag_before, lag_minutes, days_limit}
+use Rattle.order.specs.LagLaws.{not_beyond, lag_size}
+use Rattle.ties.specs.Widened.{widened_back}
+use Rattle.ties.proofs.lags.lag_minutes.Goals as goal
+
+minutes : (c : goal.After-days_in_minutes) → let a = c.args in
+    lag_minutes a.lag a.day_length a.duration ≡ c.in-WorkingDays.n *ℤ pos a.day_length
+unfolding lag_minutes
+minutes c = rw c.in-WorkingDays.is
+
+short : (c : goal.In-WorkingDays) → up c.in-WorkingDays.n + dn c.in-WorkingDays.n ≤ 100000
+unfolding lag_before
+short c = not_beyond days_limit c.in-WorkingDays.n (sym (ap lag_before c.in-WorkingDays.is) ∙ c.requires.0)
+
+pub days_in_minutes-requires : goal.days_in_minutes-requires
+days_in_minutes-requires c = rw (widened_back c.in-WorkingDays.n (record { sfits = search rules })) (short c, c.requires.1)
+
+pub returns-in-WorkingDays : goal.returns-in-WorkingDays
+returns-in-WorkingDays c =
+    let a = c.args in
+    let e = rw (widened_back c.in-WorkingDays.n (record { sfits = search rules })) at c.days_in_minutes.ensures ∙ sym (minutes c) in
+    rw (to_z-of_z (record { sfits = c.days_in_minutes.type_inv }), e) (refl, lag_size a.day_length a.duration c.requires.1 c.requires.2 a.lag c.requires.0)
+
+minutes-2 : (c : goal.In-WorkingMinutes) → let a = c.args in
+    lag_minutes a.lag a.day_length a.duration ≡ c.in-WorkingMinutes.n
+unfolding lag_minutes
+minutes-2 c = rw c.in-WorkingMinutes.is
+
+pub returns-in-WorkingMinutes : goal.returns-in-WorkingMinutes
+returns-in-WorkingMinutes c = let a = c.args in rw (widened_back c.in-WorkingMinutes.n (record { sfits = search rules }), sym (minutes-2 c)) (refl, lag_size a.day_length a.duration c.requires.1 c.requires.2 a.lag c.requires.0)
+
+minutes-3 : (c : goal.After-days_in_minutes-in-ElapsedDays) → let a = c.args in
+    lag_minutes a.lag a.day_length a.duration ≡ c.in-ElapsedDays.n *ℤ pos 1440
+unfolding lag_minutes
+minutes-3 c = rw c.in-ElapsedDays.is
+
+short-2 : (c : goal.In-ElapsedDays) → up c.in-ElapsedDays.n + dn c.in-ElapsedDays.n ≤ 100000
+unfolding lag_before
+short-2 c = not_beyond days_limit c.in-ElapsedDays.n (sym (ap lag_before c.in-ElapsedDays.is) ∙ c.requires.0)
+
+pub days_in_minutes-requires-in-ElapsedDays : goal.days_in_minutes-requires-in-ElapsedDays
+days_in_minutes-requires-in-ElapsedDays c = rw (widened_back c.in-ElapsedDays.n (record { sfits = search rules })) (short-2 c, omega arith)
+
+pub returns-in-ElapsedDays : goal.returns-in-ElapsedDays
+returns-in-ElapsedDays c =
+    let a = c.args in
+    let e = rw (widened_back c.in-ElapsedDays.n (record { sfits = search rules })) at c.days_in_minutes-in-ElapsedDays.ensures ∙ sym (minutes-3 c) in
+    rw (to_z-of_z (record { sfits = c.days_in_minutes-in-ElapsedDays.type_inv }), e) (refl, lag_size a.day_length a.duration c.requires.1 c.requires.2 a.lag c.requires.0)
+
+minutes-4 : (c : goal.In-ElapsedMinutes) → let a = c.args in
+    lag_minutes a.lag a.day_length a.duration ≡ c.in-ElapsedMinutes.n
+unfolding lag_minutes
+minutes-4 c = rw c.in-ElapsedMinutes.is
+
+pub returns-in-ElapsedMinutes : goal.returns-in-ElapsedMinutes
+returns-in-ElapsedMinutes c = let a = c.args in rw (widened_back c.in-ElapsedMinutes.n (record { sfits = search rules }), sym (minutes-4 c)) (refl, lag_size a.day_length a.duration c.requires.1 c.requires.2 a.lag c.requires.0)
+
+minutes-5 : (c : goal.After-percent) → let a = c.args in
+    lag_minutes a.lag a.day_length a.duration ≡ percent_of a.duration c.in-Percent.n
+unfolding lag_minutes
+minutes-5 c = rw c.in-Percent.is
+
+pub returns-in-Percent : goal.returns-in-Percent
+returns-in-Percent c =
+    let a = c.args in
+    let e = rw (widened_back c.in-Percent.n (record { sfits = search rules }), to_z-of_z c.ranges.duration) at c.percent.ensures.0 ∙ sym (minutes-5 c) in
+    rw (to_z-of_z (record { sfits = c.percent.type_inv }), e) (refl, lag_size a.day_length a.duration c.requires.1 c.requires.2 a.lag c.requires.0)

@@ -1,0 +1,13 @@
+-- `ties::link_fields::lag_calendar_of` meets its contract.
+use mathlib.Core.Path.{◌∙◌, ap}
+use native.Mathlib.Omega.{arith}
+use Rattle.project.specs.Records.{lag_calendar_of, project_at}
+use Rattle.order.specs.Plan.{plan_of}
+use Rattle.ties.proofs.link_fields.lag_calendar_of.Goals as goal
+
+pub byte-requires : goal.byte-requires
+byte-requires c = omega (arith, c.requires.header.within)
+
+pub returns : goal.returns
+unfolding plan_of project_at
+returns c = c.lag_calendar_of.ensures ∙ ap lag_calendar_of c.byte.ensures.0
