@@ -1,4 +1,6 @@
 // Summaries rolled up from their children, deepest first.
+#![tactic(auto)]
+
 ghost use Rattle.std.specs.Prelude.{◌≡◌, Bool, ◌||◌, ℕ, ◌+◌, ◌^◌, ◌≤◌, ◌<◌, min, max, length};
 ghost use Rattle.memory.specs.State.{Room, state_of, put_act};
 ghost use Rattle.memory.specs.Fields.{parent, depth_of, first_child};

@@ -1,4 +1,6 @@
 // The rows of results: 01's fifteen fields of each activity, written into the lent slice, and the finish day.
+#![tactic(auto)]
+
 ghost use Rattle.std.specs.Prelude.{◌≡◌, Bool, ◌++◌, ℕ, ◌+◌, ◌*◌, ◌^◌, ◌≤◌, ◌<◌, max, length, drop};
 ghost use Rattle.memory.specs.State.{Room, state_of};
 ghost use Rattle.sheet.specs.Known.{SheetRead};

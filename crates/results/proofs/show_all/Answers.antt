@@ -1,0 +1,60 @@
+-- `results::show_all` meets its contract.
+use mathlib.Core.Path.{refl}
+use native.Mathlib.Omega.{arith}
+use lib.IntN.{ℤ}
+use mathlib.Core.List.{List}
+use Rattle.memory.specs.State.{State, state_of}
+use Rattle.topology.specs.FrameLaws.{frame_then}
+use Rattle.order.specs.Plan.{plan_of}
+use Rattle.results.specs.View.{shown_to}
+use Rattle.results.specs.RowLaws.{to_show_kept, shows_start, shows_turn, shows_stop, shows_end}
+use Rattle.results.proofs.show_all.Goals as goal
+
+pub read_project-project-requires : goal.read_project-project-requires
+read_project-project-requires c = omega (arith, c.requires.read.header.within)
+
+pub loop-i-init : goal.loop-i-init
+unfolding plan_of
+loop-i-init c =
+    let x = c.args in
+    let S : List ℤ → State = λ ys. state_of x.contents.activities x.contents.links ys in
+    let p = plan_of x.sheet.now x.contents in
+    (omega arith, refl, c.read_project-project.ensures, shows_start p (S x.work.now))
+
+pub show_one-step-requires : goal.show_one-step-requires
+show_one-step-requires c =
+    let L = c.loop-i in
+    (to_show_kept (omega arith) L.invariant.3.frame L.invariant.1 c.requires, omega (arith, c.loop-i-test.true), L.invariant.2)
+
+pub returns-in-Refused : goal.returns-in-Refused
+unfolding plan_of
+returns-in-Refused c =
+    let x = c.args in
+    let S : List ℤ → State = λ ys. state_of x.contents.activities x.contents.links ys in
+    let p = plan_of x.sheet.now x.contents in
+    let L = c.loop-i in
+    let e = c.show_one-step.ensures in
+    let T = S c.show_one-step.new.work in (
+      (λ f other. shows_stop p (S x.work.now) (S L.work) T L.i L.invariant.3 (omega arith) _ e.0 _ c.in-Refused.is (shown_to p.activities T) f other),
+      frame_then 20 30 0 0 L.invariant.3.frame e.1,
+      omega arith,
+    )
+
+pub loop-i-preserved : goal.loop-i-preserved
+unfolding plan_of
+loop-i-preserved c =
+    let x = c.args in
+    let S : List ℤ → State = λ ys. state_of x.contents.activities x.contents.links ys in
+    let p = plan_of x.sheet.now x.contents in
+    let L = c.loop-i in
+    let e = c.show_one-step.ensures in
+    (omega arith, omega arith, L.invariant.2, shows_turn p (S x.work.now) (S L.work) _ L.i L.invariant.3 (omega arith) _ e.0 e.1 c.in-Done.is)
+
+pub returns : goal.returns
+unfolding plan_of
+returns c =
+    let x = c.args in
+    let S : List ℤ → State = λ ys. state_of x.contents.activities x.contents.links ys in
+    let p = plan_of x.sheet.now x.contents in
+    let L = c.loop-i in
+    ((λ f other. shows_end p (S x.work.now) (S L.work) L.i L.invariant.3 (omega arith) f other), L.invariant.3.frame, omega arith)

@@ -1,0 +1,35 @@
+-- `results::show_one` meets its contract.
+use mathlib.Core.Path.{ap, ◌∙◌}
+use native.Mathlib.Omega.{arith}
+use Rattle.memory.specs.State.{state_of}
+use Rattle.topology.specs.FrameLaws.{frame_refl}
+use Rattle.passes.specs.Dates.{Pass}
+use Rattle.results.specs.declared.Shown.{Shown}
+use Rattle.results.specs.View.{shown_to}
+use Rattle.results.specs.RowLaws.{shown_next, next_done, next_refused, shown_frame}
+use Rattle.results.proofs.show_one.Goals as goal
+
+pub row_of-row-requires : goal.row_of-row-requires
+row_of-row-requires c = c.requires
+
+pub put_shown-requires : goal.put_shown-requires
+put_shown-requires c = let h = c.requires in (h.0.room, h.1, rw c.in-Is.is at c.row_of-row.ensures.1)
+
+pub returns-in-Is : goal.returns-in-Is
+returns-in-Is c =
+    let x = c.args in
+    let S = state_of x.contents.activities x.contents.links x.work.now in
+    let e = c.put_shown.ensures in (
+      next_done S x.i _ c.in-Is.x _ c.in-Is.is e.0 ∙ ap (λ (y : Pass Shown). shown_next y (shown_to x.i S) x.i) c.row_of-row.ensures.0,
+      rw e.0 (shown_frame S x.i c.in-Is.x),
+      omega arith,
+    )
+
+pub returns-in-Refused : goal.returns-in-Refused
+returns-in-Refused c =
+    let x = c.args in
+    let S = state_of x.contents.activities x.contents.links x.work.now in (
+      next_refused S x.i _ _ S c.in-Refused.is ∙ ap (λ (y : Pass Shown). shown_next y (shown_to x.i S) x.i) c.row_of-row.ensures.0,
+      frame_refl 20 30 0 0 S,
+      omega arith,
+    )

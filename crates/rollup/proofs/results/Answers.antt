@@ -1,0 +1,60 @@
+-- `rollup::results` meets its contract.
+use mathlib.Core.List.{List}
+use native.Mathlib.Omega.{arith}
+use lib.IntN.{ℤ}
+use Rattle.memory.specs.State.{State, state_of}
+use Rattle.topology.specs.FrameLaws.{frame_then, frame_wider}
+use Rattle.order.specs.Plan.{plan_of}
+use Rattle.results.specs.View.{ran_in, shown_in}
+use Rattle.results.specs.RowLaws.{to_show, to_show_kept}
+use Rattle.rollup.specs.PreparedLaws.{to_roll, to_roll_kept, results_stop, results_on}
+use Rattle.rollup.proofs.results.Goals as goal
+
+pub show_all-step-requires : goal.show_all-step-requires
+unfolding plan_of
+show_all-step-requires c =
+    let x = c.args in
+    let h = c.requires in
+    let p = plan_of x.sheet.now x.contents in
+    let S : List ℤ → State = λ ys. state_of x.contents.activities x.contents.links ys in
+    let S₀ = S x.work.now in to_show h.0 h.2 h.1
+
+pub returns-in-Refused : goal.returns-in-Refused
+unfolding plan_of
+returns-in-Refused c =
+    let x = c.args in
+    let h = c.requires in
+    let p = plan_of x.sheet.now x.contents in
+    let S : List ℤ → State = λ ys. state_of x.contents.activities x.contents.links ys in
+    let S₀ = S x.work.now in
+    let e = c.show_all-step.ensures in
+    let T = S c.show_all-step.new.work in
+    ((λ f other. results_stop p (ran_in p S₀ f other) (shown_in p T) (shown_in p T) _ _ (e.0 f other) c.in-Refused.is), (frame_wider 20 35 0 0 20 30 0 0 (omega arith) (omega arith) (omega arith) (omega arith) e.1), omega (arith, e.2))
+
+pub roll_up-requires : goal.roll_up-requires
+unfolding plan_of
+roll_up-requires c =
+    let x = c.args in
+    let h = c.requires in
+    let p = plan_of x.sheet.now x.contents in
+    let S : List ℤ → State = λ ys. state_of x.contents.activities x.contents.links ys in
+    let S₀ = S x.work.now in
+    let e = c.show_all-step.ensures in
+    (to_show_kept (omega arith) e.1 e.2 (to_show h.0 h.2 h.1), to_roll_kept p (omega arith) e.1 (to_roll h.0))
+
+pub returns-in-Done : goal.returns-in-Done
+unfolding plan_of
+returns-in-Done c =
+    let x = c.args in
+    let h = c.requires in
+    let p = plan_of x.sheet.now x.contents in
+    let S : List ℤ → State = λ ys. state_of x.contents.activities x.contents.links ys in
+    let S₀ = S x.work.now in
+    let e = c.show_all-step.ensures in
+    let d = c.roll_up.ensures in
+    let T = S c.show_all-step.new.work in
+    let U = S c.roll_up.new.work in (
+      (λ f other. results_on p (ran_in p S₀ f other) (shown_in p T) (shown_in p U) _ c.roll_up.result (e.0 f other) c.in-Done.is (d.0 (ran_in p S₀ f other))),
+      frame_then 20 35 0 0 (frame_wider 20 35 0 0 20 30 0 0 (omega arith) (omega arith) (omega arith) (omega arith) e.1) d.1,
+      omega (arith, e.2, d.2),
+    )

@@ -1,0 +1,117 @@
+-- `rollup::roll_depth` meets its contract: the next summary of the depth is k.
+use mathlib.Core.Path.{◌≡◌, refl, sym, ap, subst, ◌∙◌}
+use mathlib.Core.List.{List}
+use Prim.Native.Nat.{ℕ, suc, ◌+◌, ◌-◌, ◌<◌}
+use native.Mathlib.Omega.{arith}
+use lib.IntN.{ℤ}
+use Rattle.cells.specs.Chain.{Stands}
+use Rattle.memory.specs.State.{State, state_of}
+use Rattle.memory.specs.Fields.{depth_of, next_deep}
+use Rattle.topology.specs.FrameLaws.{frame_refl, frame_then}
+use Rattle.order.specs.Plan.{plan_of}
+use Rattle.passes.specs.Dates.{through}
+use Rattle.results.specs.Results.{rolled}
+use Rattle.results.specs.View.{shown_in}
+use Rattle.results.specs.RowLaws.{to_show_kept}
+use Rattle.rollup.specs.RollingLaws.{deep_kept, rolls_start, rolls_turn, rolls_stop, rolls_end, depth_is}
+use Rattle.rollup.proofs.roll_depth.Goals as goal
+
+pub overflow_sub-d : goal.overflow_sub-d
+overflow_sub-d c = omega (arith, c.requires.2)
+
+pub get_act-k-requires : goal.get_act-k-requires
+get_act-k-requires c = let h = c.requires in (h.0.room, omega (arith, h.2, h.3), omega arith)
+
+pub loop-k-init : goal.loop-k-init
+unfolding plan_of
+loop-k-init c =
+    let x = c.args in
+    let h = c.requires in
+    let p = plan_of x.sheet.now x.contents in
+    let S : List ℤ → State = λ ys. state_of x.contents.activities x.contents.links ys in
+    let S₀ = S x.work.now in
+    let n : suc (x.d - 1) ≡ x.d = omega (arith, h.2) in
+    let T = h.1.deep.heads (x.d - 1) (omega (arith, h.2, h.3)) in
+    let U = subst (Stands (S₀.act depth_of) x.contents.activities (suc (x.d - 1)) 0) (sym c.get_act-k.ensures.0) T in
+    (refl, rolls_start p S₀ x.d _ (frame_refl 20 30 0 0 S₀) (subst (λ (i : ℕ). Stands (S₀.act depth_of) x.contents.activities i 0 c.get_act-k.result) n U))
+
+pub roll_one-step-requires : goal.roll_one-step-requires
+unfolding plan_of
+roll_one-step-requires c =
+    let x = c.args in
+    let h = c.requires in
+    let p = plan_of x.sheet.now x.contents in
+    let S : List ℤ → State = λ ys. state_of x.contents.activities x.contents.links ys in
+    let S₀ = S x.work.now in
+    let L = c.loop-k in
+    (to_show_kept (omega arith) L.invariant.1.frame L.invariant.0 h.0, deep_kept p S₀ (S L.work) L.invariant.1.frame h.1, omega (arith, c.loop-k-test.true), h.4)
+
+pub returns-in-Refused : goal.returns-in-Refused
+unfolding plan_of
+returns-in-Refused c =
+    let x = c.args in
+    let h = c.requires in
+    let p = plan_of x.sheet.now x.contents in
+    let S : List ℤ → State = λ ys. state_of x.contents.activities x.contents.links ys in
+    let S₀ = S x.work.now in
+    let L = c.loop-k in
+    let W = L.invariant.1 in
+    let e = c.roll_one-step.ensures in
+    let T = S c.roll_one-step.new.work in (
+      (λ q. rolls_stop p S₀ x.d (S L.work) T L.k W (omega (arith, c.loop-k-test.true)) _ e.0 _ (shown_in p T) c.in-Refused.is q
+          ∙ ap (λ (ks : List ℕ). through (rolled p q) ks (shown_in p S₀)) (depth_is p S₀ h.1 x.d h.2 q)),
+      frame_then 20 30 0 0 W.frame e.1,
+      omega (arith, e.2, L.invariant.0),
+    )
+
+pub get_act-k-requires-in-loop-k : goal.get_act-k-requires-in-loop-k
+get_act-k-requires-in-loop-k c = let h = c.requires in (omega (arith, c.roll_one-step.ensures.2, c.loop-k.invariant.0, h.0.room), omega (arith, c.loop-k-test.true), omega arith)
+
+pub loop-k-smaller : goal.loop-k-smaller
+unfolding plan_of
+loop-k-smaller c =
+    let x = c.args in
+    let h = c.requires in
+    let p = plan_of x.sheet.now x.contents in
+    let S : List ℤ → State = λ ys. state_of x.contents.activities x.contents.links ys in
+    let S₀ = S x.work.now in
+    let L = c.loop-k in
+    let W = L.invariant.1 in
+    let e = c.roll_one-step.ensures in
+    let T = S c.roll_one-step.new.work in
+    let F = frame_then 20 30 0 0 W.frame e.1 in
+    let k : L.k < x.contents.activities = omega (arith, c.loop-k-test.true) in
+    let m = c.get_act-k-in-loop-k.ensures.0 ∙ ap (λ (f : ℕ → ℕ). f L.k) (F.acts next_deep refl) in
+    let G = subst (Stands (S₀.act depth_of) x.contents.activities (S₀.act depth_of L.k) (L.k + 1)) (sym m) (h.1.deep.nexts L.k (omega arith) k (omega (arith, W.hits k, h.2))) in omega (arith, G.low, k)
+
+pub loop-k-preserved : goal.loop-k-preserved
+unfolding plan_of
+loop-k-preserved c =
+    let x = c.args in
+    let h = c.requires in
+    let p = plan_of x.sheet.now x.contents in
+    let S : List ℤ → State = λ ys. state_of x.contents.activities x.contents.links ys in
+    let S₀ = S x.work.now in
+    let L = c.loop-k in
+    let W = L.invariant.1 in
+    let e = c.roll_one-step.ensures in
+    let T = S c.roll_one-step.new.work in
+    let F = frame_then 20 30 0 0 W.frame e.1 in
+    let k : L.k < x.contents.activities = omega (arith, c.loop-k-test.true) in
+    let m = c.get_act-k-in-loop-k.ensures.0 ∙ ap (λ (f : ℕ → ℕ). f L.k) (F.acts next_deep refl) in
+    let G = subst (Stands (S₀.act depth_of) x.contents.activities (S₀.act depth_of L.k) (L.k + 1)) (sym m) (h.1.deep.nexts L.k (omega arith) k (omega (arith, W.hits k, h.2))) in
+    (omega (arith, e.2, L.invariant.0), rolls_turn p S₀ x.d (S L.work) T L.k W k _ e.0 _ T refl c.in-Done.is F G)
+
+pub returns : goal.returns
+unfolding plan_of
+returns c =
+    let x = c.args in
+    let h = c.requires in
+    let p = plan_of x.sheet.now x.contents in
+    let S : List ℤ → State = λ ys. state_of x.contents.activities x.contents.links ys in
+    let S₀ = S x.work.now in
+    let L = c.loop-k in (
+      (λ q. rolls_end p S₀ x.d (S L.work) L.k L.invariant.1 (omega (arith, c.loop-k-test.false)) q ∙ ap (λ (ks : List ℕ). through (rolled p q) ks (shown_in p S₀)) (depth_is p S₀ h.1 x.d h.2 q)),
+      L.invariant.1.frame,
+      L.invariant.0,
+    )

@@ -1,0 +1,79 @@
+-- `rollup::roll_one` meets its contract.
+use mathlib.Core.Path.{refl, sym, subst}
+use Prim.Native.Nat.{◌<◌}
+use native.Mathlib.Omega.{arith}
+use Rattle.memory.specs.State.{state_of}
+use Rattle.memory.specs.Fields.{first_child}
+use Rattle.topology.specs.Frame.{Frame}
+use Rattle.topology.specs.FrameLaws.{frame_refl}
+use Rattle.order.specs.Plan.{plan_of}
+use Rattle.results.specs.View.{shown_in}
+use Rattle.results.specs.RowLaws.{shown_frame}
+use Rattle.rollup.specs.RollingLaws.{one_none, one_done, one_refused}
+use Rattle.rollup.proofs.roll_one.Goals as goal
+
+pub get_act-first-requires : goal.get_act-first-requires
+get_act-first-requires c = let h = c.requires in (h.0.room, h.2, omega arith)
+
+pub returns-then-first-contents : goal.returns-then-first-contents
+unfolding plan_of
+returns-then-first-contents c =
+    let x = c.args in
+    let h = c.requires in
+    let p = plan_of x.sheet.now x.contents in
+    let S = state_of x.contents.activities x.contents.links x.work.now in
+    ((λ q. one_none p S h.1 x.s h.2 (omega (arith, c.get_act-first.ensures.0, c.if-first-contents.true)) q), frame_refl 20 30 0 0 S, refl)
+
+pub sum_children-x-requires : goal.sum_children-x-requires
+unfolding plan_of
+sum_children-x-requires c =
+    let x = c.args in
+    let h = c.requires in
+    let p = plan_of x.sheet.now x.contents in
+    let S = state_of x.contents.activities x.contents.links x.work.now in
+    (h.0.room, h.2, h.1.children, c.get_act-first.ensures.0, omega (arith, c.if-first-contents.false))
+
+pub summed_of-sum-requires : goal.summed_of-sum-requires
+unfolding plan_of
+summed_of-sum-requires c =
+    let x = c.args in
+    let h = c.requires in
+    let p = plan_of x.sheet.now x.contents in
+    let S = state_of x.contents.activities x.contents.links x.work.now in
+    (h.0.read, h.0.located, h.0.days, h.2, h.0.named x.s h.2, h.3, c.sum_children-x.ensures.1)
+
+pub put_shown-requires : goal.put_shown-requires
+put_shown-requires c =
+    let x = c.args in
+    let h = c.requires in
+    let p = plan_of x.sheet.now x.contents in
+    let S = state_of x.contents.activities x.contents.links x.work.now in
+    (h.0.room, h.2, rw c.in-Is.is at c.summed_of-sum.ensures.1)
+
+pub returns-in-Is : goal.returns-in-Is
+unfolding plan_of
+returns-in-Is c =
+    let x = c.args in
+    let h = c.requires in
+    let p = plan_of x.sheet.now x.contents in
+    let S = state_of x.contents.activities x.contents.links x.work.now in
+    let l : S.act first_child x.s < x.contents.activities = omega (arith, c.get_act-first.ensures.0, c.if-first-contents.false) in
+    let y = c.in-Is.y in
+    let e = c.put_shown.ensures in (
+      (λ q. one_done p S h.1 x.s h.2 l _ _ c.sum_children-x.ensures.0 c.summed_of-sum.ensures.0 y _ c.in-Is.is e.0 q),
+      subst (Frame 20 30 0 0 S) (sym e.0) (shown_frame S x.s y),
+      e.1,
+    )
+
+pub returns-in-Refused : goal.returns-in-Refused
+unfolding plan_of
+returns-in-Refused c =
+    let x = c.args in
+    let h = c.requires in
+    let p = plan_of x.sheet.now x.contents in
+    let S = state_of x.contents.activities x.contents.links x.work.now in
+    let l : S.act first_child x.s < x.contents.activities = omega (arith, c.get_act-first.ensures.0, c.if-first-contents.false) in (
+      (λ q. one_refused p S h.1 x.s h.2 l _ _ c.sum_children-x.ensures.0 c.summed_of-sum.ensures.0 _ (shown_in p S) c.in-Refused.is q),
+      frame_refl 20 30 0 0 S,
+      refl,
+    )

@@ -1,0 +1,55 @@
+-- `rollup::roll_up` meets its contract.
+use mathlib.Core.Path.{ap, ◌∙◌}
+use mathlib.Core.List.{List}
+use Prim.Native.Nat.{ℕ}
+use native.Mathlib.Omega.{arith}
+use lib.IntN.{ℤ}
+use Rattle.memory.specs.State.{State, state_of}
+use Rattle.topology.specs.FrameLaws.{frame_then, frame_wider}
+use Rattle.order.specs.Plan.{plan_of}
+use Rattle.passes.specs.Dates.{through}
+use Rattle.results.specs.declared.Shown.{Shown}
+use Rattle.results.specs.Results.{rolled, deepest_first}
+use Rattle.results.specs.RowLaws.{to_show_kept}
+use Rattle.rollup.specs.PreparedLaws.{deep_from, shown_kept, keys_in}
+use Rattle.rollup.proofs.roll_up.Goals as goal
+
+pub read_project-project-requires : goal.read_project-project-requires
+read_project-project-requires c = omega (arith, c.requires.0.read.header.within)
+
+pub prepare-requires : goal.prepare-requires
+unfolding plan_of
+prepare-requires c =
+    let x = c.args in
+    let h = c.requires in
+    let p = plan_of x.sheet.now x.contents in
+    let S : List ℤ → State = λ ys. state_of x.contents.activities x.contents.links ys in
+    let S₀ = S x.work.now in
+    (h.0.room, omega (arith, h.0.read.activities_few), keys_in p S₀ h.1)
+
+pub roll_all-requires : goal.roll_all-requires
+unfolding plan_of
+roll_all-requires c =
+    let x = c.args in
+    let h = c.requires in
+    let p = plan_of x.sheet.now x.contents in
+    let S : List ℤ → State = λ ys. state_of x.contents.activities x.contents.links ys in
+    let S₀ = S x.work.now in
+    let e = c.prepare.ensures in
+    let T = S c.prepare.new.work in
+    (to_show_kept (omega arith) e.0.frame e.1 h.0, deep_from p S₀ T h.1.parents h.1.marks h.1.within e.0, c.read_project-project.ensures)
+
+pub returns : goal.returns
+unfolding plan_of
+returns c =
+    let x = c.args in
+    let h = c.requires in
+    let p = plan_of x.sheet.now x.contents in
+    let S : List ℤ → State = λ ys. state_of x.contents.activities x.contents.links ys in
+    let S₀ = S x.work.now in
+    let e = c.prepare.ensures in
+    let d = c.roll_all.ensures in (
+      (λ q. d.0 q ∙ ap (λ (f : ℕ → Shown). through (rolled p q) (deepest_first p q x.contents.activities) f) (shown_kept (omega arith) e.0.frame x.contents.activities)),
+      frame_then 20 35 0 0 (frame_wider 20 35 0 0 30 35 0 0 (omega arith) (omega arith) (omega arith) (omega arith) e.0.frame) (frame_wider 20 35 0 0 20 30 0 0 (omega arith) (omega arith) (omega arith) (omega arith) d.1),
+      omega (arith, e.1, d.2),
+    )

@@ -1,0 +1,81 @@
+-- `rollup::sum_children` meets its contract: the next child is k, and `x` is the sum so far.
+use mathlib.Core.Path.{sym, ap, subst, ◌∙◌}
+use Prim.Native.Nat.{ℕ, suc, ◌+◌}
+use native.Mathlib.Omega.{arith}
+use Rattle.cells.specs.Chain.{Stands}
+use Rattle.memory.specs.State.{state_of}
+use Rattle.memory.specs.Fields.{parent, first_child, next_child}
+use Rattle.results.specs.declared.Shown.{Shown}
+use Rattle.results.specs.View.{shown_to, shown_at}
+use Rattle.results.specs.ViewLaws.{to_at_lem}
+use Rattle.rollup.specs.Roll.{child_sum}
+use Rattle.rollup.specs.RollLaws.{Sums, sums_start, sums_turn, sums_end}
+use Rattle.rollup.proofs.sum_children.Goals as goal
+
+pub shown_at-x-requires : goal.shown_at-x-requires
+shown_at-x-requires c = (c.requires.0, c.requires.4)
+
+pub get_act-k-requires : goal.get_act-k-requires
+get_act-k-requires c = (c.requires.0, c.requires.4, omega arith)
+
+pub loop-k-init : goal.loop-k-init
+loop-k-init c =
+    let x = c.args in
+    let h = c.requires in
+    let S = state_of x.a x.l x.work.now in
+    let key = S.act parent in
+    let F = shown_to x.a S in
+    let n = S.act first_child x.s in
+    let e = (h.2.heads x.s h.1).hits (omega (arith, h.3, h.4)) in
+    let T = subst (λ (i : ℕ). Stands key x.a i (n + 1) (S.act next_child n)) e (h.2.nexts n (omega arith) (omega (arith, h.3, h.4)) (omega (arith, e))) in
+    let U = subst (Stands key x.a (suc x.s) (n + 1)) (sym (c.get_act-k.ensures.0 ∙ ap (S.act next_child) h.3)) T in
+    (sums_start F key x.a (suc x.s) n _ U _ (c.shown_at-x.ensures.0 ∙ ap (shown_at S) h.3 ∙ sym (to_at_lem x.a S n (omega (arith, h.3, h.4)))), c.shown_at-x.ensures.1)
+
+pub shown_at-requires : goal.shown_at-requires
+shown_at-requires c = (c.requires.0, omega arith)
+
+pub join-x-requires : goal.join-x-requires
+join-x-requires c = (c.loop-k.invariant.1, c.shown_at.ensures.1)
+
+pub get_act-k-requires-in-loop-k : goal.get_act-k-requires-in-loop-k
+get_act-k-requires-in-loop-k c = (c.requires.0, omega arith, omega arith)
+
+pub loop-k-smaller : goal.loop-k-smaller
+loop-k-smaller c =
+    let x = c.args in
+    let h = c.requires in
+    let S = state_of x.a x.l x.work.now in
+    let key = S.act parent in
+    let F = shown_to x.a S in
+    let L = c.loop-k in
+    let W = L.invariant.0 in
+    let y = c.shown_at.ensures.0 ∙ sym (to_at_lem x.a S L.k (omega arith)) in
+    let e = W.hits (omega arith) in
+    let T = subst (Stands key x.a (key L.k) (L.k + 1)) (sym c.get_act-k-in-loop-k.ensures.0) (h.2.nexts L.k (omega arith) (omega arith) (omega (arith, e))) in omega (arith, T.low)
+
+pub loop-k-preserved : goal.loop-k-preserved
+loop-k-preserved c =
+    let x = c.args in
+    let h = c.requires in
+    let S = state_of x.a x.l x.work.now in
+    let key = S.act parent in
+    let F = shown_to x.a S in
+    let L = c.loop-k in
+    let W = L.invariant.0 in
+    let y = c.shown_at.ensures.0 ∙ sym (to_at_lem x.a S L.k (omega arith)) in
+    let e = W.hits (omega arith) in
+    let T = subst (Stands key x.a (key L.k) (L.k + 1)) (sym c.get_act-k-in-loop-k.ensures.0) (h.2.nexts L.k (omega arith) (omega arith) (omega (arith, e))) in (
+      subst (λ (v : Shown). Sums F key x.a (suc x.s) (child_sum S x.a x.s) v c.get_act-k-in-loop-k.result) (sym c.join-x.ensures.0)
+          (sums_turn F key x.a (suc x.s) (child_sum S x.a x.s) L.x L.k W _ _ (omega arith) y T),
+      c.join-x.ensures.1,
+    )
+
+pub returns : goal.returns
+returns c =
+    let x = c.args in
+    let h = c.requires in
+    let S = state_of x.a x.l x.work.now in
+    let key = S.act parent in
+    let F = shown_to x.a S in
+    let L = c.loop-k in
+    (sums_end F key x.a (suc x.s) (child_sum S x.a x.s) L.x L.k L.invariant.0 (omega arith), L.invariant.1)

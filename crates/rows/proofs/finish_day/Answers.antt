@@ -1,0 +1,53 @@
+-- `rows::finish_day` meets its contract: `d` is the finish day of the first i activities.
+use mathlib.Core.Path.{◌≡◌, ap, ◌∙◌}
+use Prim.Native.Nat.{ℕ, ◌/◌, max}
+use native.Mathlib.Omega.{arith}
+use mir.Facts.{to_z-of_z}
+use Rattle.memory.specs.State.{state_of}
+use Rattle.order.specs.Plan.{plan_of}
+use Rattle.results.specs.Results.{finish_day}
+use Rattle.results.specs.Rows.{signed_day_of}
+use Rattle.results.specs.View.{shown_in}
+use Rattle.rows.specs.WritingLaws.{day_none, day_more}
+use Rattle.rows.proofs.finish_day.Goals as goal
+
+pub origin_of-d-requires : goal.origin_of-d-requires
+origin_of-d-requires c = c.requires.0
+
+pub loop-i-init : goal.loop-i-init
+unfolding plan_of
+loop-i-init c =
+    let x = c.args in
+    let S = state_of x.contents.activities x.contents.links x.work.now in
+    let p = plan_of x.sheet.now x.contents in
+    (omega arith, omega (arith, c.origin_of-d.ensures.1), λ q. ap (λ (t : ℕ). t / 1440) c.origin_of-d.ensures.0 ∙ day_none p q S)
+
+pub get_act-requires : goal.get_act-requires
+get_act-requires c = (c.requires.1, omega (arith, c.loop-i-test.true), omega arith)
+
+pub loop-i-preserved : goal.loop-i-preserved
+unfolding plan_of
+loop-i-preserved c =
+    let x = c.args in
+    let S = state_of x.contents.activities x.contents.links x.work.now in
+    let p = plan_of x.sheet.now x.contents in
+    let L = c.loop-i in
+    let g = c.get_act.ensures in (
+      omega arith,
+      omega (arith, c.later-d.ensures, g.1, L.invariant.1),
+      λ q. c.later-d.ensures ∙ ap (max L.d) g.0 ∙ day_more p q S L.i L.d (omega (arith, c.loop-i-test.true)) (L.invariant.2 q),
+    )
+
+pub signed_day_of-requires : goal.signed_day_of-requires
+signed_day_of-requires c = c.loop-i.invariant.1
+
+pub returns : goal.returns
+unfolding plan_of
+returns c =
+    let x = c.args in
+    let S = state_of x.contents.activities x.contents.links x.work.now in
+    let p = plan_of x.sheet.now x.contents in
+    let L = c.loop-i in
+    let n : L.i ≡ x.contents.activities = omega (arith, c.loop-i-test.false) in
+    λ q. rw (to_z-of_z (record { sfits = c.signed_day_of.type_inv }))
+    (c.signed_day_of.ensures ∙ ap signed_day_of (L.invariant.2 q ∙ ap (finish_day p q (shown_in p S)) n))

@@ -1,0 +1,67 @@
+-- `rows::write_floats` meets its contract.
+use borrow.Author.Rules.{rules}
+use mathlib.Core.Path.{refl, ap, ◌∙◌}
+use mathlib.Core.List.{[], ◌∷◌}
+use native.Mathlib.Omega.{arith}
+use lib.ListN.{length-set}
+use mir.Facts.{to_z-of_z, to_z_pos}
+use mir.Syntax.{w64}
+use mir.Val.{SFits}
+use lib.IntN.{ℤ, pos}
+use Rattle.number.specs.BitLaws.{bit_le}
+use Rattle.number.specs.Sign.{whole_days}
+use Rattle.rows.specs.Writing.{stored_from}
+use Rattle.rows.proofs.write_floats.Goals as goal
+
+pub overflow_cast-free : goal.overflow_cast-free
+overflow_cast-free c = record { sfits = c.requires.2.free }
+
+pub whole_days-total_days-requires : goal.whole_days-total_days-requires
+whole_days-total_days-requires c = omega (arith, c.requires.1)
+
+pub whole_days-free_days-requires : goal.whole_days-free_days-requires
+whole_days-free_days-requires c = omega (arith, c.requires.1)
+
+pub overflow_cast-critical : goal.overflow_cast-critical
+overflow_cast-critical c = record { sfits = omega (arith, c.number_of-critical.ensures, bit_le c.args.x.critical) }
+
+pub overflow_cast-path : goal.overflow_cast-path
+overflow_cast-path c = record { sfits = omega (arith, c.number_of-path.ensures, bit_le c.args.x.path) }
+
+pub bounds-results-at : goal.bounds-results-at
+bounds-results-at c = (omega (arith, c.requires.0))
+
+pub bounds-results-at-2 : goal.bounds-results-at-2
+bounds-results-at-2 c = simp length-set (omega (arith, c.requires.0))
+
+pub bounds-results-at-3 : goal.bounds-results-at-3
+bounds-results-at-3 c = simp length-set (omega (arith, c.requires.0))
+
+pub bounds-results-at-4 : goal.bounds-results-at-4
+bounds-results-at-4 c = simp length-set (omega (arith, c.requires.0))
+
+pub bounds-results-at-5 : goal.bounds-results-at-5
+bounds-results-at-5 c = simp length-set (omega (arith, c.requires.0))
+
+pub bounds-results-at-6 : goal.bounds-results-at-6
+bounds-results-at-6 c = simp length-set (omega (arith, c.requires.0))
+
+pub shape_of-results : goal.shape_of-results
+shape_of-results c = simp length-set refl
+
+pub returns : goal.returns
+returns c =
+    let x = c.args.x in
+    let f : SFits w64 x.total = record { sfits = search rules } in
+    let g = to_z_pos w64 c.requires.2.free in
+    let e = ap (λ (t : ℤ). whole_days t c.args.day_length) (to_z-of_z f) in
+    let h = ap (λ (t : ℤ). whole_days t c.args.day_length) g in
+    λ z. stored_from c.args.results.now c.args.at 5 (
+    (to_z-of_z {w = w64} (record { sfits = c.whole_days-total_days.type_inv }) ∙ c.whole_days-total_days.ensures ∙ e) z
+    ∷ (to_z-of_z {w = w64} (record { sfits = c.whole_days-free_days.type_inv }) ∙ c.whole_days-free_days.ensures ∙ h) z
+    ∷ to_z-of_z f z
+    ∷ g z
+    ∷ (to_z_pos w64 (omega (arith, c.number_of-critical.ensures, bit_le x.critical)) ∙ ap pos c.number_of-critical.ensures) z
+    ∷ (to_z_pos w64 (omega (arith, c.number_of-path.ensures, bit_le x.path)) ∙ ap pos c.number_of-path.ensures) z
+    ∷ []
+    )

@@ -1,0 +1,69 @@
+-- `rows::write_row` meets its contract.
+use mathlib.Core.Path.{refl, ap, ◌∙◌}
+use Prim.Native.Nat.{◌*◌, ◌≤◌, ◌<◌, ◌^◌}
+use native.Mathlib.Omega.{arith}
+use Rattle.project.specs.declared.Activity.{Activity}
+use Rattle.memory.specs.State.{state_of}
+use Rattle.order.specs.Plan.{plan_of}
+use Rattle.rows.specs.Writing.{stored_from}
+use Rattle.rows.specs.WritingLaws.{fields_are}
+use Rattle.rows.proofs.write_row.Goals as goal
+
+pub activity_of-activity-requires : goal.activity_of-activity-requires
+activity_of-activity-requires c = let h = c.requires in (h.0.read, h.1)
+
+pub shown_at-x-requires : goal.shown_at-x-requires
+shown_at-x-requires c = let h = c.requires in (h.0.room, h.1)
+
+pub recorded_at-actual-requires : goal.recorded_at-actual-requires
+recorded_at-actual-requires c = let h = c.requires in (h.0.room, h.1)
+
+pub get_act-is_summary-requires : goal.get_act-is_summary-requires
+get_act-is_summary-requires c = let h = c.requires in (h.0.room, h.1, omega arith)
+
+pub get_act-left-requires : goal.get_act-left-requires
+get_act-left-requires c = let h = c.requires in (h.0.room, h.1, omega arith)
+
+pub get_act-es-requires : goal.get_act-es-requires
+get_act-es-requires c = let h = c.requires in (h.0.room, h.1, omega arith)
+
+pub get_act-ef-requires : goal.get_act-ef-requires
+get_act-ef-requires c = let h = c.requires in (h.0.room, h.1, omega arith)
+
+pub overflow_mul-i : goal.overflow_mul-i
+overflow_mul-i c = record { fits = omega (arith, c.requires.1, c.requires.0.read.activities_few) }
+
+pub bounds-lengths-k : goal.bounds-lengths-k
+unfolding plan_of
+bounds-lengths-k c =
+    let h = c.requires in
+    omega (arith, ap (λ (a : Activity). a.calendar) c.activity_of-activity.ensures, h.0.named c.args.i h.1, h.0.days.size)
+
+pub write_fields-requires : goal.write_fields-requires
+unfolding plan_of
+write_fields-requires c =
+    let x = c.args in
+    let h = c.requires in
+    let a = c.activity_of-activity.ensures in
+    let k = c.activity_of-activity.result.calendar in
+    let e = ap (λ (a : Activity). a.calendar) a in
+    let n : k ≤ x.contents.calendars = omega (arith, e, h.0.named x.i h.1) in
+    let i : c.activity_of-activity.result.id < 2 ^ 63 = omega arith in
+    (h.2, i, omega (arith, h.0.days.is k n, h.0.days.low k n), c.shown_at-x.ensures.1, c.get_act-left.ensures.1, c.get_act-es.ensures.1, c.get_act-ef.ensures.1)
+
+pub returns : goal.returns
+unfolding plan_of
+returns c =
+    let x = c.args in
+    let h = c.requires in
+    let a = c.activity_of-activity.ensures in
+    let k = c.activity_of-activity.result.calendar in
+    let e = ap (λ (a : Activity). a.calendar) a in
+    let n : k ≤ x.contents.calendars = omega (arith, e, h.0.named x.i h.1) in
+    let p = plan_of x.sheet.now x.contents in
+    let S = state_of x.contents.activities x.contents.links x.work.now in
+    c.write_fields.ensures
+    ∙ ap (stored_from x.results.now (15 * x.i) 0)
+    (fields_are p S x.i _ _ _ _ _ _ _ _ _ (ap (λ (a : Activity). a.id) a) (h.0.days.is k n ∙ ap p.day_length e) c.shown_at-x.ensures.0 refl
+    (c.get_act-is_summary.ensures.0 ∙ h.0.marks x.i h.1) (c.recorded_at-actual.ensures ∙ h.0.recorded x.i h.1) c.get_act-left.ensures.0
+    c.get_act-es.ensures.0 c.get_act-ef.ensures.0)
