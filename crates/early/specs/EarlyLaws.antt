@@ -34,8 +34,8 @@ use Rattle.early.specs.InHand.{IsTimes, InHand, finished_as, after_start, Fits}
 
 -- ---- a walk x, which is the definition's y: it answers, or is refused
 module _ {A : Type 0} (f go : ℕ → A) {x y : Walk} (e : x ≡ y) where
-  pub goes_on : {u : ℕ} → x ≡ At u → via f y go ≡ go u
-  goes_on a = ap (λ (z : Walk). via f z go) (sym e ∙ a)
+  pub goes_on_lem : {u : ℕ} → x ≡ At u → via f y go ≡ go u
+  goes_on_lem a = ap (λ (z : Walk). via f z go) (sym e ∙ a)
 
   pub stops : {k : ℕ} → x ≡ Refused k → via f y go ≡ f k
   stops a = ap (λ (z : Walk). via f z go) (sym e ∙ a)
@@ -122,7 +122,7 @@ module _ {p : Plan} {d : Early} {i : ℕ} {activity : Activity} {w : ℕ → Boo
           ∙ ap (λ (v : ℕ). via Refused (bounded v x) (λ t. at_early p d i c t start)) (sym q)
 
       pub constrained_at : (t : ℕ) → y ≡ At t → constrained p d i c start ≡ at_early p d i c t start
-      constrained_at t f = at_time ∙ goes_on Refused (λ t. at_early p d i c t start) b f
+      constrained_at t f = at_time ∙ goes_on_lem Refused (λ t. at_early p d i c t start) b f
 
       pub constrained_far : (k : ℕ) → y ≡ Refused k → constrained p d i c start ≡ Refused k
       constrained_far k f = at_time ∙ stops Refused (λ t. at_early p d i c t start) b f
@@ -156,10 +156,10 @@ module _ {p : Plan} {d : Early} {i : ℕ} {activity : Activity} {w : ℕ → Boo
 
       module _ (s : ℕ) (a : x ≡ At s) {y : Walk} (g : y ≡ constrained p d i activity.secondary_constraint s) where
         pub held_second_refused : (k : ℕ) → y ≡ Refused k → held p d i start ≡ Refused k
-        held_second_refused k c = in_turn ∙ goes_on Refused _ f a ∙ stops Refused _ g c
+        held_second_refused k c = in_turn ∙ goes_on_lem Refused _ f a ∙ stops Refused _ g c
 
         pub held_both : (u : ℕ) → y ≡ At u → held p d i start ≡ levelled p d i activity.levelled u
-        held_both u c = in_turn ∙ goes_on Refused _ f a ∙ goes_on Refused _ g c
+        held_both u c = in_turn ∙ goes_on_lem Refused _ f a ∙ goes_on_lem Refused _ g c
 
   -- ---- the start by what is recorded
   module _ (a : Actual) (start : ℕ) where
@@ -200,11 +200,11 @@ module _ {p : Plan} {d : Early} {i : ℕ} {activity : Activity} {w : ℕ → Boo
         is_bounded = g ∙ ap (λ (v : ℕ). bounded v u) q
 
         pub work_far : (k : ℕ) → z ≡ Refused k → work_to p d i s day ≡ Refused k
-        work_far k c = to_evening ∙ goes_on Refused _ f a ∙ stops Refused _ is_bounded c
+        work_far k c = to_evening ∙ goes_on_lem Refused _ f a ∙ stops Refused _ is_bounded c
 
         pub work_counted : (b l : ℕ) → z ≡ At b → l ≡ max b s → work_to p d i s day ≡ counted Refused (between w s l) At
         work_counted b l c j =
-            to_evening ∙ goes_on Refused _ f a ∙ goes_on Refused _ is_bounded c
+            to_evening ∙ goes_on_lem Refused _ f a ∙ goes_on_lem Refused _ is_bounded c
             ∙ ap (λ (v : ℕ). counted Refused (between w s v) At) (sym j)
 
   -- ---- the minutes
@@ -252,14 +252,14 @@ module _ {p : Plan} {d : Early} {i : ℕ} {activity : Activity} {w : ℕ → Boo
       start_bounded = g ∙ ap (λ (v : ℕ). bounded v t) q
 
       pub placed_far : (k : ℕ) → y ≡ Refused k → placed p d i start ≡ refused k
-      placed_far k c = from_start ∙ goes_on refused _ f a ∙ stops refused _ start_bounded c
+      placed_far k c = from_start ∙ goes_on_lem refused _ f a ∙ stops refused _ start_bounded c
 
       module _ (s : ℕ) (c : y ≡ At s) {z : Walk} (h : z ≡ minutes_from p d i s) where
         pub placed_uncounted : (k : ℕ) → z ≡ Refused k → placed p d i start ≡ refused k
-        placed_uncounted k m = from_start ∙ goes_on refused _ f a ∙ goes_on refused _ start_bounded c ∙ stops refused _ h m
+        placed_uncounted k m = from_start ∙ goes_on_lem refused _ f a ∙ goes_on_lem refused _ start_bounded c ∙ stops refused _ h m
 
         pub placed_from : (m : ℕ) → z ≡ At m → placed p d i start ≡ finished_as p d i w s m
-        placed_from m n = from_start ∙ goes_on refused _ f a ∙ goes_on refused _ start_bounded c ∙ goes_on refused _ h n
+        placed_from m n = from_start ∙ goes_on_lem refused _ f a ∙ goes_on_lem refused _ start_bounded c ∙ goes_on_lem refused _ h n
 
 -- ---- the finish
 module _ (p : Plan) (d : Early) (i : ℕ) (w : ℕ → Bool) (s m : ℕ) {x : Walk} (f : x ≡ finish_of w m s) where
@@ -271,10 +271,10 @@ module _ (p : Plan) (d : Early) (i : ℕ) (w : ℕ → Bool) (s m : ℕ) {x : Wa
     finish_bounded = h ∙ ap (λ (v : ℕ). bounded v g) q
 
     pub finished_far : (k : ℕ) → y ≡ Refused k → finished_as p d i w s m ≡ refused k
-    finished_far k c = goes_on refused _ f a ∙ stops refused _ finish_bounded c
+    finished_far k c = goes_on_lem refused _ f a ∙ stops refused _ finish_bounded c
 
     pub finished_at : (e : ℕ) → y ≡ At e → finished_as p d i w s m ≡ leaves (early p d i s e m)
-    finished_at e c = goes_on refused _ f a ∙ goes_on refused _ finish_bounded c
+    finished_at e c = goes_on_lem refused _ f a ∙ goes_on_lem refused _ finish_bounded c
 
 -- ---- links met, then the start by what is recorded
 module _ (p : Plan) (d : Early) (i : ℕ) (a : Actual) (start : ℕ) {x : Walk} (f : x ≡ start_by p d i a start) where
@@ -282,7 +282,7 @@ module _ (p : Plan) (d : Early) (i : ℕ) (a : Actual) (start : ℕ) {x : Walk} 
   after_refused k e = stops refused (placed p d i) f e
 
   pub after_start_lem : (u : ℕ) → x ≡ At u → after_start p d i a start ≡ placed p d i u
-  after_start_lem u e = goes_on refused (placed p d i) f e
+  after_start_lem u e = goes_on_lem refused (placed p d i) f e
 
 -- ---- what fits
 pub refused_fits : (k : ℕ) → Fits (Placement.Refused k)

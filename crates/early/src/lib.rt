@@ -1,5 +1,7 @@
 // One activity's early dates: its constraints, work under way, an expected finish, and its placing. Nothing is stored.
 // Each function has the activity, its own calendar, its minutes of work left, and the times of the project.
+#![tactic(auto)]
+
 ghost use Rattle.std.specs.Prelude.{◌≡◌, ℕ, ◌^◌, ◌<◌, max};
 ghost use Rattle.calendar.specs.Records.{Valid};
 ghost use Rattle.clock.specs.On.{worked_on};

@@ -14,7 +14,7 @@ use Rattle.passes.specs.Plan.{tie, ties_into, floor}
 use Rattle.passes.specs.Dates.{Early, refused}
 use Rattle.passes.specs.Forward.{link_bound, link_start, start_for, raised}
 use Rattle.early.specs.InHand.{after_start}
-use Rattle.early.specs.EarlyLaws.{goes_on, stops}
+use Rattle.early.specs.EarlyLaws.{goes_on_lem, stops}
 use Rattle.forward.specs.Linked.{after_links}
 
 -- ---- a walk, raised
@@ -32,7 +32,7 @@ module _ (p : Plan) (d : Early) (i : ℕ) where
     pub link_start_at : (b : ℕ) → x ≡ At b → (left : ℕ) → left ≡ d.left i → (kind : RelationshipType) → kind ≡ (tie p k).kind
         → link_start p d i k ≡ start_for p i left kind b
     link_start_at b a left l kind q =
-        goes_on Refused (start_for p i (d.left i) (tie p k).kind) e a
+        goes_on_lem Refused (start_for p i (d.left i) (tie p k).kind) e a
         ∙ ap₂ (λ (m : ℕ) (n : RelationshipType). start_for p i m n b) (sym l) (sym q)
 
     pub link_start_refused : (r : ℕ) → x ≡ Refused r → link_start p d i k ≡ Refused r
@@ -44,10 +44,10 @@ module _ (p : Plan) (d : Early) (i : ℕ) where
     raised_by = via Refused (link_start p d i k) (λ s. At (max start s))
 
     pub raised_later : (s : ℕ) → x ≡ At s → start < s → raised_by ≡ At s
-    raised_later s a l = let m : max start s ≡ s = omega arith in goes_on Refused (λ s. At (max start s)) e a ∙ ap At m
+    raised_later s a l = let m : max start s ≡ s = omega arith in goes_on_lem Refused (λ s. At (max start s)) e a ∙ ap At m
 
     pub raised_same : (s : ℕ) → x ≡ At s → s ≤ start → raised_by ≡ At start
-    raised_same s a l = let m : max start s ≡ start = omega arith in goes_on Refused (λ s. At (max start s)) e a ∙ ap At m
+    raised_same s a l = let m : max start s ≡ start = omega arith in goes_on_lem Refused (λ s. At (max start s)) e a ∙ ap At m
 
     pub raised_refused : (r : ℕ) → x ≡ Refused r → raised_by ≡ Refused r
     raised_refused r a = stops Refused (λ s. At (max start s)) e a
@@ -74,7 +74,7 @@ module _ (p : Plan) (d : Early) (i : ℕ) where
     from_floor = e ∙ ap (raised p d i (ties_into p i)) q
 
     pub after_links_lem : (s : ℕ) → x ≡ At s → after_links p d i a ≡ after_start p d i a s
-    after_links_lem s h = goes_on refused (after_start p d i a) from_floor h
+    after_links_lem s h = goes_on_lem refused (after_start p d i a) from_floor h
 
     pub after_links_refused : (k : ℕ) → x ≡ Refused k → after_links p d i a ≡ refused k
     after_links_refused k h = stops refused (after_start p d i a) from_floor h

@@ -1,4 +1,6 @@
 // Before the forward pass: recorded dates are placed and the work left of each activity is found.
+#![tactic(auto)]
+
 ghost use Rattle.std.specs.Prelude.{◌≡◌, false, ◌-◌, ◌^◌, ◌<◌, max, min, length};
 ghost use Rattle.number.specs.Zed.{up};
 ghost use Rattle.sheet.specs.Known.{SheetRead};

@@ -1,0 +1,17 @@
+-- `early::start_by` meets its contract. Each way out has its law.
+use mathlib.Core.Path.{sym, ap, ◌∙◌}
+use Rattle.worktime.specs.declared.Walk.TheVariants.{At}
+use Rattle.early.specs.EarlyLaws.{start_unstarted, start_begun, start_completed, start_refused}
+use Rattle.early.proofs.start_by.Goals as goal
+
+pub returns-in-Unstarted : goal.returns-in-Unstarted
+returns-in-Unstarted c = λ p d i H T q. c.held.ensures p d i H T q ∙ sym (start_unstarted H _ _ c.in-Unstarted.is)
+
+pub returns-in-Begun : goal.returns-in-Begun
+returns-in-Begun c = λ p d i H T q. ap At (c.resumed.ensures p d T) ∙ sym (start_begun H _ _ _ c.in-Begun.is)
+
+pub returns-in-Completed : goal.returns-in-Completed
+returns-in-Completed c = λ p d i H T q. sym (start_completed H _ _ _ _ c.in-Completed.is)
+
+pub returns-in-Refused : goal.returns-in-Refused
+returns-in-Refused c = λ p d i H T q. sym (start_refused H _ _ _ c.in-Refused.is)

@@ -1,0 +1,37 @@
+-- `forward::raise` meets its contract. The invariant: the walk along the links into the activity has come to link k with this start.
+use native.Mathlib.Omega.{arith}
+use Rattle.bounds.specs.ReadyLaws.{kept_within}
+use Rattle.forward.specs.RaiseLaws.{raising_start, raising_turn, raising_stop, raising_less, raising_end}
+use Rattle.forward.proofs.raise.Goals as goal
+
+pub get_act-k-requires : goal.get_act-k-requires
+get_act-k-requires c =
+    (c.requires.0.room, c.requires.2, omega arith)
+
+pub loop-k-init : goal.loop-k-init
+loop-k-init c =
+    raising_start c.args.sheet.now c.args.contents c.args.t c.args.work.now c.args.i c.args.floor c.requires.0 c.requires.2 _ c.get_act-k.ensures.0
+
+pub raised_by-requires : goal.raised_by-requires
+raised_by-requires c =
+    (c.requires.0, c.requires.1, c.loop-k-test.true, c.requires.3)
+
+pub returns-in-Refused : goal.returns-in-Refused
+returns-in-Refused c =
+    raising_stop c.args.sheet.now c.args.contents c.args.t c.args.work.now c.args.i c.args.floor c.requires.0 c.loop-k.invariant c.loop-k-test.true (c.raised_by.ensures _ c.requires.4) _ c.in-Refused.is
+
+pub get_link-k-requires : goal.get_link-k-requires
+get_link-k-requires c =
+    (c.requires.0.room, omega (arith, kept_within c.requires.0, c.loop-k-test.true), omega arith)
+
+pub loop-k-smaller : goal.loop-k-smaller
+loop-k-smaller c =
+    raising_less c.args.sheet.now c.args.contents c.args.t c.args.work.now c.args.i c.args.floor c.requires.0 _ _ c.loop-k-test.true c.get_link-k.ensures.0
+
+pub loop-k-preserved : goal.loop-k-preserved
+loop-k-preserved c =
+    raising_turn c.args.sheet.now c.args.contents c.args.t c.args.work.now c.args.i c.args.floor c.requires.0 c.loop-k.invariant c.loop-k-test.true (c.raised_by.ensures _ c.requires.4) _ c.in-At.is _ c.get_link-k.ensures.0
+
+pub returns : goal.returns
+returns c =
+    raising_end c.args.sheet.now c.args.contents c.args.t c.args.work.now c.args.i c.args.floor c.requires.0 c.loop-k.invariant c.loop-k-test.false

@@ -1,0 +1,28 @@
+-- `forward::raised_by` meets its contract. Each way out has its law.
+use mathlib.Core.Path.{sym}
+use Rattle.dates.specs.Columns.{early_in}
+use Rattle.memory.specs.State.{state_of}
+use Rattle.order.specs.Plan.{plan_of}
+use Rattle.forward.specs.LinkedLaws.{raised_later, raised_same, raised_refused}
+use Rattle.forward.proofs.raised_by.Goals as goal
+
+pub returns-then-start-s : goal.returns-then-start-s
+returns-then-start-s c =
+    let p = plan_of c.args.sheet.now c.args.contents in
+    let S = state_of c.args.contents.activities c.args.contents.links c.args.work.now in
+    let d = early_in p S in
+    λ i H. sym (raised_later p d i c.args.k c.args.start (c.link_start.ensures i H) _ c.in-At.is c.if-start-s.true)
+
+pub returns-in-At : goal.returns-in-At
+returns-in-At c =
+    let p = plan_of c.args.sheet.now c.args.contents in
+    let S = state_of c.args.contents.activities c.args.contents.links c.args.work.now in
+    let d = early_in p S in
+    λ i H. sym (raised_same p d i c.args.k c.args.start (c.link_start.ensures i H) _ c.in-At.is c.if-start-s.false)
+
+pub returns-in-Refused : goal.returns-in-Refused
+returns-in-Refused c =
+    let p = plan_of c.args.sheet.now c.args.contents in
+    let S = state_of c.args.contents.activities c.args.contents.links c.args.work.now in
+    let d = early_in p S in
+    λ i H. sym (raised_refused p d i c.args.k c.args.start (c.link_start.ensures i H) _ c.in-Refused.is)

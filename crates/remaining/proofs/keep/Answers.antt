@@ -1,0 +1,26 @@
+-- `remaining::keep` meets its contract: the four puts are `kept`.
+use borrow.Author.Rules.{rules}
+use mathlib.Core.Path.{◌∙◌}
+use Rattle.remaining.specs.LeftLaws.{start_below, finish_below}
+use Rattle.remaining.specs.RowLaws.{kept_steps}
+use Rattle.remaining.proofs.keep.Goals as goal
+
+pub put_act-requires-2 : goal.put_act-requires-2
+put_act-requires-2 c =
+    (search rules, search rules, search rules, rw c.start_of.ensures (start_below c.args.actual c.requires.2))
+
+pub put_act-requires-3 : goal.put_act-requires-3
+put_act-requires-3 c =
+    (search rules, search rules, search rules, rw c.finish_of.ensures (finish_below c.args.actual c.requires.2))
+
+pub returns : goal.returns
+returns c =
+    let p4 = c.put_act-4.ensures in
+    let p3 = c.put_act-3.ensures in
+    let p2 = c.put_act-2.ensures in
+    let p1 = c.put_act.ensures in
+    let x = c.args in (
+      kept_steps _ _ _ _ _ x.i x.actual _ _ _ x.left p1.0 p2.0 p3.0 p4.0 c.how_of.ensures.0 c.start_of.ensures
+          c.finish_of.ensures,
+      p4.1 ∙ p3.1 ∙ p2.1 ∙ p1.1,
+    )

@@ -1,0 +1,83 @@
+-- `remaining::record_dated` meets its contract: what is recorded is the definition's, and so is the work left.
+use mathlib.Core.Path.{◌≡◌, refl, sym, ap, ◌∙◌}
+use mathlib.Core.Bool.{false}
+use mathlib.Core.List.{List}
+use Prim.Native.Nat.{ℕ}
+use Rattle.calendar.specs.declared.Period.{Period}
+use Rattle.sheet.specs.declared.Contents.{Contents}
+use Rattle.project.specs.declared.Activity.{Activity}
+use Rattle.placing.specs.declared.Actual.{Actual}
+use Rattle.placing.specs.Placing.{actual}
+use Rattle.clock.specs.On.{worked_on}
+use Rattle.order.specs.Plan.{plan_of, week_of_calendar, exception_place, exception_number}
+use Rattle.order.specs.Ids.{summary}
+use Rattle.order.specs.Ties.{calendar_of}
+use Rattle.passes.specs.Plan.{recorded}
+use Rattle.calendars.specs.Calendars.{IsCalendar}
+use Rattle.calendars.specs.CalendarLaws.{calendar_valid, calendar_worked}
+use Rattle.remaining.specs.LeftLaws.{recorded_else, left_is, left_answers, left_below, is_below}
+use Rattle.remaining.specs.RowLaws.{row_kept, row_refused}
+use Rattle.remaining.proofs.record_dated.Goals as goal
+
+-- activity i of the sheet s, in hand
+module _ (s : List ℕ) (k : Contents) (i : ℕ) {a : Activity} (e : a ≡ (plan_of s k).activity i) where
+  -- the activity's own calendar
+  own-calendar : {week : List (List Period)} {at n : ℕ} → week ≡ week_of_calendar s k a.calendar
+      → at ≡ exception_place s k a.calendar → n ≡ exception_number s k a.calendar → IsCalendar s k (calendar_of (plan_of s k) i) week at n
+  own-calendar w f g = record {
+    week_is = w ∙ ap (λ (a : Activity). week_of_calendar s k a.calendar) e;
+    at_is = f ∙ ap (λ (a : Activity). exception_place s k a.calendar) e;
+    n_is = g ∙ ap (λ (a : Activity). exception_number s k a.calendar) e;
+  }
+
+  recorded-is : {week : List (List Period)} {at n : ℕ} → IsCalendar s k (calendar_of (plan_of s k) i) week at n
+      → summary (plan_of s k) i ≡ false → {x : Actual} → x ≡ actual (worked_on week s at n) a.actual_start a.actual_finish → x ≡ recorded (plan_of s k) i
+  recorded-is C f r =
+      r ∙ (λ z. actual (calendar_worked C z) (e z).actual_start (e z).actual_finish) ∙ sym (recorded_else (plan_of s k) i f)
+
+pub actual-actual-requires : goal.actual-actual-requires
+actual-actual-requires c =
+    let x = c.args in
+    calendar_valid
+    (own-calendar x.sheet.now x.contents x.i c.requires.4 c.week_of-week.ensures c.exceptions_of-e.ensures.0 c.exceptions_of-e.ensures.1)
+    c.requires.0
+
+pub left_of-requires : goal.left_of-requires
+left_of-requires c =
+    let x = c.args in (
+      c.requires.0,
+      c.requires.4,
+      own-calendar x.sheet.now x.contents x.i c.requires.4 c.week_of-week.ensures c.exceptions_of-e.ensures.0 c.exceptions_of-e.ensures.1,
+      c.requires.6,
+    )
+
+pub keep-requires : goal.keep-requires
+keep-requires c =
+    let y = c.args in
+    let p = plan_of y.sheet.now y.contents in
+    let C = own-calendar y.sheet.now y.contents y.i c.requires.4 c.week_of-week.ensures c.exceptions_of-e.ensures.0 c.exceptions_of-e.ensures.1 in
+    let x = c.actual-actual.result in (
+      c.requires.2,
+      c.requires.3,
+      is_below p y.i x (recorded-is y.sheet.now y.contents y.i c.requires.4 C c.requires.5 c.actual-actual.ensures),
+      left_below p y.i (rw c.requires.6 at c.requires.7) x c.in-At.left (sym c.left_of.ensures ∙ c.in-At.is),
+    )
+
+pub returns-in-At : goal.returns-in-At
+returns-in-At c =
+    let y = c.args in
+    let p = plan_of y.sheet.now y.contents in
+    let C = own-calendar y.sheet.now y.contents y.i c.requires.4 c.week_of-week.ensures c.exceptions_of-e.ensures.0 c.exceptions_of-e.ensures.1 in
+    let x = c.actual-actual.result in
+    let e = recorded-is y.sheet.now y.contents y.i c.requires.4 C c.requires.5 c.actual-actual.ensures in
+    let m = sym c.left_of.ensures ∙ c.in-At.is in
+    (row_kept p y.i _ _ x _ c.keep.ensures.0 e (λ k. left_answers p y.i x _ k m) (left_is p y.i x e ∙ m), c.keep.ensures.1)
+
+pub returns-in-Refused : goal.returns-in-Refused
+returns-in-Refused c =
+    let y = c.args in
+    let p = plan_of y.sheet.now y.contents in
+    let C = own-calendar y.sheet.now y.contents y.i c.requires.4 c.week_of-week.ensures c.exceptions_of-e.ensures.0 c.exceptions_of-e.ensures.1 in
+    let x = c.actual-actual.result in
+    let e = recorded-is y.sheet.now y.contents y.i c.requires.4 C c.requires.5 c.actual-actual.ensures in
+    (row_refused p y.i _ _ (left_is p y.i x e ∙ sym c.left_of.ensures ∙ c.in-Refused.is), refl)

@@ -1,0 +1,118 @@
+-- `remaining::record_one` meets its contract: each way out has its law.
+use borrow.Author.Rules.{rules}
+use mathlib.Core.Path.{◌≡◌, sym, ap, ◌∙◌}
+use mathlib.Core.Bool.{true, false}
+use mathlib.Core.List.{List}
+use Prim.Native.Nat.{ℕ, ◌<◌}
+use native.Mathlib.Omega.{arith}
+use lib.IntN.{ℤ}
+use mir.Facts.{to_z-of_z}
+use mir.Syntax.{w32}
+use mir.Val.{SFits, of_z, to_z}
+use Rattle.std.proofs.Common.{◌≢◌}
+use Rattle.number.specs.Zed.{up}
+use Rattle.number.specs.Bit.{bit}
+use Rattle.number.specs.BitLaws.{mark_none, mark_some}
+use Rattle.sheet.specs.declared.Contents.{Contents}
+use Rattle.project.specs.declared.Activity.{Activity}
+use Rattle.project.specs.declared.Status.{Status}
+use Rattle.project.specs.declared.Status.TheVariants.{NotStarted}
+use Rattle.project.specs.Status.{status_of}
+use Rattle.memory.specs.State.{state_of}
+use Rattle.memory.specs.Fields.{is_summary}
+use Rattle.placing.specs.declared.Actual.{Actual}
+use Rattle.placing.specs.declared.Actual.TheVariants.{Unstarted}
+use Rattle.order.specs.Plan.{Plan, plan_of}
+use Rattle.order.specs.Ids.{summary}
+use Rattle.passes.specs.Plan.{recorded, full}
+use Rattle.dates.specs.Standing.{Ready}
+use Rattle.worktime.specs.declared.Walk.TheVariants.{At}
+use Rattle.placing.specs.PlacingSound.{clash}
+use Rattle.remaining.specs.LeftLaws.{recorded_summary, recorded_none, full_summary, full_else, left_unstarted, is_below}
+use Rattle.remaining.specs.RowLaws.{row_kept}
+use Rattle.remaining.proofs.record_one.Goals as goal
+
+unstarted : (k : ℕ) → Unstarted ≡ Actual.Refused k → ⊥
+unstarted k e = clash (cc)
+
+-- the mark m tells summaries from others
+module _ {s : List ℕ} {x : Contents} {places : List ℕ} {t : ℕ} {xs : List ℤ} (R : Ready s x places t xs) {i m : ℕ} (l : i < x.activities) (e : m ≡ (state_of x.activities x.links xs).act is_summary i) where
+  marked : m ≡ bit (summary (plan_of s x) i)
+  unfolding plan_of
+  marked = e ∙ R.standing.marks i l
+
+  is-summary : m ≢ 0 → summary (plan_of s x) i ≡ true
+  is-summary n = mark_some _ marked n
+
+  no-summary : m ≡ 0 → summary (plan_of s x) i ≡ false
+  no-summary z = mark_none _ marked z
+
+-- activity i, no summary
+module _ (p : Plan) (i : ℕ) {a : Activity} (e : a ≡ p.activity i) (n : summary p i ≡ false) where
+  -- the minutes are the activity's
+  whole_is : SFits w32 a.minutes → {m : ℕ} → m ≡ up (to_z w32 (of_z w32 a.minutes)) → m ≡ full p i
+  whole_is f u = rw (to_z-of_z f) at u ∙ ap (λ (a : Activity). up a.minutes) e ∙ sym (full_else p i n)
+
+  none-recorded : {x : Status} → x ≡ status_of a.actual_start a.actual_finish → x ≡ NotStarted → recorded p i ≡ Unstarted
+  none-recorded g h = recorded_none p i n (sym (λ z. status_of (e z).actual_start (e z).actual_finish) ∙ sym g ∙ h)
+
+pub get_act-mark-requires : goal.get_act-mark-requires
+get_act-mark-requires c = (c.requires.0.room, c.requires.1, omega arith)
+
+pub keep-requires : goal.keep-requires
+keep-requires c =
+    let x = c.args in
+    let p = plan_of x.sheet.now x.contents in
+    let y = is-summary c.requires.0 c.requires.1 c.get_act-mark.ensures.0 c.if-mark-ne0.true in
+    (c.requires.0.room, c.requires.1, is_below p x.i Unstarted (sym (recorded_summary p x.i y)), omega arith)
+
+pub returns-then-mark-ne0 : goal.returns-then-mark-ne0
+returns-then-mark-ne0 c =
+    let x = c.args in
+    let p = plan_of x.sheet.now x.contents in
+    let y = is-summary c.requires.0 c.requires.1 c.get_act-mark.ensures.0 c.if-mark-ne0.true in
+    let e = recorded_summary p x.i y in (
+      row_kept p x.i _ _ Unstarted 0 c.keep.ensures.0 (sym e) unstarted (left_unstarted p x.i e ∙ ap At (full_summary p x.i y)),
+      c.keep.ensures.1,
+    )
+
+pub activity_of-activity-requires : goal.activity_of-activity-requires
+activity_of-activity-requires c = (c.requires.0.read, c.requires.1)
+
+pub record_dated-requires : goal.record_dated-requires
+record_dated-requires c =
+    let x = c.args in
+    let e = c.activity_of-activity.ensures in
+    let n = no-summary c.requires.0 c.requires.1 c.get_act-mark.ensures.0 c.if-mark-ne0.false in (
+      c.requires.0.read,
+      c.requires.0.located,
+      c.requires.0.room,
+      c.requires.1,
+      e,
+      n,
+      whole_is (plan_of x.sheet.now x.contents) x.i e n (record { sfits = search rules }) c.minutes_of-whole.ensures.0,
+      c.minutes_of-whole.ensures.1,
+    )
+
+pub returns-in_default : goal.returns-in_default
+returns-in_default c = c.record_dated.ensures
+
+pub keep-requires-2 : goal.keep-requires-2
+keep-requires-2 c =
+    let x = c.args in
+    let p = plan_of x.sheet.now x.contents in
+    let n = no-summary c.requires.0 c.requires.1 c.get_act-mark.ensures.0 c.if-mark-ne0.false in
+    let r = none-recorded p x.i c.activity_of-activity.ensures n c.status_of-status.ensures c.in-NotStarted.is in
+    (c.requires.0.room, c.requires.1, is_below p x.i Unstarted (sym r), c.minutes_of-whole.ensures.1)
+
+pub returns : goal.returns
+returns c =
+    let x = c.args in
+    let p = plan_of x.sheet.now x.contents in
+    let e = c.activity_of-activity.ensures in
+    let n = no-summary c.requires.0 c.requires.1 c.get_act-mark.ensures.0 c.if-mark-ne0.false in
+    let r = none-recorded p x.i e n c.status_of-status.ensures c.in-NotStarted.is in
+    let w = whole_is p x.i e n (record { sfits = search rules }) c.minutes_of-whole.ensures.0 in (
+      row_kept p x.i _ _ Unstarted _ c.keep-2.ensures.0 (sym r) unstarted (left_unstarted p x.i r ∙ ap At (sym w)),
+      c.keep-2.ensures.1,
+    )

@@ -1,0 +1,59 @@
+-- `remaining::remaining` meets its contract: the first i activities are done.
+use mathlib.Core.Path.{◌≡◌, refl, ◌∙◌}
+use native.Mathlib.Omega.{arith}
+use Rattle.memory.specs.State.{state_of}
+use Rattle.topology.specs.FrameLaws.{frame_refl, frame_then}
+use Rattle.order.specs.Plan.{plan_of}
+use Rattle.placing.specs.PlacingSound.{clash}
+use Rattle.dates.specs.KeptLaws.{ready_kept}
+use Rattle.remaining.specs.RowLaws.{passed_start, passed_turn, passed_stop, passed_end}
+use Rattle.remaining.proofs.remaining.Goals as goal
+
+pub loop-i-init : goal.loop-i-init
+loop-i-init c =
+    let x = c.args in
+    let S = state_of x.contents.activities x.contents.links x.work.now in
+    (omega arith, refl, frame_refl 14 20 0 0 S, passed_start (plan_of x.sheet.now x.contents) S)
+
+pub record_one-requires : goal.record_one-requires
+record_one-requires c =
+    let L = c.loop-i in
+    (ready_kept c.requires L.invariant.2 L.invariant.1 (omega arith), omega arith)
+
+pub returns-in-Refused : goal.returns-in-Refused
+unfolding plan_of
+returns-in-Refused c =
+    let e = c.record_one.ensures in
+    let L = c.loop-i in
+    let x = c.args in
+    let p = plan_of x.sheet.now x.contents in (
+      passed_stop p L.i _ _ L.invariant.3 _ e.0 _ c.in-Refused.is (omega arith),
+      λ d. clash (cc),
+      frame_then 14 20 0 0 L.invariant.2 e.0.frame,
+      e.1 ∙ L.invariant.1,
+    )
+
+pub loop-i-preserved : goal.loop-i-preserved
+loop-i-preserved c =
+    let e = c.record_one.ensures in
+    let L = c.loop-i in
+    let x = c.args in
+    let p = plan_of x.sheet.now x.contents in (
+      omega arith,
+      e.1 ∙ L.invariant.1,
+      frame_then 14 20 0 0 L.invariant.2 e.0.frame,
+      passed_turn p L.i _ _ L.invariant.3 _ e.0 c.in-Done.is,
+    )
+
+pub shape_of-work : goal.shape_of-work
+shape_of-work c = c.loop-i.invariant.1
+
+pub returns : goal.returns
+unfolding plan_of
+returns c =
+    let L = c.loop-i in
+    let x = c.args in
+    let p = plan_of x.sheet.now x.contents in
+    let d : L.i ≡ x.contents.activities = omega arith in
+    let e = passed_end p L.i (state_of x.contents.activities x.contents.links L.work) d L.invariant.3 in
+    (e.0, λ q. e.1, L.invariant.2, L.invariant.1)
