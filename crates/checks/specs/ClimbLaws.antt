@@ -3,14 +3,14 @@ use Rattle.std.specs.Prelude.{◌≡◌, ℕ, ◌+◌, ◌-◌, ◌≤◌, ◌<�
 use Rattle.std.proofs.Common.{sym, ap, ◌∙◌, arith, add-one}
 use Rattle.network.specs.Parents.{climb, upward}
 use Rattle.network.specs.Climbing.{climb_zero, climb_next, climb_pos, climb_le}
-use Rattle.network.specs.ParentLoops.{loop_steps_back}
-use Rattle.network.specs.ParentRows.{length_upward, upward_at}
+use Rattle.network.proofs.ParentLoops.{loop_steps_back}
+use Rattle.network.proofs.ParentRows.{length_upward, upward_at}
 use Rattle.order.specs.Plan.{Plan}
 use Rattle.order.specs.Ids.{id_of, parent_of}
 use Rattle.order.specs.Checks.{named}
 use Rattle.order.specs.FineLaws.{ParentsKnown}
 use Rattle.order.specs.ParentLaws.{parent_le}
-use Rattle.order.specs.LoopLaws.{named_length, named_at}
+use Rattle.order.proofs.LoopLaws.{named_length, named_at}
 use Rattle.ids.specs.Summaries.{LoopFrom}
 
 module _ (p : Plan) (K : ParentsKnown p) (first steps : ℕ) (L : LoopFrom p first steps) where

@@ -4,7 +4,7 @@ use Rattle.std.proofs.Common.{sym, ap, ◌∙◌, arith}
 use Rattle.memory.specs.State.{State}
 use Rattle.topology.specs.Loop.{loop_at}
 use Rattle.order.specs.Checks.{named}
-use Rattle.order.specs.LoopLaws.{named_length, named_at}
+use Rattle.order.proofs.LoopLaws.{named_length, named_at}
 use Rattle.checks.specs.Column.{LoopIn}
 
 module _ (f : ℕ → ℕ) {a m : ℕ} {xs : List ℕ} {S : State} (L : LoopIn a m xs S) where

@@ -6,7 +6,7 @@ use Rattle.order.specs.Plan.{Plan}
 use Rattle.order.specs.Checks.{Verdict, or_else}
 use Rattle.order.specs.CheckLaws.{calendars_first, activities_first, parents_first}
 use Rattle.order.specs.VerdictLaws.{or_first, or_second}
-use Rattle.order.specs.FineLaws.{activities_fine_lem}
+use Rattle.order.proofs.FineLaws.{activities_fine_lem}
 use Rattle.ids.specs.declared.Check.{Check}
 use Rattle.ids.specs.declared.Check.TheVariants.{Fine, Refused}
 use Rattle.ids.specs.ParentedLaws.{indexed_kept}

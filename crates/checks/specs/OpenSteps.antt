@@ -10,7 +10,7 @@ use Rattle.network.specs.OutgoingLaws.{keyed_end, keyed_hit}
 use Rattle.order.specs.Plan.{Plan}
 use Rattle.order.specs.Ids.{summary}
 use Rattle.order.specs.Ties.{kept_links, is_open}
-use Rattle.order.specs.OpenLaws.{open_summary, open_in, open_out, open_neither}
+use Rattle.order.proofs.OpenLaws.{open_summary, open_in, open_out, open_neither}
 use Rattle.dates.specs.Standing.{Standing}
 use Rattle.dates.specs.StandingLaws.{into_is, out_is}
 

@@ -18,7 +18,7 @@ use Rattle.order.specs.Ids.{id_of}
 use Rattle.order.specs.Ties.{Tie, kept_below, kept_links, tie_of}
 use Rattle.order.specs.TieLaws.{ends_of, ends_length, ends_at, kept_picked, from_below, to_below}
 use Rattle.order.specs.Checks.{fine, named, refuse_loop, order, judge_order}
-use Rattle.order.specs.CheckLaws.{order_whole, order_loop}
+use Rattle.order.proofs.CheckLaws.{order_whole, order_loop}
 use Rattle.order.specs.FineLaws.{LinksFine}
 use Rattle.dates.specs.Standing.{tie_in, Standing}
 use Rattle.checks.specs.StoredLinks.{StoredLinks}

@@ -13,7 +13,7 @@ use Rattle.worktime.specs.declared.Walk.TheVariants.{At, Refused}
 use Rattle.worktime.specs.Worked.{count}
 use Rattle.worktime.specs.Walks.{too_long, first_minute, end_minute, retreat}
 use Rattle.worktime.specs.Count.{count_mono, count_lt, count_le, reach, start_le}
-use Rattle.worktime.specs.Shift.{retreat_at, retreat_none}
+use Rattle.worktime.proofs.Shift.{retreat_at, retreat_none}
 use Rattle.clock.specs.On.{worked_on}
 use Rattle.clock.specs.Days.{hand_select}
 use Rattle.clock.specs.Regular.{Rising, Sums, regular}

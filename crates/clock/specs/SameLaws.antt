@@ -7,7 +7,7 @@ use Rattle.worktime.specs.declared.Walk.TheVariants.{Refused}
 use Rattle.worktime.specs.Worked.{count}
 use Rattle.worktime.specs.Walks.{too_long, first_minute, end_minute, advance, retreat}
 use Rattle.worktime.specs.Count.{count_worked, count_lt, count_le, closing_suc, reach, start_le}
-use Rattle.worktime.specs.Shift.{advance_at, advance_none, retreat_at, retreat_none}
+use Rattle.worktime.proofs.Shift.{advance_at, advance_none, retreat_at, retreat_none}
 
 module _ (w : ℕ → Bool) where
   pub advance_same : {t m u n : ℕ} → 0 < m → 0 < n → first_minute ≤ t → first_minute ≤ u → count w t + m ≡ count w u + n → advance w t m ≡ advance w u n

@@ -10,8 +10,8 @@ use Rattle.worktime.specs.Worked.{closing}
 use Rattle.worktime.specs.Count.{closing_before}
 use Rattle.worktime.specs.Walks.{too_long, first_minute, end_minute, next_start, previous_finish, next_finish, working_at, previous_start, start_by, minute_before, advance, retreat, shift}
 use Rattle.worktime.specs.Reads.{minute_range}
-use Rattle.worktime.specs.Answers.{working_at_sound, working_at_why, next_start_worked, next_start_out, next_finish_closing, next_finish_else, next_finish_out_before, previous_start_next, start_by_worked, start_by_else, start_by_out}
-use Rattle.worktime.specs.Shift.{shift_forward, shift_back}
+use Rattle.worktime.proofs.Answers.{working_at_sound, working_at_why, next_start_worked, next_start_out, next_finish_closing, next_finish_else, next_finish_out_before, previous_start_next, start_by_worked, start_by_else, start_by_out}
+use Rattle.worktime.proofs.Shift.{shift_forward, shift_back}
 
 module _ (w : ℕ → Bool) (t : ℕ) (r : Working) where
   module _ (e : r ≡ working_at w t) where

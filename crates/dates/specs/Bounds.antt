@@ -11,9 +11,9 @@ use Rattle.worktime.specs.declared.Work.TheVariants.{Minutes}
 use Rattle.worktime.specs.Worked.{count}
 use Rattle.worktime.specs.Walks.{next_start, previous_finish, next_finish, previous_start, start_by, advance, retreat, shift, between}
 use Rattle.worktime.specs.Count.{count_le}
-use Rattle.worktime.specs.Answers.{next_start_sound, previous_finish_sound, next_finish_sound, previous_start_next, start_by_sound}
-use Rattle.worktime.specs.Shift.{advance_sound, retreat_sound, shift_forward, shift_back}
-use Rattle.worktime.specs.Between.{between_sound, work_from_less}
+use Rattle.worktime.proofs.Answers.{next_start_sound, previous_finish_sound, next_finish_sound, previous_start_next, start_by_sound}
+use Rattle.worktime.proofs.Shift.{advance_sound, retreat_sound, shift_forward, shift_back}
+use Rattle.worktime.proofs.Between.{between_sound, work_from_less}
 use Rattle.worktime.specs.Relations.{retreat_before}
 use Rattle.project.specs.declared.ActivityKind.{ActivityKind}
 use Rattle.project.specs.declared.ActivityKind.TheVariants.{Task, StartMilestone, FinishMilestone}

@@ -6,7 +6,8 @@ use Rattle.order.specs.Ties.{tie_of, kept_below}
 use Rattle.order.specs.Checks.{checked, before_ordering, judge_order}
 use Rattle.order.specs.CheckLaws.{ActivityFine}
 use Rattle.order.specs.VerdictLaws.{or_fine}
-use Rattle.order.specs.FineLaws.{PlanFine, plan_fine_lem}
+use Rattle.order.specs.FineLaws.{PlanFine}
+use Rattle.order.proofs.FineLaws.{plan_fine_lem}
 use Rattle.order.specs.TieLaws.{kept_picked, from_below, to_below}
 use Rattle.order.specs.LagLaws.{tie_lag, tie_calendar_lem}
 use Rattle.passes.specs.Plan.{tie}

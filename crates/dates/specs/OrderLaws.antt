@@ -10,7 +10,7 @@ use Rattle.memory.specs.Fields.{order_at}
 use Rattle.sheet.specs.declared.Contents.{Contents}
 use Rattle.order.specs.Plan.{Plan, plan_of}
 use Rattle.order.specs.Checks.{order, checked}
-use Rattle.order.specs.LoopLaws.{fine_ordered}
+use Rattle.order.proofs.LoopLaws.{fine_ordered}
 use Rattle.dates.specs.Standing.{Standing, Ready}
 
 -- ---- a list backward

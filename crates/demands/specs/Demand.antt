@@ -18,7 +18,7 @@ use Rattle.order.specs.Plan.{Plan, plan_of}
 use Rattle.order.specs.Ids.{id_of, summary}
 use Rattle.order.specs.Checks.{Verdict, checked, before_ordering}
 use Rattle.order.specs.Demand.{LoopOfIds, KeptLinksCloseLoop}
-use Rattle.order.specs.LoopLaws.{loop_iff, loop_named, loop_each}
+use Rattle.order.proofs.LoopLaws.{loop_iff, loop_named, loop_each}
 use Rattle.passes.specs.Dates.{Pass, leaves, refused}
 use Rattle.passes.specs.Run.{Ran, run}
 use Rattle.results.specs.declared.Shown.{Shown}

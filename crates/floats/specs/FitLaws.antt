@@ -6,7 +6,7 @@ use Rattle.worktime.specs.declared.Walk.TheVariants.{At}
 use Rattle.worktime.specs.Count.{count_mono}
 use Rattle.worktime.specs.Reads.{at_or_refused}
 use Rattle.worktime.specs.Walks.{end_minute, advance, retreat}
-use Rattle.worktime.specs.Shift.{retreat_sound}
+use Rattle.worktime.proofs.Shift.{retreat_sound}
 use Rattle.project.specs.declared.ActivityKind.{ActivityKind}
 use Rattle.placing.specs.Placing.{place_start, finish_of}
 use Rattle.placing.specs.PlacingSound.{same_time, walk_ways, place_start_sound, finish_of_bound}

@@ -7,7 +7,7 @@ use Rattle.memory.specs.StateLaws.{act_same, act_row, act_field, act_past, fill_
 use Rattle.order.specs.Plan.{Plan}
 use Rattle.order.specs.Ids.{id_of}
 use Rattle.order.specs.Checks.{judge_activity}
-use Rattle.order.specs.CheckLaws.{activity_fine_lem}
+use Rattle.order.proofs.CheckLaws.{activity_fine_lem}
 use Rattle.ids.specs.declared.Check.{Check}
 use Rattle.ids.specs.declared.Check.TheVariants.{Fine}
 use Rattle.ids.specs.Tree.{Children, Vacant, at_root, at_child, Leaf}

@@ -7,7 +7,7 @@ use Rattle.number.specs.ZedLaws.{lt_z_true, lt_z_false, nlt0}
 use Rattle.order.specs.Plan.{Plan}
 use Rattle.order.specs.Ids.{id_of, known}
 use Rattle.order.specs.Checks.{refuse, fine, judge_activity}
-use Rattle.order.specs.CheckLaws.{activity_met, activity_negative, activity_long, activity_uncalendared, activity_passes}
+use Rattle.order.proofs.CheckLaws.{activity_met, activity_negative, activity_long, activity_uncalendared, activity_passes}
 use Rattle.ids.specs.Index.{found_in}
 use Rattle.ids.specs.IndexLaws.{found_known, found_unknown, found_le}
 

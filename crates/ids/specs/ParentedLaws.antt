@@ -9,7 +9,7 @@ use Rattle.order.specs.Plan.{Plan}
 use Rattle.order.specs.Ids.{id_of, known, index_of, parent_of}
 use Rattle.order.specs.IdLaws.{DistinctIds}
 use Rattle.order.specs.Checks.{refuse, fine, judge_parent}
-use Rattle.order.specs.CheckLaws.{parent_none, parent_unknown, parent_passes}
+use Rattle.order.proofs.CheckLaws.{parent_none, parent_unknown, parent_passes}
 use Rattle.order.specs.ParentLaws.{parent_of_none, parent_of_some, among_none, among_child, among_other}
 use Rattle.ids.specs.TreeLaws.{trees_same}
 use Rattle.ids.specs.Index.{Indexed, found_in}

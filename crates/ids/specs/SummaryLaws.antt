@@ -9,9 +9,10 @@ use Rattle.order.specs.Plan.{Plan}
 use Rattle.order.specs.Ids.{id_of, parent_of, summary}
 use Rattle.order.specs.IdLaws.{DistinctIds}
 use Rattle.order.specs.Checks.{Verdict, refuse, first_of, judge_activity, judge_parent, judge_summary}
-use Rattle.order.specs.CheckLaws.{summary_milestone, summary_loop, summary_passes}
+use Rattle.order.proofs.CheckLaws.{summary_milestone, summary_loop, summary_passes}
 use Rattle.order.specs.VerdictLaws.{first_end, first_passes, first_stops}
-use Rattle.order.specs.FineLaws.{ParentsKnown, activities_fine_lem, parents_fine, fine_distinct}
+use Rattle.order.specs.FineLaws.{ParentsKnown}
+use Rattle.order.proofs.FineLaws.{activities_fine_lem, parents_fine, fine_distinct}
 use Rattle.order.specs.ParentLaws.{parent_le}
 use Rattle.ids.specs.declared.Check.{Check}
 use Rattle.ids.specs.declared.Check.TheVariants as check

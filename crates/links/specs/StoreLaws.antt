@@ -13,7 +13,7 @@ use Rattle.order.specs.Ties.{ignored, tie_calendar, tie_too_long, tie_of}
 use Rattle.order.specs.Lags.{lag_minutes, lag_before}
 use Rattle.order.specs.LagLaws.{lag_long_before}
 use Rattle.order.specs.Checks.{Verdict, fine, judge_link}
-use Rattle.order.specs.CheckLaws.{link_fine_lem}
+use Rattle.order.proofs.CheckLaws.{link_fine_lem}
 use Rattle.ties.specs.Ends.{Between}
 use Rattle.links.specs.Stored.{with_tie, tie_in, Stored}
 

@@ -1,5 +1,5 @@
 -- "Order is Kahn's, first in first out", and the loop that is named where some activities never come out.
-use Rattle.std.specs.Prelude.{Bool, true, false, ◌&&◌, ◌||◌, not, List, [], ◌∷◌, ◌++◌, reverse, ℕ, zero, suc, ◌+◌, ◌-◌, eqb, ltb, length, get_or}
+use Rattle.std.specs.Prelude.{Bool, true, false, ◌&&◌, ◌||◌, not, List, [], ◌∷◌, ◌++◌, reverse, ℕ, zero, suc, ◌-◌, eqb, get_or}
 use Rattle.network.specs.Links.{Link}
 
 -- how many links still to be met lead into each activity, and which activities wait for none, first in first

@@ -10,24 +10,13 @@ pub mod Times
 pub mod Pending
 pub mod PendingLaws
 pub mod OutgoingLaws
-pub mod Meeting
 pub mod Draining
 pub mod Placed
-pub mod GoingBack
-pub mod NamedLoop
-pub mod KahnLaws
 -- loops of parents: `ParentLoops`, `ParentRows` and `Depth` have the theorems
 pub mod Climbing
-pub mod ParentLoops
-pub mod ParentRows
 pub mod Depth
 -- the same as loops over arrays meet them
-pub mod Prefix
 pub mod Chains
 pub mod Array
 pub mod ArrayLaws
-pub mod ProgressLaws
-pub mod ProgressEnds
-pub mod BackSteps
-pub mod BackWalk
 pub mod ParentSteps

@@ -1,5 +1,5 @@
 -- The links out of an activity and into it, in rising order: by index, as chains in memory list them, and by the activities at their other ends.
-use Rattle.std.specs.Prelude.{true, false, List, [], ◌∷◌, map, ℕ, zero, suc, ◌+◌, ◌-◌, eqb, length, get_or}
+use Rattle.std.specs.Prelude.{true, false, List, [], ◌∷◌, map, ℕ, ◌-◌, eqb, length, get_or}
 use Rattle.cells.specs.Chain.{keyed}
 use Rattle.network.specs.Links.{Link, no_link}
 use Rattle.network.specs.Kahn.{Waiting, meet}

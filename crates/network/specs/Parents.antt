@@ -1,5 +1,5 @@
 -- Parents: `parent i` is 0 where activity i has none, and else one more than its parent's number.
-use Rattle.std.specs.Prelude.{◌≡◌, Bool, true, false, List, [], ◌∷◌, ◌++◌, ℕ, zero, suc, ◌+◌, ◌-◌, ◌≤◌, ◌<◌, eqb}
+use Rattle.std.specs.Prelude.{◌≡◌, true, false, List, [], ◌∷◌, ◌++◌, ℕ, zero, suc, ◌-◌, ◌<◌, eqb}
 
 module _ (parent : ℕ → ℕ) where
   -- one step up, from none to none

@@ -1,6 +1,6 @@
 -- Rows 5 to 15 of 01's table, in 01's order: "5 for all calendars; each activity 6, 7, 8, 9; 10 for all; each activity 11, 12; each link
 -- 13 (predecessor first), 14, ignored if an end is a summary, else kept, 8; 15".
-use Rattle.std.specs.Prelude.{Bool, true, false, ◌&&◌, List, [], ◌∷◌, ℕ, zero, suc, eqb, ltb, leb, length, get_or}
+use Rattle.std.specs.Prelude.{true, false, ◌&&◌, List, [], ◌∷◌, ℕ, zero, suc, eqb, ltb, leb, length, get_or}
 use Rattle.number.specs.Zed.{up, dn}
 use Rattle.calendar.specs.Records.{weekly_hours}
 use Rattle.project.specs.Status.{is_milestone}

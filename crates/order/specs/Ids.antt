@@ -1,5 +1,5 @@
 -- Which activity has an id, who is under whom, and which activities are summaries.
-use Rattle.std.specs.Prelude.{Bool, true, false, ◌||◌, ◌&&◌, ℕ, zero, suc, eqb}
+use Rattle.std.specs.Prelude.{Bool, true, false, ◌||◌, ℕ, zero, suc, eqb}
 use Rattle.order.specs.Plan.{Plan}
 
 module _ (p : Plan) where

@@ -1,5 +1,5 @@
 -- A link's lag in minutes, and the calendar that it counts on.
-use Rattle.std.specs.Prelude.{Bool, true, false, ◌||◌, ℕ, ◌+◌, ltb, ℤ, pos, ◌*ℤ◌}
+use Rattle.std.specs.Prelude.{Bool, false, ◌||◌, ℕ, ◌+◌, ltb, ℤ, pos, ◌*ℤ◌}
 use Rattle.number.specs.Zed.{up, dn}
 use Rattle.number.specs.Sign.{percent_of}
 use Rattle.project.specs.declared.LagKind.{LagKind}

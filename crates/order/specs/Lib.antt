@@ -8,17 +8,11 @@ pub mod Demand
 -- the first refusal, and each check by its ways
 pub mod VerdictLaws
 pub mod CheckLaws
-pub mod RowLaws
 -- what the checks leave: ids, parents, links and lags
 pub mod IdLaws
 pub mod FineLaws
 pub mod ParentLaws
 pub mod TieLaws
-pub mod IgnoredLaws
 pub mod LagLaws
-pub mod OpenLaws
 -- demand 3: `LoopLaws` and `TwelveLaws` have the theorems
-pub mod LoopLaws
-pub mod ParentLoopLaws
-pub mod TwelveLaws
 pub mod Examples

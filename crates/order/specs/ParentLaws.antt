@@ -8,7 +8,7 @@ use Rattle.std.proofs.Math.Dec.{eqb}
 use Rattle.number.specs.Order.{eq_or_ne}
 use Rattle.network.specs.Parents.{climb, OnLoop}
 use Rattle.network.specs.ParentLinks.{ParentsLoop, depth}
-use Rattle.network.specs.ParentLoops.{loop_steps_zero, climb_ends}
+use Rattle.network.proofs.ParentLoops.{loop_steps_zero, climb_ends}
 use Rattle.network.specs.Depth.{Deep, depth_deep, depth_child, depth_top}
 use Rattle.order.specs.Plan.{Plan}
 use Rattle.order.specs.Ids.{id_of, index_of, parent_of, parent_among, summary}

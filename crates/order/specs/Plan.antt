@@ -1,7 +1,7 @@
 -- The plan that a sheet holds: its records as functions of their number, and its calendars.
-use Rattle.std.specs.Prelude.{Bool, true, false, List, ℕ, eqb, ltb}
+use Rattle.std.specs.Prelude.{true, false, List, ℕ, ltb}
 use Rattle.calendar.specs.declared.Period.{Period}
-use Rattle.calendar.specs.Records.{week_of, round_the_clock, hours_on}
+use Rattle.calendar.specs.Records.{round_the_clock, hours_on}
 use Rattle.project.specs.declared.Activity.{Activity}
 use Rattle.project.specs.declared.Relationship.{Relationship}
 use Rattle.project.specs.declared.Project.{Project}

@@ -1,5 +1,5 @@
 -- The kept links by the activities' numbers, with their lags; and which links are ignored.
-use Rattle.std.specs.Prelude.{Bool, true, false, ◌||◌, not, ◌&&◌, List, [], ◌∷◌, ◌++◌, ℕ, zero, suc, ◌+◌, eqb, ℤ, length}
+use Rattle.std.specs.Prelude.{Bool, true, false, ◌||◌, not, ◌&&◌, List, [], ◌∷◌, ◌++◌, ℕ, zero, suc, eqb, ℤ, length}
 use Rattle.project.specs.declared.RelationshipType.{RelationshipType}
 use Rattle.network.specs.Links.{Link}
 use Rattle.network.specs.Outgoing.{incoming, outgoing}

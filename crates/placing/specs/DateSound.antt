@@ -12,7 +12,7 @@ use Rattle.worktime.specs.Walks.{too_long, first_minute, end_minute, reads, next
 use Rattle.worktime.specs.Count.{start_le, count_mono, reach}
 use Rattle.worktime.specs.Reads.{reads_in, reads_out, minute_range}
 use Rattle.worktime.specs.Search.{least_at}
-use Rattle.worktime.specs.Answers.{next_start_sound, next_start_refused, previous_finish_sound, previous_finish_refused}
+use Rattle.worktime.proofs.Answers.{next_start_sound, next_start_refused, previous_finish_sound, previous_finish_refused}
 use Rattle.project.specs.declared.OptionalDate.{OptionalDate}
 use Rattle.project.specs.declared.OptionalDate.TheVariants.{On, Absent}
 use Rattle.project.specs.declared.End.{End}

@@ -10,8 +10,8 @@ use Rattle.worktime.specs.Count.{count_mono, start_le, closing_pred}
 use Rattle.worktime.specs.Relations.{next_start_count, next_finish_count, next_finish_after, previous_finish_count, advance_from, retreat_before}
 use Rattle.worktime.specs.Adjoint.{finish_galois}
 use Rattle.worktime.specs.Reads.{at_or_refused}
-use Rattle.worktime.specs.Answers.{next_start_sound, next_start_refused, previous_finish_sound, previous_finish_refused, next_finish_sound, next_finish_refused, previous_start_next, start_by_sound, start_by_refused}
-use Rattle.worktime.specs.Shift.{advance_sound, advance_refused, retreat_sound, retreat_refused}
+use Rattle.worktime.proofs.Answers.{next_start_sound, next_start_refused, previous_finish_sound, previous_finish_refused, next_finish_sound, next_finish_refused, previous_start_next, start_by_sound, start_by_refused}
+use Rattle.worktime.proofs.Shift.{advance_sound, advance_refused, retreat_sound, retreat_refused}
 use Rattle.project.specs.declared.ActivityKind.{ActivityKind}
 use Rattle.project.specs.declared.ActivityKind.TheVariants.{Task, StartMilestone, FinishMilestone}
 use Rattle.placing.specs.Placing.{bounded, is_moment, place_start, finish_of, start_for_finish, place_finish, latest_same, start_of, finish_for_start, finish_for_start_by}

@@ -8,7 +8,7 @@ use Rattle.number.specs.Order.{lt_or_le}
 use Rattle.network.specs.Links.{Link}
 use Rattle.network.specs.Kahn.{into}
 use Rattle.network.specs.Times.{same, same_cases}
-use Rattle.network.specs.Prefix.{into_nil, into_take, into_take_le}
+use Rattle.network.proofs.Prefix.{into_nil, into_take, into_take_le}
 use Rattle.tie_list.specs.declared.Tie.{Tie}
 use Rattle.tie_list.specs.Tied.{no_tie, leads_to, link_of, links_of, one_more, Counted}
 

@@ -3,7 +3,7 @@ use Rattle.std.specs.Prelude.{◌≡◌, true, false, ℕ}
 use Rattle.order.specs.Plan.{Plan}
 use Rattle.order.specs.Ties.{ignored, tie_too_long}
 use Rattle.order.specs.Checks.{refuse, fine, judge_link}
-use Rattle.order.specs.CheckLaws.{link_ignored, link_long, link_kept}
+use Rattle.order.proofs.CheckLaws.{link_ignored, link_long, link_kept}
 use Rattle.ties.specs.Ends.{Between}
 
 module _ (p : Plan) (k from to : ℕ) (E : Between p k from to) where

@@ -5,7 +5,7 @@ use Rattle.order.specs.Plan.{Plan}
 use Rattle.order.specs.Ids.{known, index_of}
 use Rattle.order.specs.IdLaws.{DistinctIds}
 use Rattle.order.specs.Checks.{refuse, judge_link}
-use Rattle.order.specs.CheckLaws.{link_from_unknown, link_to_unknown, link_to_itself}
+use Rattle.order.proofs.CheckLaws.{link_from_unknown, link_to_unknown, link_to_itself}
 use Rattle.ids.specs.Index.{found_in}
 use Rattle.ids.specs.IndexLaws.{found_known, found_unknown, found_index}
 use Rattle.ties.specs.Ends.{Between}

@@ -17,9 +17,9 @@ use Rattle.order.specs.Plan.{Plan}
 use Rattle.order.specs.Ids.{summary}
 use Rattle.order.specs.Ties.{Tie, kept_below}
 use Rattle.order.specs.TieLaws.{kept_picked}
-use Rattle.order.specs.FineLaws.{plan_fine_lem}
+use Rattle.order.proofs.FineLaws.{plan_fine_lem}
 use Rattle.order.specs.LagLaws.{calendar_below, tie_lag, tie_calendar_lem}
-use Rattle.order.specs.LoopLaws.{fine_passes}
+use Rattle.order.proofs.LoopLaws.{fine_passes}
 use Rattle.order.specs.Checks.{checked}
 use Rattle.passes.specs.Plan.{evening, own, lag_own, tie, kind_of, origin, later, floor, full}
 use Rattle.passes.specs.Forward.{source_of}

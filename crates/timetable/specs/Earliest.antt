@@ -14,9 +14,9 @@ use Rattle.order.specs.Plan.{Plan}
 use Rattle.order.specs.Ids.{summary}
 use Rattle.order.specs.Ties.{kept_links}
 use Rattle.order.specs.Checks.{checked, order}
-use Rattle.order.specs.FineLaws.{plan_fine_lem}
+use Rattle.order.proofs.FineLaws.{plan_fine_lem}
 use Rattle.order.specs.TieLaws.{ends_length, kept_ranged}
-use Rattle.order.specs.LoopLaws.{fine_passes, fine_ordered}
+use Rattle.order.proofs.LoopLaws.{fine_passes, fine_ordered}
 use Rattle.passes.specs.Plan.{own, tie, kind_of, recorded, begun, full}
 use Rattle.passes.specs.Dates.{Early, leaves}
 use Rattle.passes.specs.Forward.{early, forward}

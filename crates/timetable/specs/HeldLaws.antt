@@ -24,7 +24,7 @@ use Rattle.placing.specs.Placing.{via, midnight_of, completed, actual}
 use Rattle.order.specs.Plan.{Plan}
 use Rattle.order.specs.Ids.{summary}
 use Rattle.order.specs.Checks.{checked, order}
-use Rattle.order.specs.LoopLaws.{fine_ordered}
+use Rattle.order.proofs.LoopLaws.{fine_ordered}
 use Rattle.passes.specs.Plan.{evening, own, tie, ties_out, recorded, begun}
 use Rattle.passes.specs.Dates.{Early, Late, Freed, Pass, leaves, refused, put}
 use Rattle.passes.specs.Forward.{forward_bound}

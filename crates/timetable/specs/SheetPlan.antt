@@ -16,8 +16,8 @@ use Rattle.sheet.specs.Known.{SheetRead}
 use Rattle.sheet.specs.Places.{weeks_at, week_count, week_at, calendar_at, exceptions_at, exception_count, activity_at}
 use Rattle.order.specs.Plan.{plan_of, week_of_calendar, exception_place, exception_number, hours_of_calendar}
 use Rattle.order.specs.Checks.{checked}
-use Rattle.order.specs.FineLaws.{plan_fine_lem}
-use Rattle.order.specs.LoopLaws.{fine_passes}
+use Rattle.order.proofs.FineLaws.{plan_fine_lem}
+use Rattle.order.proofs.LoopLaws.{fine_passes}
 use Rattle.timetable.specs.Earliest.{Momentary}
 use Rattle.timetable.specs.Demand.{milestones_momentary}
 use Rattle.timetable.specs.AnswerLaws.{Answering}

@@ -10,8 +10,8 @@ use Rattle.worktime.specs.Walks.{next_start, previous_finish, advance}
 use Rattle.worktime.specs.Worked.{IsAdvance}
 use Rattle.worktime.specs.Relations.{next_start_unique, previous_finish_unique}
 use Rattle.worktime.specs.Reads.{on_true, on_false}
-use Rattle.worktime.specs.Answers.{next_start_sound, previous_finish_sound}
-use Rattle.worktime.specs.Shift.{advance_sound}
+use Rattle.worktime.proofs.Answers.{next_start_sound, previous_finish_sound}
+use Rattle.worktime.proofs.Shift.{advance_sound}
 use Rattle.project.specs.declared.ActivityKind.{ActivityKind}
 use Rattle.project.specs.declared.ActivityKind.TheVariants.{Task, StartMilestone, FinishMilestone}
 use Rattle.project.specs.declared.OptionalDate.{OptionalDate}

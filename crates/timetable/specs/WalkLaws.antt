@@ -10,8 +10,8 @@ use Rattle.worktime.specs.Walks.{reads, previous_finish, shift}
 use Rattle.worktime.specs.Worked.{IsNextFinish, IsPreviousFinish, IsRetreat}
 use Rattle.worktime.specs.Relations.{advance_unique, advance_mono, retreat_unique, retreat_mono}
 use Rattle.worktime.specs.Reads.{at_or_refused, reads_in, reads_out}
-use Rattle.worktime.specs.Answers.{previous_finish_sound}
-use Rattle.worktime.specs.Shift.{advance_sound, retreat_sound, shift_forward, shift_back}
+use Rattle.worktime.proofs.Answers.{previous_finish_sound}
+use Rattle.worktime.proofs.Shift.{advance_sound, retreat_sound, shift_forward, shift_back}
 use Rattle.project.specs.declared.ActivityKind.{ActivityKind}
 use Rattle.project.specs.declared.ActivityKind.TheVariants.{Task, StartMilestone, FinishMilestone}
 use Rattle.project.specs.declared.End.TheVariants.{Start, Finish}

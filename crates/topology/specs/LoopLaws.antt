@@ -14,11 +14,11 @@ use Rattle.network.specs.Links.{Link}
 use Rattle.network.specs.Kahn.{drained, first_waiting, waiting_before, go_back, again, named_loop}
 use Rattle.network.specs.Outgoing.{sources_from, waiting_in}
 use Rattle.network.specs.Pending.{Ranged}
-use Rattle.network.specs.Draining.{drained_kept, waits_below}
-use Rattle.network.specs.NamedLoop.{again_length, again_at, again_last, drained_back, first_waits}
-use Rattle.network.specs.KahnLaws.{kahn_length, named_loop_le, named_loop_below}
-use Rattle.network.specs.BackSteps.{waiting_in_skip, waiting_in_here, waiting_in_none, waiting_before_sources}
-use Rattle.network.specs.BackWalk.{Back, back_start, back_le, back_room, back_on, back_length, back_at}
+use Rattle.network.proofs.Draining.{drained_kept, waits_below}
+use Rattle.network.proofs.NamedLoop.{again_length, again_at, again_last, drained_back, first_waits}
+use Rattle.network.proofs.KahnLaws.{kahn_length, named_loop_le, named_loop_below}
+use Rattle.network.proofs.BackSteps.{waiting_in_skip, waiting_in_here, waiting_in_none, waiting_before_sources}
+use Rattle.network.proofs.BackWalk.{Back, back_start, back_le, back_room, back_on, back_length, back_at}
 use Rattle.topology.specs.Links.{links_of, Ends}
 use Rattle.topology.specs.LinksLaws.{links_ranged, links_same, ends_same, sources_stands, sources_first, sources_hit, sources_none}
 use Rattle.topology.specs.Frame.{Frame}

@@ -8,8 +8,8 @@ use Rattle.memory.specs.Chains.{Chains}
 use Rattle.network.specs.Kahn.{into}
 use Rattle.network.specs.Outgoing.{targets_from}
 use Rattle.network.specs.Array.{Progress, Filled}
-use Rattle.network.specs.ProgressLaws.{progress_le, progress_at, progress_enter}
-use Rattle.network.specs.ProgressEnds.{progress_start, progress_count, progress_length, progress_at_kahn}
+use Rattle.network.proofs.ProgressLaws.{progress_le, progress_at, progress_enter}
+use Rattle.network.proofs.ProgressEnds.{progress_start, progress_count, progress_length, progress_at_kahn}
 use Rattle.topology.specs.Links.{links_of, Ends}
 use Rattle.topology.specs.LinksLaws.{links_ranged, links_same, targets_stands, targets_first, targets_hit, targets_none}
 use Rattle.topology.specs.Frame.{Frame}

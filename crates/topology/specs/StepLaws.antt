@@ -9,11 +9,11 @@ use Rattle.memory.specs.Fields.{waiting, order_at, seen, to_field}
 use Rattle.network.specs.Links.{Link}
 use Rattle.network.specs.Kahn.{put}
 use Rattle.network.specs.Outgoing.{to_at}
-use Rattle.network.specs.Meeting.{put_same, put_other}
+use Rattle.network.proofs.Meeting.{put_same, put_other}
 use Rattle.network.specs.Array.{Filled, Progress}
-use Rattle.network.specs.Prefix.{Counted, counted_turn}
-use Rattle.network.specs.ProgressLaws.{progress_pos, progress_more, progress_last}
-use Rattle.network.specs.ProgressEnds.{filled_push, filled_skip}
+use Rattle.network.proofs.Prefix.{Counted, counted_turn}
+use Rattle.network.proofs.ProgressLaws.{progress_pos, progress_more, progress_last}
+use Rattle.network.proofs.ProgressEnds.{filled_push, filled_skip}
 use Rattle.topology.specs.Links.{links_of}
 use Rattle.topology.specs.LinksLaws.{links_length, to_at_lem}
 use Rattle.topology.specs.Steps.{counted, Queued, queued, readied, met}

@@ -6,8 +6,5 @@ pub mod Relations
 pub mod Adjoint
 pub mod Search
 pub mod Reads
-pub mod Answers
-pub mod Shift
-pub mod Between
 pub mod Exist
 pub mod Lower

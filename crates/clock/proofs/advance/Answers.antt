@@ -5,7 +5,7 @@ use native.Mathlib.Omega.{arith}
 use Rattle.calendar.specs.Records.{hours_on}
 use Rattle.calendar.specs.ValidLaws.{hand_ordered}
 use Rattle.date.specs.Years.{years_before, years_after}
-use Rattle.worktime.specs.Shift.{advance_zero, advance_out}
+use Rattle.worktime.proofs.Shift.{advance_zero, advance_out}
 use Rattle.clock.specs.On.{worked_on}
 use Rattle.clock.specs.Days.{hand_time}
 use Rattle.clock.specs.SameLaws.{advance_same, advance_many}

@@ -12,7 +12,7 @@ use Rattle.date.specs.Years.{end_day}
 use Rattle.worktime.specs.declared.Walk.TheVariants.{At}
 use Rattle.worktime.specs.Count.{count_mono}
 use Rattle.worktime.specs.Walks.{end_minute}
-use Rattle.worktime.specs.Shift.{advance_at, advance_none}
+use Rattle.worktime.proofs.Shift.{advance_at, advance_none}
 use Rattle.clock.specs.On.{worked_on}
 use Rattle.clock.specs.Days.{hand_select}
 use Rattle.clock.specs.Weeks.{row_ordered}

@@ -7,7 +7,7 @@ use mir.Facts.{to_z_pos, to_z-of_z}
 use Rattle.number.specs.ZedLaws.{zero_minus}
 use Rattle.worktime.specs.declared.Work.TheVariants.{Minutes}
 use Rattle.worktime.specs.Reads.{minute_range}
-use Rattle.worktime.specs.Between.{between_out_first, between_out_second, between_up, between_down}
+use Rattle.worktime.proofs.Between.{between_out_first, between_out_second, between_up, between_down}
 use Rattle.clock.specs.On.{worked_on}
 use Rattle.clock.proofs.between.Goals as goal
 

@@ -8,7 +8,7 @@ use mir.Syntax.{w64}
 use mir.Facts.{to_z_pos}
 use Rattle.worktime.specs.declared.Work.TheVariants.{Minutes}
 use Rattle.date.specs.Years.{years_before, years_after, years_within}
-use Rattle.worktime.specs.Between.{day_work_out, day_work_at}
+use Rattle.worktime.proofs.Between.{day_work_out, day_work_at}
 use Rattle.clock.specs.Days.{hand_rank}
 use Rattle.clock.proofs.day_work.Goals as goal
 

@@ -2,7 +2,7 @@
 use mathlib.Core.Path.{sym, ◌∙◌}
 use native.Mathlib.Omega.{arith}
 use Rattle.date.specs.Years.{years_before, years_after}
-use Rattle.worktime.specs.Answers.{next_finish_out}
+use Rattle.worktime.proofs.Answers.{next_finish_out}
 use Rattle.clock.specs.Ways.{next_finish_here, next_finish_start, next_finish_refuses}
 use Rattle.clock.proofs.next_finish.Goals as goal
 

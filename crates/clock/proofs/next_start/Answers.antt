@@ -9,7 +9,7 @@ use Rattle.date.specs.Years.{years_before}
 use Rattle.worktime.specs.Worked.{count}
 use Rattle.worktime.specs.Count.{count_mono}
 use Rattle.worktime.specs.Walks.{end_minute}
-use Rattle.worktime.specs.Answers.{next_start_out, next_start_at, next_start_none}
+use Rattle.worktime.proofs.Answers.{next_start_out, next_start_at, next_start_none}
 use Rattle.clock.specs.On.{worked_on}
 use Rattle.clock.specs.Days.{day_next_at, day_next_none, hand_next, count_time, count_next_day}
 use Rattle.clock.proofs.next_start.Goals as goal

@@ -9,7 +9,7 @@ use Rattle.calendar.specs.ValidLaws.{hand_ordered}
 use Rattle.date.specs.Years.{years_after}
 use Rattle.worktime.specs.Count.{count_mono}
 use Rattle.worktime.specs.Walks.{first_minute}
-use Rattle.worktime.specs.Answers.{previous_finish_out, previous_finish_at, previous_finish_none}
+use Rattle.worktime.proofs.Answers.{previous_finish_out, previous_finish_at, previous_finish_none}
 use Rattle.clock.specs.On.{worked_on}
 use Rattle.clock.specs.Days.{hand_rank, hand_select, count_time, count_day_before}
 use Rattle.clock.proofs.previous_finish.Goals as goal

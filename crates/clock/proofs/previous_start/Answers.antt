@@ -1,6 +1,6 @@
 -- `clock::previous_start` meets its contract. Each way out cites its law.
 use mathlib.Core.Path.{sym, ◌∙◌}
-use Rattle.worktime.specs.Answers.{previous_start_next}
+use Rattle.worktime.proofs.Answers.{previous_start_next}
 use Rattle.clock.specs.Ways.{previous_start_here, previous_start_refuses}
 use Rattle.clock.proofs.previous_start.Goals as goal
 

@@ -6,7 +6,7 @@ use Rattle.date.specs.Years.{years_before, years_after}
 use Rattle.calendar.specs.HoursLaws.{rank_mono}
 use Rattle.calendar.specs.Records.{hours_on, periods_of}
 use Rattle.calendar.specs.ValidLaws.{hand_ordered}
-use Rattle.worktime.specs.Shift.{retreat_zero, retreat_out, retreat_at}
+use Rattle.worktime.proofs.Shift.{retreat_zero, retreat_out, retreat_at}
 use Rattle.clock.specs.On.{worked_on}
 use Rattle.clock.specs.Days.{hand_select, hand_time}
 use Rattle.clock.specs.SameLaws.{retreat_same, retreat_many}

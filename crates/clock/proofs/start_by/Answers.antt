@@ -2,7 +2,7 @@
 use mathlib.Core.Path.{sym, ap, ◌∙◌}
 use native.Mathlib.Omega.{arith}
 use Rattle.worktime.specs.Walks.{minute_before}
-use Rattle.worktime.specs.Answers.{previous_finish_sound}
+use Rattle.worktime.proofs.Answers.{previous_finish_sound}
 use Rattle.clock.specs.Ways.{start_by_here, start_by_finish, start_by_refuses}
 use Rattle.clock.proofs.start_by.Goals as goal
 

@@ -9,7 +9,7 @@ use mir.Syntax.{w64}
 use mir.Facts.{to_z_pos}
 use Rattle.worktime.specs.declared.Work.TheVariants.{Minutes}
 use Rattle.date.specs.Years.{years_before, years_after, years_within}
-use Rattle.worktime.specs.Between.{worked_before_out, worked_before_at}
+use Rattle.worktime.proofs.Between.{worked_before_out, worked_before_at}
 use Rattle.clock.specs.Days.{hand_time}
 use Rattle.clock.proofs.worked_before.Goals as goal
 

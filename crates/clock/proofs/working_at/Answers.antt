@@ -7,7 +7,7 @@ use Rattle.calendar.specs.Hours.{worked}
 use Rattle.calendar.specs.Records.{hours_on}
 use Rattle.date.specs.Years.{years_before, years_after, years_within}
 use Rattle.worktime.specs.declared.Working.TheVariants.{Is}
-use Rattle.worktime.specs.Answers.{working_at_out, working_at_in}
+use Rattle.worktime.proofs.Answers.{working_at_out, working_at_in}
 use Rattle.clock.specs.Days.{hand_next, day_next_here, day_next_later, day_next_never, worked_time}
 use Rattle.clock.proofs.working_at.Goals as goal
 

@@ -5,7 +5,7 @@ use mir.Syntax.{w64}
 use mir.Val.{to_z}
 use mir.Facts.{to_z-of_z}
 use Rattle.worktime.specs.Walks.{shift}
-use Rattle.worktime.specs.Shift.{shift_zero}
+use Rattle.worktime.proofs.Shift.{shift_zero}
 use Rattle.calendars.specs.CalendarLaws.{calendar_valid, calendar_worked}
 use Rattle.dates.proofs.shifted.Goals as goal
 

@@ -5,7 +5,7 @@ use native.Mathlib.Omega.{arith}
 use lib.ListN.{length}
 use Rattle.memory.specs.State.{state_of}
 use Rattle.memory.specs.Fields.{waiting, order_at, to_field}
-use Rattle.network.specs.Prefix.{Counted, counted_start, counted_done, into_take_le}
+use Rattle.network.proofs.Prefix.{Counted, counted_start, counted_done, into_take_le}
 use Rattle.topology.specs.Links.{links_of}
 use Rattle.topology.specs.LinksLaws.{links_length}
 use Rattle.topology.specs.Frame.{Frame}

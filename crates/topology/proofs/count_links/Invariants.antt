@@ -4,7 +4,7 @@ use Prim.Native.Nat.{◌-◌, ◌≤◌}
 use lib.ListN.{length}
 use Rattle.memory.specs.State.{state_of}
 use Rattle.memory.specs.Fields.{waiting, order_at}
-use Rattle.network.specs.Prefix.{Counted}
+use Rattle.network.proofs.Prefix.{Counted}
 use Rattle.topology.specs.Links.{links_of}
 use Rattle.topology.specs.Frame.{Frame}
 use Rattle.topology.proofs.count_links.Given as goal

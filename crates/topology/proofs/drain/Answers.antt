@@ -3,7 +3,7 @@ use mathlib.Core.Path.{◌≡◌, refl, ◌∙◌}
 use native.Mathlib.Omega.{arith}
 use Rattle.memory.specs.State.{state_of}
 use Rattle.memory.specs.Fields.{waiting, seen}
-use Rattle.network.specs.ProgressLaws.{progress_le}
+use Rattle.network.proofs.ProgressLaws.{progress_le}
 use Rattle.topology.specs.FrameLaws.{frame_refl}
 use Rattle.topology.specs.Order.{Draining}
 use Rattle.topology.specs.OrderLaws.{chains_out_kept, draining_now, draining_step}

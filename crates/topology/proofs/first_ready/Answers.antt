@@ -4,7 +4,7 @@ use native.Mathlib.Omega.{arith}
 use Rattle.memory.specs.State.{state_of}
 use Rattle.memory.specs.Fields.{waiting, order_at, seen}
 use Rattle.network.specs.Array.{Filled}
-use Rattle.network.specs.ProgressEnds.{filled_start, filled_le}
+use Rattle.network.proofs.ProgressEnds.{filled_start, filled_le}
 use Rattle.topology.specs.FrameLaws.{frame_refl, frame_then}
 use Rattle.topology.specs.StepLaws.{readied_frame, readied_filled}
 use Rattle.topology.proofs.first_ready.Goals as goal

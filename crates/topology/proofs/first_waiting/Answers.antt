@@ -3,7 +3,7 @@ use mathlib.Core.Path.{sym, ◌∙◌}
 use native.Mathlib.Omega.{arith}
 use Rattle.memory.specs.State.{state_of}
 use Rattle.memory.specs.Fields.{waiting}
-use Rattle.network.specs.BackSteps.{first_skip, first_here}
+use Rattle.network.proofs.BackSteps.{first_skip, first_here}
 use Rattle.topology.specs.LoopLaws.{first_start, first_end}
 use Rattle.topology.proofs.first_waiting.Goals as goal
 

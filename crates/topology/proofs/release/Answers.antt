@@ -3,7 +3,7 @@ use mathlib.Core.Path.{refl, ap, ◌∙◌}
 use native.Mathlib.Omega.{arith}
 use Rattle.memory.specs.State.{state_of}
 use Rattle.memory.specs.Fields.{first_out}
-use Rattle.network.specs.ProgressLaws.{progress_le, progress_at, progress_pos, progress_target, progress_space}
+use Rattle.network.proofs.ProgressLaws.{progress_le, progress_at, progress_pos, progress_target, progress_space}
 use Rattle.topology.specs.OrderLaws.{walk_start, walk_meets, walk_step, walk_next, walk_later, walk_end}
 use Rattle.topology.proofs.release.Goals as goal
 

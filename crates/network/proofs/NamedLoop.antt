@@ -14,8 +14,9 @@ use Rattle.network.specs.Kahn.{drained, first_waiting, waiting_before, up_to, go
 use Rattle.network.specs.Times.{same, same_cases, times, times_nil, times_cons, times_one, times_append, times_at, Distinct, distinct_nil, distinct_cons, distinct_le}
 use Rattle.network.specs.Pending.{Ranged}
 use Rattle.network.specs.PendingLaws.{pending_source, sent_linked, linked_from_lem}
-use Rattle.network.specs.Draining.{Kept, drained_kept, out_or_waits, waits_below, one_waits}
-use Rattle.network.specs.GoingBack.{First, first_waiting_first, waiting_before_linked, member_times, up_to_here, up_to_on}
+use Rattle.network.proofs.Draining.{Kept}
+use Rattle.network.proofs.Draining.{drained_kept, out_or_waits, waits_below, one_waits}
+use Rattle.network.proofs.GoingBack.{First, first_waiting_first, waiting_before_linked, member_times, up_to_here, up_to_on}
 
 -- ---- the first once more at the end
 

@@ -14,7 +14,7 @@ use Rattle.network.specs.Pending.{pending}
 use Rattle.network.specs.PendingLaws.{pending_more, pending_pos, linked_sent}
 use Rattle.network.specs.Outgoing.{targets, meet_all}
 use Rattle.network.specs.OutgoingLaws.{release_targets, sent_targets, meet_all_cons}
-use Rattle.network.specs.Meeting.{put_lower, joined_last, joined_not}
+use Rattle.network.proofs.Meeting.{put_lower, joined_last, joined_not}
 use Rattle.network.specs.Draining.{next}
 use Rattle.network.specs.Array.{out_of, span, held, Progress}
 use Rattle.network.specs.ArrayLaws.{out_of_one, length_out_of, span_front, out_of_queue, out_of_times, out_of_agree, span_push, out_of_push}

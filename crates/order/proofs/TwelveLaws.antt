@@ -5,20 +5,22 @@ use Rattle.project.specs.Status.{is_milestone}
 use Rattle.network.specs.Links.{Loop}
 use Rattle.network.specs.Parents.{OnLoop, loop_steps, upward}
 use Rattle.network.specs.ParentLinks.{parent_links}
-use Rattle.network.specs.ParentLoops.{loop_steps_back, loop_steps_le, loop_steps_on, loop_steps_zero}
-use Rattle.network.specs.ParentRows.{length_upward, upward_at, upward_loop, upward_below}
+use Rattle.network.proofs.ParentLoops.{loop_steps_back, loop_steps_le, loop_steps_on, loop_steps_zero}
+use Rattle.network.proofs.ParentRows.{length_upward, upward_at, upward_loop, upward_below}
 use Rattle.network.specs.Climbing.{climb_zero}
 use Rattle.order.specs.Plan.{Plan}
 use Rattle.order.specs.Ids.{id_of, parent_of, summary}
 use Rattle.order.specs.Checks.{Verdict, refuse_loop, named, or_else, judge_calendar, judge_activity, judge_parent, judge_summary, judge_link, judge_order, before_ordering, checked}
 use Rattle.order.specs.Demand.{LoopOfParents, ParentsCloseLoop}
 use Rattle.order.specs.VerdictLaws.{or_first, or_second, or_skips, or_stays, Refusal, first_cases, first_each}
-use Rattle.order.specs.CheckLaws.{calendars_first, activities_first, parents_first, summaries_first, links_first, summary_fine_lem}
-use Rattle.order.specs.RowLaws.{calendar_rows, activity_rows, parent_rows, link_rows, order_rows}
-use Rattle.order.specs.FineLaws.{ParentsKnown, plan_fine_lem, activities_fine_lem, parents_fine, fine_distinct}
+use Rattle.order.specs.CheckLaws.{calendars_first, activities_first, parents_first, summaries_first, links_first}
+use Rattle.order.proofs.CheckLaws.{summary_fine_lem}
+use Rattle.order.proofs.RowLaws.{calendar_rows, activity_rows, parent_rows, link_rows, order_rows}
+use Rattle.order.specs.FineLaws.{ParentsKnown}
+use Rattle.order.proofs.FineLaws.{plan_fine_lem, activities_fine_lem, parents_fine, fine_distinct}
 use Rattle.order.specs.ParentLaws.{parent_le, no_parents_loop}
-use Rattle.order.specs.LoopLaws.{named_length, named_at}
-use Rattle.order.specs.ParentLoopLaws.{parent_loop_ids, parents_close_ids, summary_twelve, summary_refused}
+use Rattle.order.proofs.LoopLaws.{named_length, named_at}
+use Rattle.order.proofs.ParentLoopLaws.{parent_loop_ids, parents_close_ids, summary_twelve, summary_refused}
 
 module _ (p : Plan) where
   -- ---- where 12 is given, the checks up to 10 passed, and it is the first refusal of 11 and 12

@@ -13,9 +13,9 @@ use Rattle.network.specs.Links.{Link, no_link, Linked, Row, Loop, CloseLoop}
 use Rattle.network.specs.Pending.{Ranged}
 use Rattle.network.specs.Parents.{climb, OnLoop, loop_steps, upward}
 use Rattle.network.specs.ParentLinks.{to_parent, parent_links, ParentsLoop, first_on_loop, parent_loop}
-use Rattle.network.specs.GoingBack.{First}
+use Rattle.network.proofs.GoingBack.{First}
 use Rattle.network.specs.Climbing.{pos_suc, climb_zero, climb_first, climb_next, climb_pos, climb_le}
-use Rattle.network.specs.ParentLoops.{loop_steps_back, loop_steps_le, first_on_loop_lem, on_loop_steps}
+use Rattle.network.proofs.ParentLoops.{loop_steps_back, loop_steps_le, first_on_loop_lem, on_loop_steps}
 
 -- ---- links in two lists
 

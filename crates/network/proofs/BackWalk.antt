@@ -5,10 +5,10 @@ use Rattle.number.specs.Order.{eq_or_ne}
 use Rattle.network.specs.Links.{Link}
 use Rattle.network.specs.Kahn.{put, waiting_before, up_to, go_back}
 use Rattle.network.specs.Times.{same_eq, same_ne, times, times_nil, times_cons, Distinct, distinct_nil, distinct_cons, distinct_le}
-use Rattle.network.specs.Meeting.{put_same, put_other}
+use Rattle.network.proofs.Meeting.{put_same, put_other}
 use Rattle.network.specs.Array.{out_of}
 use Rattle.network.specs.ArrayLaws.{out_of_nil, out_of_suc, out_of_times, length_out_of, out_of_push}
-use Rattle.network.specs.BackSteps.{go_back_again, go_back_on, up_to_length, up_to_at}
+use Rattle.network.proofs.BackSteps.{go_back_again, go_back_on, up_to_length, up_to_at}
 
 -- two places of distinct numbers hold different ones
 out_of_apart : (path : ℕ → ℕ) (m : ℕ) → ((j : ℕ) → times j (out_of path m) ≤ 1) → (p q : ℕ) → p < q → q < m → path q ≢ path p

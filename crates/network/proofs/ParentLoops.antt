@@ -10,7 +10,7 @@ use Rattle.network.specs.Kahn.{first_waiting}
 use Rattle.network.specs.Parents.{climb, OnLoop, steps_back, loop_steps}
 use Rattle.network.specs.ParentLinks.{ParentsLoop, first_on_loop}
 use Rattle.network.specs.Times.{distinct_le}
-use Rattle.network.specs.GoingBack.{First, first_waiting_first, first_waiting_none}
+use Rattle.network.proofs.GoingBack.{First, first_waiting_first, first_waiting_none}
 use Rattle.network.specs.Climbing.{pos_suc, climb_zero, climb_add, climb_none_le, climb_pos, climb_same, Least, steps_back_cases, length_passed, climb_le, passed_distinct}
 
 module _ (parent : ℕ → ℕ) where

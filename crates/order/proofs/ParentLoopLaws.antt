@@ -6,17 +6,17 @@ use Rattle.project.specs.Status.{is_milestone}
 use Rattle.network.specs.Links.{Linked, Loop}
 use Rattle.network.specs.Parents.{OnLoop, loop_steps, upward}
 use Rattle.network.specs.ParentLinks.{parent_links, ParentsLoop}
-use Rattle.network.specs.ParentLoops.{loop_steps_on, loop_steps_iff}
-use Rattle.network.specs.ParentRows.{parent_linked, linked_parent, parents_close_iff}
+use Rattle.network.proofs.ParentLoops.{loop_steps_on, loop_steps_iff}
+use Rattle.network.proofs.ParentRows.{parent_linked, linked_parent, parents_close_iff}
 use Rattle.order.specs.Plan.{Plan}
 use Rattle.order.specs.Ids.{id_of, index_of, parent_of, summary}
 use Rattle.order.specs.Checks.{Verdict, refuse_loop, named, judge_summary}
 use Rattle.order.specs.Demand.{Under, LoopOfParents, ParentsCloseLoop}
 use Rattle.order.specs.IdLaws.{DistinctIds, index_of_id}
-use Rattle.order.specs.CheckLaws.{summary_milestone, summary_loop, summary_passes}
+use Rattle.order.proofs.CheckLaws.{summary_milestone, summary_loop, summary_passes}
 use Rattle.order.specs.FineLaws.{ParentsKnown}
 use Rattle.order.specs.ParentLaws.{parent_of_some, parent_le, parent_is}
-use Rattle.order.specs.LoopLaws.{named_loop_of, loop_of, of_loop}
+use Rattle.order.proofs.LoopLaws.{named_loop_of, loop_of, of_loop}
 
 module _ (p : Plan) where
   abbrev to_parents : ℕ → ℕ → Type 0

@@ -9,9 +9,9 @@ use Rattle.network.specs.Links.{Link, Linked, Loop, CloseLoop, Ordered}
 use Rattle.network.specs.Kahn.{drained, kahn, go_back, first_waiting, again, named_loop}
 use Rattle.network.specs.Times.{times_at, Distinct, distinct_le, once_place}
 use Rattle.network.specs.Pending.{Ranged}
-use Rattle.network.specs.Draining.{drained_kept, out_distinct, waits_below}
+use Rattle.network.proofs.Draining.{drained_kept, out_distinct, waits_below}
 use Rattle.network.specs.Placed.{times_reverse, behind_before, ordered_no_loop}
-use Rattle.network.specs.NamedLoop.{Named, drained_named, again_length, again_at, again_times}
+use Rattle.network.proofs.NamedLoop.{Named, drained_named, again_length, again_at, again_times}
 
 pub kahn_length : (links : List Link) (n : ℕ) → length (kahn links n) ≡ length (drained links n).out
 unfolding kahn

@@ -7,7 +7,7 @@ use Rattle.network.specs.Kahn.{Waiting, put, meet, release, into, ready}
 use Rattle.network.specs.Times.{same, same_cases}
 use Rattle.network.specs.Outgoing.{from_at, to_at}
 use Rattle.network.specs.OutgoingLaws.{release_hit, release_miss}
-use Rattle.network.specs.Meeting.{put_same, put_other, joined_last, joined_not, ready_suc}
+use Rattle.network.proofs.Meeting.{put_same, put_other, joined_last, joined_not, ready_suc}
 
 -- ---- links into an activity
 

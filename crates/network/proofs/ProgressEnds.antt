@@ -12,12 +12,12 @@ use Rattle.network.specs.Times.{times, times_nil, Distinct, distinct_le}
 use Rattle.network.specs.Pending.{Ranged, pending}
 use Rattle.network.specs.PendingLaws.{into_pending, into_beyond}
 use Rattle.network.specs.Outgoing.{meet_all}
-use Rattle.network.specs.Meeting.{ready_in, ready_out}
+use Rattle.network.proofs.Meeting.{ready_in, ready_out}
 use Rattle.network.specs.Draining.{none}
 use Rattle.network.specs.Array.{out_of, span, Progress, Filled}
 use Rattle.network.specs.ArrayLaws.{out_of_nil, length_span, span_at, span_empty, out_of_queue, reverse_out_of, span_push}
-use Rattle.network.specs.Prefix.{ready_zero, ready_hit, ready_miss}
-use Rattle.network.specs.ProgressLaws.{drain_empty}
+use Rattle.network.proofs.Prefix.{ready_zero, ready_hit, ready_miss}
+use Rattle.network.proofs.ProgressLaws.{drain_empty}
 
 -- ---- filling
 

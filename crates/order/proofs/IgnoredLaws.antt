@@ -8,7 +8,8 @@ use Rattle.order.specs.Ties.{from_of, to_of, ignored}
 use Rattle.order.specs.Checks.{before_ordering}
 use Rattle.order.specs.Demand.{IsParent}
 use Rattle.order.specs.IdLaws.{DistinctIds, index_id}
-use Rattle.order.specs.FineLaws.{ParentsKnown, plan_fine_lem, fine_distinct}
+use Rattle.order.specs.FineLaws.{ParentsKnown}
+use Rattle.order.proofs.FineLaws.{plan_fine_lem, fine_distinct}
 use Rattle.order.specs.ParentLaws.{summary_iff, parent_is, parent_by_id}
 use Rattle.order.specs.TieLaws.{from_below, to_below}
 

@@ -14,7 +14,7 @@ use Rattle.network.specs.Kahn.{first_waiting, waiting_before, up_to, go_back}
 use Rattle.network.specs.Times.{times}
 use Rattle.network.specs.Outgoing.{sources, waiting_in}
 use Rattle.network.specs.OutgoingLaws.{sources_hit, sources_miss}
-use Rattle.network.specs.GoingBack.{first_waiting_skip, first_waiting_here, waiting_before_here, waiting_before_other, waiting_before_out, member_times, up_to_here, up_to_on}
+use Rattle.network.proofs.GoingBack.{first_waiting_skip, first_waiting_here, waiting_before_here, waiting_before_other, waiting_before_out, member_times, up_to_here, up_to_on}
 use Rattle.network.specs.Array.{out_of}
 
 -- ---- the first of a row that waits

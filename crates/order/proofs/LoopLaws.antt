@@ -7,7 +7,7 @@ use Rattle.std.proofs.Math.Logic.{⊎_elim}
 use Rattle.number.specs.Order.{eq_or_ne}
 use Rattle.network.specs.Links.{Link, Linked, Row, Loop, CloseLoop, Ordered}
 use Rattle.network.specs.Kahn.{named_loop}
-use Rattle.network.specs.KahnLaws.{kahn_le, kahn_iff, kahn_ordered, named_loop_lem, named_loop_le, named_loop_below}
+use Rattle.network.proofs.KahnLaws.{kahn_le, kahn_iff, kahn_ordered, named_loop_lem, named_loop_le, named_loop_below}
 use Rattle.order.specs.Plan.{Plan}
 use Rattle.order.specs.Ids.{id_of, index_of}
 use Rattle.order.specs.Ties.{kept_links}
@@ -15,9 +15,10 @@ use Rattle.order.specs.Checks.{Verdict, refuse_loop, named, order, judge_order, 
 use Rattle.order.specs.Demand.{Steps, LoopOf, KeptLink, LoopOfIds, KeptLinksCloseLoop}
 use Rattle.order.specs.IdLaws.{index_id}
 use Rattle.order.specs.VerdictLaws.{or_first, or_second, or_fine}
-use Rattle.order.specs.CheckLaws.{order_whole, order_loop}
-use Rattle.order.specs.RowLaws.{before_rows}
-use Rattle.order.specs.FineLaws.{LinksFine, plan_fine_lem}
+use Rattle.order.proofs.CheckLaws.{order_whole, order_loop}
+use Rattle.order.proofs.RowLaws.{before_rows}
+use Rattle.order.specs.FineLaws.{LinksFine}
+use Rattle.order.proofs.FineLaws.{plan_fine_lem}
 use Rattle.order.specs.TieLaws.{linked_kept, kept_linked, kept_ranged}
 
 -- ---- rows of names
