@@ -1,5 +1,5 @@
 -- What stands once all links are judged: the kept ones in the memory, the ignored ones' positions in names over zeros.
-use Rattle.std.specs.Prelude.{◌≡◌, List, ◌++◌, ℕ, zero, suc, ◌+◌, ◌-◌, length, drop, replicate}
+use Rattle.std.specs.Prelude.{◌≡◌, List, ◌++◌, ℕ, zero, suc, ◌-◌, length, drop, replicate}
 use Rattle.std.proofs.Common.{sym, ap, ◌∙◌, arith}
 use Rattle.memory.specs.State.{State}
 use Rattle.memory.specs.Fields.{parent, is_summary}

@@ -1,5 +1,5 @@
 -- Open ends by the heads of the chains: an activity's chain is empty exactly where its head is the count of links.
-use Rattle.std.specs.Prelude.{◌≡◌, true, false, ◌≢◌, ℕ, ◌-◌, ◌<◌, length}
+use Rattle.std.specs.Prelude.{◌≡◌, true, false, ◌≢◌, ℕ, ◌<◌, length}
 use Rattle.std.proofs.Common.{sym, ap, ◌∙◌, arith}
 use Rattle.number.specs.BitLaws.{mark_none, mark_some}
 use Rattle.cells.specs.Chain.{after, Stands}

@@ -1,5 +1,5 @@
 -- How the checks follow each other: what a part of them answers is what all of them answer.
-use Rattle.std.specs.Prelude.{◌≡◌, refl, ◌≢◌, List, ◌++◌, ℕ, ◌+◌, ◌-◌, ◌<◌, ℤ, pos, length, get_or, replicate}
+use Rattle.std.specs.Prelude.{◌≡◌, refl, ◌≢◌, List, ◌++◌, ℕ, ◌-◌, ◌<◌, ℤ, pos, length, get_or, replicate}
 use Rattle.std.proofs.Math.Path.{sym, ap}
 use Rattle.std.proofs.Common.{subst, ◌∙◌, ⊎_elim, arith}
 use Rattle.std.proofs.Math.ListN.{get_or-append}

@@ -1,4 +1,6 @@
 // Rows 5 to 15 of 01's table in one call: the plan is ready for the passes, or it is refused with the names of its loop.
+#![tactic(auto)]
+
 ghost use Rattle.std.specs.Prelude.{◌≡◌, ◌+◌, ◌≤◌, ◌<◌, max, length, get_or, set, replicate, pos};
 ghost use Rattle.sheet.specs.Known.{SheetRead};
 ghost use Rattle.memory.specs.State.{Room};
