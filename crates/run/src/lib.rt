@@ -1,4 +1,6 @@
 // The scheduling run: the passes one after the other, on the lent memory.
+#![tactic(auto)]
+
 ghost use Rattle.std.specs.Prelude.{◌≡◌, ℕ, ◌^◌, ◌<◌, length};
 ghost use Rattle.memory.specs.State.{state_of};
 ghost use Rattle.topology.specs.Frame.{Frame};
