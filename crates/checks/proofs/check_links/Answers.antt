@@ -8,7 +8,7 @@ use lib.ListN.{length, replicate, length-replicate}
 use Rattle.order.specs.Plan.{plan_of}
 use Rattle.order.specs.Checks.{Verdict, judge_order}
 use Rattle.order.specs.CheckLaws.{links_first}
-use Rattle.order.specs.FineLaws.{links_fine_lem}
+use Rattle.order.proofs.FineLaws.{links_fine_lem}
 use Rattle.checks.specs.Stages.{links_verdict, Judged}
 use Rattle.checks.specs.StageLaws.{then_judged, first_refused, plain_refused, judged_sizes}
 use Rattle.checks.specs.LinksSteps.{links_stored, ignored_named}

@@ -10,7 +10,7 @@ use Rattle.order.specs.Plan.{plan_of}
 use Rattle.order.specs.Ids.{id_of}
 use Rattle.order.specs.Ties.{kept_links}
 use Rattle.order.specs.Checks.{Verdict, named, judge_order}
-use Rattle.order.specs.LoopLaws.{named_length}
+use Rattle.order.proofs.LoopLaws.{named_length}
 use Rattle.checks.specs.Stages.{Judged}
 use Rattle.checks.specs.OrderSteps.{ends_are, whole_fine, whole_stands, short_refused, short_stuck, short_loop}
 use Rattle.checks.specs.RestSteps.{rest_stands, rest_elsewhere}

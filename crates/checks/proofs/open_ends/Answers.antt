@@ -3,7 +3,7 @@ use mathlib.Core.Path.{◌≡◌, sym, ap, ◌∙◌}
 use native.Mathlib.Omega.{arith}
 use Rattle.order.specs.Plan.{plan_of}
 use Rattle.order.specs.Ties.{open_below}
-use Rattle.order.specs.OpenLaws.{open_none, open_one, open_same}
+use Rattle.order.proofs.OpenLaws.{open_none, open_one, open_same}
 use Rattle.checks.proofs.open_ends.Goals as goal
 use Rattle.checks.proofs.open_ends.Goals.{then-is_open, else-is_open}
 
