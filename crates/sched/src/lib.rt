@@ -1,4 +1,6 @@
 // The scheduling call: a plan sheet in; dates, floats and flags out; all memory lent; every byte string answered.
+#![tactic(auto)]
+
 ghost use Rattle.std.specs.Prelude.{◌≡◌, Bool, ◌&&◌, List, ℕ, ◌+◌, ◌*◌, ◌≤◌, max, leb, length, replicate};
 ghost use Rattle.memory.specs.State.{Room, state_of};
 ghost use Rattle.sheet.specs.Known.{SheetRead};

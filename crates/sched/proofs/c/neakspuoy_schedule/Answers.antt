@@ -1,0 +1,15 @@
+-- `sched::c::neakspuoy_schedule` meets its contract.
+use borrow.Author.Rules.{rules}
+use native.Mathlib.Omega.{arith}
+use Rattle.sched.specs.InCLaws.{called_short, called_whole}
+use Rattle.sched.proofs.c.neakspuoy_schedule.Goals as goal
+
+pub returns-then-answer-lt5 : goal.returns-then-answer-lt5
+returns-then-answer-lt5 c = let x = c.args in called_short x.sheet.now (record { results = x.results.now; names = x.names.now; work = x.work.now }) x.answer.now (omega (arith, c.if-answer-lt5.true))
+
+pub returns : goal.returns
+returns c =
+    let x = c.args in
+    let call = c.schedule-r in
+    called_whole x.sheet.now (record { results = x.results.now; names = x.names.now; work = x.work.now }) x.answer.now call.result call.new.results call.new.names call.new.work
+    c.put_answer.new.answer (omega (arith, c.if-answer-lt5.false)) call.ensures c.put_answer.ensures

@@ -1,0 +1,41 @@
+-- `sched::run_plan` meets its contract.
+use borrow.Author.Rules.{rules}
+use mathlib.Core.Path.{subst, ◌∙◌}
+use native.Mathlib.Omega.{arith}
+use Rattle.memory.specs.State.{state_of}
+use Rattle.order.specs.Plan.{plan_of}
+use Rattle.run.specs.Stages.{RunIn}
+use Rattle.dates.specs.KeptLaws.{ready_kept}
+use Rattle.sched.specs.CallLaws.{run_refuses}
+use Rattle.sched.proofs.run_plan.Goals as goal
+
+pub returns-in-Refused : goal.returns-in-Refused
+returns-in-Refused c =
+    let x = c.args in
+    let p = plan_of x.sheet.now x.contents in
+    let ran = c.run in
+    let call = c.refuse in
+    λ m L.
+    run_refuses m p L c.requires.0.fine call.result c.in-Refused.number call.new.names ran.new.work call.new.work (subst (RunIn p (state_of x.contents.activities x.contents.links ran.new.work)) c.in-Refused.is ran.ensures.0) call.ensures.0 call.ensures.1
+    ran.ensures.3 call.ensures.2
+
+pub show_plan-requires : goal.show_plan-requires
+show_plan-requires c =
+    let x = c.args in
+    let p = plan_of x.sheet.now x.contents in
+    let ran = c.run in (
+      ready_kept c.requires.0 ran.ensures.2 ran.ensures.3 (omega arith),
+      ran.ensures.1 c.in-By.last c.in-By.is,
+      c.requires.1,
+      c.requires.2,
+      c.requires.3,
+      c.requires.4,
+      subst (RunIn p (state_of x.contents.activities x.contents.links ran.new.work)) c.in-By.is ran.ensures.0,
+    )
+
+pub returns-in-By : goal.returns-in-By
+returns-in-By c =
+    let x = c.args in
+    let p = plan_of x.sheet.now x.contents in
+    let ran = c.run in
+    λ m L. c.show_plan.ensures m (record { results_is = L.results_is; names_is = L.names_is; names_length = L.names_length; work_length = ran.ensures.3 ∙ L.work_length })

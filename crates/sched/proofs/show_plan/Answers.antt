@@ -1,0 +1,53 @@
+-- `sched::show_plan` meets its contract.
+use borrow.Author.Rules.{rules}
+use mathlib.Core.Path.{refl, sym, ap, subst, ◌∙◌}
+use native.Mathlib.Omega.{arith}
+use Rattle.memory.specs.State.{state_of}
+use Rattle.order.specs.Plan.{plan_of}
+use Rattle.passes.specs.Run.{Ran}
+use Rattle.dates.specs.Columns.{ended}
+use Rattle.results.specs.View.{ran_in, shown_in}
+use Rattle.results.specs.ViewLaws.{ran_kept}
+use Rattle.rows.specs.WritingLaws.{to_write}
+use Rattle.dates.specs.KeptLaws.{ready_kept, recorded_kept}
+use Rattle.sched.specs.CallLaws.{AcceptedAs, show_refuses, show_accepts}
+use Rattle.sched.proofs.show_plan.Goals as goal
+
+pub returns-in-Refused : goal.returns-in-Refused
+returns-in-Refused c =
+    let x = c.args in
+    let p = plan_of x.sheet.now x.contents in
+    let S = state_of x.contents.activities x.contents.links x.work.now in
+    let shown = c.results in
+    let call = c.refuse in
+    let other = c.requires.6.other in
+    let T = state_of x.contents.activities x.contents.links shown.new.work in
+    λ m L.
+    show_refuses m p L c.requires.0.fine (ran_in p S x.last other) c.requires.6.is call.result c.in-Refused.k call.new.names shown.new.work call.new.work
+    (sym (shown.ensures.0 x.last other) ∙ ap (ended (shown_in p T)) c.in-Refused.is) call.ensures.0 call.ensures.1 shown.ensures.2 call.ensures.2
+
+pub accept-requires : goal.accept-requires
+accept-requires c =
+    let x = c.args in
+    let shown = c.results in (
+      to_write
+          (ready_kept c.requires.0 shown.ensures.1 shown.ensures.2 (omega arith))
+          c.requires.2 (recorded_kept shown.ensures.1 (plan_of x.sheet.now x.contents) refl refl refl c.requires.1),
+      c.requires.3,
+    )
+
+pub returns-in-Done : goal.returns-in-Done
+returns-in-Done c =
+    let x = c.args in
+    let p = plan_of x.sheet.now x.contents in
+    let S = state_of x.contents.activities x.contents.links x.work.now in
+    let shown = c.results in
+    let call = c.accept in
+    let other = c.requires.6.other in
+    let T = state_of x.contents.activities x.contents.links shown.new.work in
+    let ran = ran_in p S x.last other in
+    let f = shown_in p T in
+    let A = subst (λ (q : Ran). AcceptedAs p q f x.ignored x.ends x.results.now call.new.results call.result) (ran_kept shown.ensures.1 p x.last other (omega arith)) (call.ensures.0 x.last other) in
+    λ m L.
+    show_accepts m p L c.requires.0.fine ran c.requires.6.is f (sym (shown.ensures.0 x.last other) ∙ ap (ended f) c.in-Done.is) call.result A.day p.activities x.ignored x.ends call.new.results
+    shown.new.work call.new.work A.is A.day_is refl c.requires.4 c.requires.5 A.rows_is shown.ensures.2 call.ensures.1
