@@ -8,7 +8,7 @@ use Rattle.worktime.specs.Walks.{shift}
 use Rattle.project.specs.declared.RelationshipType.{RelationshipType}
 use Rattle.project.specs.declared.RelationshipType.TheVariants.{FinishToStart, StartToStart, FinishToFinish, StartToFinish}
 use Rattle.placing.specs.Placing.{via, bounded, start_for_finish}
-use Rattle.placing.specs.PlacingLaws.{via_at, via_refused}
+use Rattle.placing.proofs.PlacingLaws.{via_at, via_refused}
 use Rattle.order.specs.Plan.{Plan}
 use Rattle.order.specs.Ties.{Tie}
 use Rattle.passes.specs.Plan.{own, lag_own, origin}

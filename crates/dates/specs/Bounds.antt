@@ -22,7 +22,7 @@ use Rattle.project.specs.declared.OptionalDate.TheVariants.{On, Absent}
 use Rattle.placing.specs.declared.Actual.{Actual}
 use Rattle.placing.specs.declared.Actual.TheVariants.{Unstarted, Begun, Completed}
 use Rattle.placing.specs.Placing.{midnight_of, via, bounded, is_moment, completed, place_start, finish_of, start_for_finish, place_finish, latest_same, start_of, finish_for_start, finish_for_start_by, actual}
-use Rattle.placing.specs.PlacingSound.{clash, bounded_sound}
+use Rattle.placing.proofs.PlacingSound.{clash, bounded_sound}
 use Rattle.order.specs.Plan.{Plan}
 use Rattle.order.specs.Ids.{summary}
 use Rattle.passes.specs.Plan.{own, recorded, begun}

@@ -9,7 +9,7 @@ use Rattle.worktime.specs.Walks.{end_minute, advance, retreat}
 use Rattle.worktime.proofs.Shift.{retreat_sound}
 use Rattle.project.specs.declared.ActivityKind.{ActivityKind}
 use Rattle.placing.specs.Placing.{place_start, finish_of}
-use Rattle.placing.specs.PlacingSound.{same_time, walk_ways, place_start_sound, finish_of_bound}
+use Rattle.placing.proofs.PlacingSound.{same_time, walk_ways, place_start_sound, finish_of_bound}
 use Rattle.floats.specs.declared.Moved.{Moved}
 use Rattle.floats.specs.declared.Moved.TheVariants.{To}
 use Rattle.floats.specs.Slack.{start_moved, dates_moved}

@@ -11,7 +11,7 @@ use Rattle.worktime.specs.Walks.{between}
 use Rattle.project.specs.declared.RelationshipType.{RelationshipType}
 use Rattle.project.specs.declared.RelationshipType.TheVariants.{FinishToStart, StartToStart, FinishToFinish, StartToFinish}
 use Rattle.placing.specs.declared.Actual.{Actual}
-use Rattle.placing.specs.PlacingLaws.{via_at, via_refused}
+use Rattle.placing.proofs.PlacingLaws.{via_at, via_refused}
 use Rattle.cells.specs.Chain.{after, gather}
 use Rattle.cells.specs.ChainLaws.{Cursor, cursor_start, cursor_turn, cursor_stop, cursor_end}
 use Rattle.memory.specs.State.{State, state_of}

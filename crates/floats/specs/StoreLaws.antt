@@ -10,7 +10,7 @@ use Rattle.placing.specs.declared.Actual.{Actual}
 use Rattle.worktime.specs.declared.Walk.TheVariants.{At, Refused}
 use Rattle.memory.specs.State.{State, put_act, fill_act}
 use Rattle.memory.specs.Fields.{late_finish, early_start, early_finish, work_left, free_float}
-use Rattle.placing.specs.PlacingLaws.{via_at, via_refused}
+use Rattle.placing.proofs.PlacingLaws.{via_at, via_refused}
 use Rattle.topology.specs.Frame.{Frame}
 use Rattle.topology.specs.FrameLaws.{frame_then, frame_put}
 use Rattle.order.specs.Plan.{Plan}

@@ -11,7 +11,7 @@ use Rattle.placing.specs.declared.Actual.TheVariants.{Unstarted, Begun, Complete
 use Rattle.placing.specs.declared.Moment.{Moment}
 use Rattle.placing.specs.declared.Moment.TheVariants.{Nowhere}
 use Rattle.placing.specs.Placing.{via, bounded, constraint_time}
-use Rattle.placing.specs.PlacingLaws.{via_at, via_refused}
+use Rattle.placing.proofs.PlacingLaws.{via_at, via_refused}
 use Rattle.order.specs.Plan.{Plan}
 use Rattle.order.specs.Ids.{summary}
 use Rattle.passes.specs.Plan.{own, origin, recorded}

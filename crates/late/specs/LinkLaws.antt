@@ -14,7 +14,7 @@ use Rattle.worktime.specs.Reads.{on_false}
 use Rattle.project.specs.declared.RelationshipType.{RelationshipType}
 use Rattle.project.specs.declared.RelationshipType.TheVariants.{FinishToStart, StartToStart, FinishToFinish, StartToFinish}
 use Rattle.placing.specs.Placing.{via, bounded, latest_same}
-use Rattle.placing.specs.PlacingLaws.{via_at, via_refused}
+use Rattle.placing.proofs.PlacingLaws.{via_at, via_refused}
 use Rattle.cells.specs.Chain.{gather}
 use Rattle.order.specs.Plan.{Plan}
 use Rattle.order.specs.Ties.{Tie}

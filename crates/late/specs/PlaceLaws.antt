@@ -5,8 +5,8 @@ use borrow.Author.Tests.{lt-ltb, le-ltb, le-leb, lt-leb}
 use Rattle.worktime.specs.declared.Walk.TheVariants.{At, Refused}
 use Rattle.worktime.specs.Reads.{on_true, on_false}
 use Rattle.placing.specs.Placing.{via, bounded, place_finish, latest_same, start_of}
-use Rattle.placing.specs.PlacingLaws.{via_at, via_refused}
-use Rattle.placing.specs.PlacingSound.{bounded_sound}
+use Rattle.placing.proofs.PlacingLaws.{via_at, via_refused}
+use Rattle.placing.proofs.PlacingSound.{bounded_sound}
 use Rattle.order.specs.Plan.{Plan}
 use Rattle.passes.specs.Plan.{own, origin, kind_of}
 use Rattle.passes.specs.Dates.{Early, Late, leaves, refused}

@@ -8,7 +8,7 @@ use Rattle.cells.specs.ChainLaws.{Cursor, cursor_start, cursor_turn, cursor_stop
 use Rattle.memory.specs.State.{State, state_of}
 use Rattle.memory.specs.Fields.{late_start, late_finish, early_finish, work_left, is_summary, from_field, first_out, next_out}
 use Rattle.sheet.specs.declared.Contents.{Contents}
-use Rattle.placing.specs.PlacingLaws.{via_at, via_refused}
+use Rattle.placing.proofs.PlacingLaws.{via_at, via_refused}
 use Rattle.order.specs.Plan.{Plan, plan_of}
 use Rattle.order.specs.Ids.{summary}
 use Rattle.order.specs.Ties as ties

@@ -6,7 +6,7 @@ use Rattle.std.proofs.Math.Bool.{false, not}
 use Rattle.worktime.specs.declared.Walk.{Walk}
 use Rattle.worktime.specs.declared.Walk.TheVariants.{At, Refused}
 use Rattle.placing.specs.Placing.{via, place_start}
-use Rattle.placing.specs.PlacingLaws.{via_at, via_refused}
+use Rattle.placing.proofs.PlacingLaws.{via_at, via_refused}
 use Rattle.order.specs.Plan.{Plan}
 use Rattle.passes.specs.Plan.{own, tie, kind_of, recorded}
 use Rattle.passes.specs.Dates.{Early, Pass, refused}

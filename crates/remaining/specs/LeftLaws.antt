@@ -17,7 +17,7 @@ use Rattle.project.specs.Status.{status_of}
 use Rattle.placing.specs.declared.Actual.{Actual}
 use Rattle.placing.specs.declared.Actual.TheVariants.{Unstarted, Begun, Completed}
 use Rattle.placing.specs.Placing.{midnight_of, actual}
-use Rattle.placing.specs.PlacingSound.{clash}
+use Rattle.placing.proofs.PlacingSound.{clash}
 use Rattle.order.specs.Plan.{Plan}
 use Rattle.order.specs.Ids.{summary}
 use Rattle.passes.specs.Plan.{own, recorded, full}

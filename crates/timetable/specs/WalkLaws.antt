@@ -18,7 +18,7 @@ use Rattle.project.specs.declared.End.TheVariants.{Start, Finish}
 use Rattle.placing.specs.declared.Moment.{Moment}
 use Rattle.placing.specs.declared.Moment.TheVariants.{Nowhere}
 use Rattle.placing.specs.Placing.{via, bounded, midnight_of, place_start, start_for_finish, day_start, moment_of, constraint_time}
-use Rattle.placing.specs.PlacingSound as sound
+use Rattle.placing.proofs.PlacingSound as sound
 use Rattle.passes.specs.Plan.{evening}
 use Rattle.passes.specs.Dates.{Pass, leaves, refused}
 use Rattle.timetable.specs.Rules.{IsShift, MayStart}

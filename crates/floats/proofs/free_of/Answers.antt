@@ -11,7 +11,7 @@ use Rattle.order.specs.Plan.{plan_of}
 use Rattle.calendars.specs.CalendarLaws.{calendar_valid, calendar_worked}
 use Rattle.dates.specs.Columns.{early_in}
 use Rattle.bounds.specs.ReadyLaws.{activities_are}
-use Rattle.placing.specs.PlacingSound.{same_time}
+use Rattle.placing.proofs.PlacingSound.{same_time}
 use Rattle.floats.specs.Slack.{free_of}
 use Rattle.floats.specs.StoreLaws.{ef_at}
 use Rattle.floats.specs.GapLaws.{free_of_found, free_of_late, free_of_refused}

@@ -1,8 +1,7 @@
 -- `placing::bounded` meets its contract. Each way out has its law.
-use borrow.Author.Rules.{rules}
-use mathlib.Core.Path.{◌≡◌, sym, ap, ◌∙◌}
+use mathlib.Core.Path.{sym}
 use native.Mathlib.Omega.{arith}
-use Rattle.placing.specs.PlacingLaws.{bounded_in, bounded_after, bounded_before}
+use Rattle.placing.proofs.PlacingLaws.{bounded_in, bounded_after, bounded_before}
 use Rattle.placing.proofs.bounded.Goals as goal
 
 pub returns-then-origin-t-gt-SPAN : goal.returns-then-origin-t-gt-SPAN

@@ -1,7 +1,6 @@
 -- `placing::finish_for_start` meets its contract. Each way out has its law.
-use borrow.Author.Rules.{rules}
-use mathlib.Core.Path.{◌≡◌, sym, ap, ◌∙◌}
-use Rattle.placing.specs.PlacingLaws.{finish_for_start_none, finish_for_start_at, finish_for_start_refuses}
+use mathlib.Core.Path.{sym, ◌∙◌}
+use Rattle.placing.proofs.PlacingLaws.{finish_for_start_none, finish_for_start_at, finish_for_start_refuses}
 use Rattle.placing.proofs.finish_for_start.Goals as goal
 
 pub returns-then-left-eq0 : goal.returns-then-left-eq0

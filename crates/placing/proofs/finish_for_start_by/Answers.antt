@@ -1,7 +1,6 @@
 -- `placing::finish_for_start_by` meets its contract. Each way out has its law.
-use borrow.Author.Rules.{rules}
-use mathlib.Core.Path.{◌≡◌, sym, ap, ◌∙◌}
-use Rattle.placing.specs.PlacingLaws.{finish_for_start_by_none, finish_for_start_by_at, finish_for_start_by_refuses}
+use mathlib.Core.Path.{sym, ◌∙◌}
+use Rattle.placing.proofs.PlacingLaws.{finish_for_start_by_none, finish_for_start_by_at, finish_for_start_by_refuses}
 use Rattle.placing.proofs.finish_for_start_by.Goals as goal
 
 pub returns-then-left-eq0 : goal.returns-then-left-eq0

@@ -1,6 +1,4 @@
 -- `placing::is_moment` meets its contract, by the three kinds.
-use borrow.Author.Rules.{rules}
-use mathlib.Core.Path.{◌≡◌, sym, ap, ◌∙◌}
 use Rattle.placing.specs.Placing.{is_moment}
 use Rattle.placing.proofs.is_moment.Goals as goal
 

@@ -1,7 +1,6 @@
 -- `placing::place_finish` meets its contract. Each way out has its law.
-use borrow.Author.Rules.{rules}
-use mathlib.Core.Path.{◌≡◌, sym, ap, ◌∙◌}
-use Rattle.placing.specs.PlacingLaws.{place_finish_refuses, place_finish_here, place_finish_start, place_finish_before, place_finish_start_refuses}
+use mathlib.Core.Path.{sym, ◌∙◌}
+use Rattle.placing.proofs.PlacingLaws.{place_finish_refuses, place_finish_here, place_finish_start, place_finish_before, place_finish_start_refuses}
 use Rattle.placing.proofs.place_finish.Goals as goal
 
 pub returns-then-s-t : goal.returns-then-s-t

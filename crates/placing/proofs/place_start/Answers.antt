@@ -1,7 +1,6 @@
 -- `placing::place_start` meets its contract, by the three kinds.
-use borrow.Author.Rules.{rules}
-use mathlib.Core.Path.{◌≡◌, sym, ap, ◌∙◌}
-use Rattle.placing.specs.PlacingLaws.{place_start_task, place_start_start, place_start_finish}
+use mathlib.Core.Path.{sym, ◌∙◌}
+use Rattle.placing.proofs.PlacingLaws.{place_start_task, place_start_start, place_start_finish}
 use Rattle.placing.proofs.place_start.Goals as goal
 
 pub returns-in-Task : goal.returns-in-Task

@@ -1,7 +1,6 @@
 -- `placing::start_for_finish` meets its contract. Each way out has its law.
-use borrow.Author.Rules.{rules}
-use mathlib.Core.Path.{◌≡◌, sym, ap, ◌∙◌}
-use Rattle.placing.specs.PlacingLaws.{start_for_finish_none, start_for_finish_at, start_for_finish_refuses}
+use mathlib.Core.Path.{sym, ◌∙◌}
+use Rattle.placing.proofs.PlacingLaws.{start_for_finish_none, start_for_finish_at, start_for_finish_refuses}
 use Rattle.placing.proofs.start_for_finish.Goals as goal
 
 pub returns-then-left-eq0 : goal.returns-then-left-eq0

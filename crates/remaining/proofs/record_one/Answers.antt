@@ -27,7 +27,7 @@ use Rattle.order.specs.Ids.{summary}
 use Rattle.passes.specs.Plan.{recorded, full}
 use Rattle.dates.specs.Standing.{Ready}
 use Rattle.worktime.specs.declared.Walk.TheVariants.{At}
-use Rattle.placing.specs.PlacingSound.{clash}
+use Rattle.placing.proofs.PlacingSound.{clash}
 use Rattle.remaining.specs.LeftLaws.{recorded_summary, recorded_none, full_summary, full_else, left_unstarted, is_below}
 use Rattle.remaining.specs.RowLaws.{row_kept}
 use Rattle.remaining.proofs.record_one.Goals as goal

@@ -4,7 +4,7 @@ use native.Mathlib.Omega.{arith}
 use Rattle.memory.specs.State.{state_of}
 use Rattle.topology.specs.FrameLaws.{frame_refl, frame_then}
 use Rattle.order.specs.Plan.{plan_of}
-use Rattle.placing.specs.PlacingSound.{clash}
+use Rattle.placing.proofs.PlacingSound.{clash}
 use Rattle.dates.specs.KeptLaws.{ready_kept}
 use Rattle.remaining.specs.RowLaws.{passed_start, passed_turn, passed_stop, passed_end}
 use Rattle.remaining.proofs.remaining.Goals as goal

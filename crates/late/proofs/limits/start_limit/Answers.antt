@@ -1,7 +1,7 @@
 -- `late::limits::start_limit` meets its contract.
 use borrow.Author.Rules.{rules}
 use mathlib.Core.Path.{sym, ap, ◌∙◌}
-use Rattle.placing.specs.PlacingLaws.{via_at, via_refused}
+use Rattle.placing.proofs.PlacingLaws.{via_at, via_refused}
 use Rattle.worktime.specs.declared.Walk.TheVariants.{At, Refused}
 use Rattle.late.proofs.limits.start_limit.Goals as goal
 

@@ -1,8 +1,7 @@
 -- `placing::dates::actual` meets its contract, by which days are recorded.
-use borrow.Author.Rules.{rules}
-use mathlib.Core.Path.{◌≡◌, sym, ap, ap₂, ◌∙◌}
+use mathlib.Core.Path.{sym, ap₂, ◌∙◌}
 use Rattle.placing.specs.Placing.{actual}
-use Rattle.placing.specs.PlacingLaws.{actual_none, actual_finish_only}
+use Rattle.placing.proofs.PlacingLaws.{actual_none, actual_finish_only}
 use Rattle.placing.proofs.dates.actual.Goals as goal
 
 pub returns-in-On-first : goal.returns-in-On-first

@@ -1,8 +1,7 @@
 -- `placing::dates::begun` meets its contract. Each way out has its law.
-use borrow.Author.Rules.{rules}
-use mathlib.Core.Path.{◌≡◌, sym, ap, ◌∙◌}
+use mathlib.Core.Path.{sym, ap, ◌∙◌}
 use Rattle.worktime.specs.Walks.{next_start}
-use Rattle.placing.specs.PlacingLaws.{actual_begun, actual_begun_refuses}
+use Rattle.placing.proofs.PlacingLaws.{actual_begun, actual_begun_refuses}
 use Rattle.placing.proofs.dates.begun.Goals as goal
 
 pub returns-in-At : goal.returns-in-At

@@ -1,8 +1,7 @@
 -- `placing::dates::completed` meets its contract. Each way out has its law.
-use borrow.Author.Rules.{rules}
-use mathlib.Core.Path.{◌≡◌, sym, ap, ◌∙◌}
+use mathlib.Core.Path.{sym, ap, ◌∙◌}
 use Rattle.worktime.specs.Walks.{next_start}
-use Rattle.placing.specs.PlacingLaws.{actual_start_refuses, actual_finish_refuses, actual_finished, actual_raised}
+use Rattle.placing.proofs.PlacingLaws.{actual_start_refuses, actual_finish_refuses, actual_finished, actual_raised}
 use Rattle.placing.proofs.dates.completed.Goals as goal
 
 pub returns-then-f-s : goal.returns-then-f-s

@@ -1,7 +1,6 @@
 -- `placing::dates::constraint_time` meets its contract, by the end that the constraint bounds.
-use borrow.Author.Rules.{rules}
-use mathlib.Core.Path.{◌≡◌, sym, ap, ◌∙◌}
-use Rattle.placing.specs.PlacingLaws.{constraint_time_start, constraint_time_finish, constraint_time_neither}
+use mathlib.Core.Path.{sym, ◌∙◌}
+use Rattle.placing.proofs.PlacingLaws.{constraint_time_start, constraint_time_finish, constraint_time_neither}
 use Rattle.placing.proofs.dates.constraint_time.Goals as goal
 
 pub returns-in-Start : goal.returns-in-Start

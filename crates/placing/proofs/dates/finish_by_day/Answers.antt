@@ -1,6 +1,4 @@
 -- `placing::dates::finish_by_day` meets its contract.
-use borrow.Author.Rules.{rules}
-use mathlib.Core.Path.{◌≡◌, sym, ap, ◌∙◌}
 use Rattle.placing.proofs.dates.finish_by_day.Goals as goal
 
 pub returns : goal.returns

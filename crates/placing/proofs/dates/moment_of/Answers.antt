@@ -1,6 +1,5 @@
 -- `placing::dates::moment_of` meets its contract.
-use borrow.Author.Rules.{rules}
-use mathlib.Core.Path.{◌≡◌, sym, ap, ◌∙◌}
+use mathlib.Core.Path.{sym, ap}
 use Rattle.placing.specs.Placing.{moment_of}
 use Rattle.placing.proofs.dates.moment_of.Goals as goal
 

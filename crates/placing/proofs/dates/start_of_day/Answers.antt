@@ -1,8 +1,7 @@
 -- `placing::dates::start_of_day` meets its contract. The day's first worked minute is the least of the 1440 from its midnight on.
-use borrow.Author.Rules.{rules}
 use mathlib.Core.Path.{◌≡◌, sym, ap, ◌∙◌}
 use native.Mathlib.Omega.{arith}
-use Prim.Native.Nat.{ℕ, ◌+◌, ◌*◌, ◌/◌, ◌<◌}
+use Prim.Native.Nat.{ℕ, ◌+◌, ◌*◌, ◌/◌}
 use Rattle.calendar.specs.Hours.{worked}
 use Rattle.calendar.specs.Records.{hours_on}
 use Rattle.date.specs.Years.{in_years, years_in}
@@ -10,7 +9,7 @@ use Rattle.worktime.specs.declared.Walk.TheVariants.{At, Refused}
 use Rattle.worktime.specs.Reads.{reads_in, reads_out}
 use Rattle.clock.specs.Days.{hand_next}
 use Rattle.placing.specs.Placing.{day_start}
-use Rattle.placing.specs.PlacingLaws.{day_start_found, day_start_free}
+use Rattle.placing.proofs.PlacingLaws.{day_start_found, day_start_free}
 use Rattle.placing.proofs.dates.start_of_day.Goals as goal
 
 pub periods_on-hours-requires : goal.periods_on-hours-requires

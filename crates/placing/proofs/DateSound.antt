@@ -8,7 +8,7 @@ use Rattle.date.specs.Years.{in_years, years_within}
 use Rattle.worktime.specs.declared.Walk.{Walk}
 use Rattle.worktime.specs.declared.Walk.TheVariants.{At, Refused}
 use Rattle.worktime.specs.Worked.{count, IsNextStart, IsPreviousFinish}
-use Rattle.worktime.specs.Walks.{too_long, first_minute, end_minute, reads, next_start, previous_finish}
+use Rattle.worktime.specs.Walks.{too_long, first_minute, end_minute, next_start, previous_finish}
 use Rattle.worktime.specs.Count.{start_le, count_mono, reach}
 use Rattle.worktime.specs.Reads.{reads_in, reads_out, minute_range}
 use Rattle.worktime.specs.Search.{least_at}
@@ -25,8 +25,8 @@ use Rattle.placing.specs.declared.Actual.TheVariants.{Unstarted, Begun, Complete
 use Rattle.placing.specs.declared.Moment.{Moment}
 use Rattle.placing.specs.declared.Moment.TheVariants.{Nowhere}
 use Rattle.placing.specs.Placing.{midnight_of, found, moment_of, day_start, constraint_time, actual}
-use Rattle.placing.specs.PlacingLaws.{day_start_none, constraint_time_start, constraint_time_finish, constraint_time_neither, actual_none, actual_finish_only, actual_begun, actual_begun_refuses, actual_start_refuses, actual_finish_refuses, actual_both}
-use Rattle.placing.specs.PlacingSound.{clash, walk_ways}
+use Rattle.placing.proofs.PlacingLaws.{day_start_none, constraint_time_start, constraint_time_finish, constraint_time_neither, actual_none, actual_finish_only, actual_begun, actual_begun_refuses, actual_start_refuses, actual_finish_refuses, actual_both}
+use Rattle.placing.proofs.PlacingSound.{clash, walk_ways}
 
 -- a sheet's days lie in the years that a walk may read
 pub day_in_years : (d : Date) → DayInRange d → in_years (midnight_of d / 1440) ≡ true

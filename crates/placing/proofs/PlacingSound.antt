@@ -5,7 +5,7 @@ use Rattle.number.specs.Order.{cases, lt_or_le, zero_or_pos}
 use Rattle.worktime.specs.declared.Walk.{Walk}
 use Rattle.worktime.specs.declared.Walk.TheVariants.{At, Refused}
 use Rattle.worktime.specs.Worked.{count, closing, IsNextStart, IsNextFinish, IsAdvance, IsRetreat}
-use Rattle.worktime.specs.Walks.{too_long, first_minute, end_minute, next_start, previous_finish, next_finish, previous_start, start_by, advance, retreat}
+use Rattle.worktime.specs.Walks.{too_long, first_minute, end_minute, next_start, previous_finish, next_finish, previous_start, start_by}
 use Rattle.worktime.specs.Count.{count_mono, start_le, closing_pred}
 use Rattle.worktime.specs.Relations.{next_start_count, next_finish_count, next_finish_after, previous_finish_count, advance_from, retreat_before}
 use Rattle.worktime.specs.Adjoint.{finish_galois}
@@ -15,7 +15,7 @@ use Rattle.worktime.proofs.Shift.{advance_sound, advance_refused, retreat_sound,
 use Rattle.project.specs.declared.ActivityKind.{ActivityKind}
 use Rattle.project.specs.declared.ActivityKind.TheVariants.{Task, StartMilestone, FinishMilestone}
 use Rattle.placing.specs.Placing.{bounded, is_moment, place_start, finish_of, start_for_finish, place_finish, latest_same, start_of, finish_for_start, finish_for_start_by}
-use Rattle.placing.specs.PlacingLaws.{bounded_in, bounded_after, bounded_before, place_start_task, place_start_start, place_start_finish, start_for_finish_none, start_for_finish_at, start_for_finish_refuses, finish_for_start_none, finish_for_start_at, finish_for_start_refuses, finish_for_start_by_none, finish_for_start_by_at, finish_for_start_by_refuses, place_finish_refuses, place_finish_here, place_finish_start, place_finish_before, place_finish_start_refuses}
+use Rattle.placing.proofs.PlacingLaws.{bounded_in, bounded_after, bounded_before, place_start_task, place_start_start, place_start_finish, start_for_finish_none, start_for_finish_at, start_for_finish_refuses, finish_for_start_none, finish_for_start_at, finish_for_start_refuses, finish_for_start_by_none, finish_for_start_by_at, finish_for_start_by_refuses, place_finish_refuses, place_finish_here, place_finish_start, place_finish_before, place_finish_start_refuses}
 
 -- ---- walks
 
