@@ -6,10 +6,10 @@ use Rattle.backward.specs.FinishLaws.{end_on, end_absent}
 use Rattle.backward.proofs.end_of.Goals as goal
 
 pub returns-in-On : goal.returns-in-On
-returns-in-On c =(
-      λ d q. c.bounded.ensures ∙ sym (end_on c.args.sheet.now c.args.contents d _ _ _ (sym c.read_optional_date.ensures ∙ c.in-On.is) c.origin_of-origin.ensures.0 c.midnight.ensures.0),
-      λ t e. bounded_fits _ _ t c.origin_of-origin.ensures.1 (sym c.bounded.ensures ∙ e),
-    )
+returns-in-On c = (
+  λ d q. c.bounded.ensures ∙ sym (end_on c.args.sheet.now c.args.contents d _ _ _ (sym c.read_optional_date.ensures ∙ c.in-On.is) c.origin_of-origin.ensures.0 c.midnight.ensures.0),
+  λ t e. bounded_fits _ _ t c.origin_of-origin.ensures.1 (sym c.bounded.ensures ∙ e),
+)
 
 pub returns-in-Absent : goal.returns-in-Absent
 returns-in-Absent c =

@@ -14,10 +14,10 @@ returns-then-lag-eq0 c =
     sym (ap (shift _ c.args.t) (sym (to_z-of_z c.ranges.lag) ∙ ap (to_z w64) c.if-lag-eq0.true) ∙ shift_zero _ _)
 
 pub shift-requires : goal.shift-requires
-shift-requires c =(
-      calendar_valid (record { week_is = c.week_of-week.ensures; at_is = c.exceptions_of-e.ensures.0; n_is = c.exceptions_of-e.ensures.1 }) c.requires.0,
-      rw (to_z-of_z c.ranges.lag) c.requires.2,
-    )
+shift-requires c = (
+  calendar_valid (record { week_is = c.week_of-week.ensures; at_is = c.exceptions_of-e.ensures.0; n_is = c.exceptions_of-e.ensures.1 }) c.requires.0,
+  rw (to_z-of_z c.ranges.lag) c.requires.2,
+)
 
 pub returns : goal.returns
 returns c =
