@@ -1,4 +1,4 @@
--- `plan::print_rows` is safe: a row is printed only where it is whole.
+-- `plan::print_rows` is safe and ends: a row is printed only where it is whole.
 use Rattle.std.proofs.Common.{◌≤◌, length}
 use Rattle.plan.proofs.print_rows.Given as goal
 

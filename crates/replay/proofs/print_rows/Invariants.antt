@@ -1,4 +1,4 @@
--- `replay::print_rows` is safe: a row is printed only where it is whole.
+-- `replay::print_rows` is safe and ends: a row is printed only where it is whole.
 use Rattle.std.proofs.Common.{◌≤◌, length}
 use Rattle.replay.proofs.print_rows.Given as goal
 
