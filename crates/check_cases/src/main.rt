@@ -194,7 +194,11 @@ fn answer_all(rt: &impl Print, file: &[u8]) -> io::Result<()> {
 }
 
 fn main(rt: HostRuntime) -> io::Result<()> {
+    let mut source = match fs::open(&rt, "sheets") {
+        Ok(source) => source,
+        Err(e) => return eprintln!(rt; "sheets: {e}"),
+    };
     let mut file = [0u8; 65536];
-    let n = input::read_full(&mut fs::open(&rt, "sheets")?, &mut file)?;
+    let n = input::read_full(&mut source, &mut file)?;
     answer_all(&rt, &file[..n])
 }

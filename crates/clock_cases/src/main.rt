@@ -388,7 +388,11 @@ fn run_file(rt: &impl Print, file: &[u8]) -> io::Result<()> {
 }
 
 fn main(rt: HostRuntime) -> io::Result<()> {
+    let mut source = match fs::open(&rt, "cases") {
+        Ok(source) => source,
+        Err(e) => return eprintln!(rt; "cases: {e}"),
+    };
     let mut file = [0u8; 16384];
-    let n = input::read_full(&mut fs::open(&rt, "cases")?, &mut file)?;
+    let n = input::read_full(&mut source, &mut file)?;
     run_file(&rt, &file[..n])
 }

@@ -154,6 +154,9 @@ fn replay_all(rt: &impl Print, file: &mut impl Read) -> io::Result<()> {
 }
 
 fn main(rt: HostRuntime) -> io::Result<()> {
-    let mut file = fs::open(&rt, "sheets")?;
+    let mut file = match fs::open(&rt, "sheets") {
+        Ok(file) => file,
+        Err(e) => return eprintln!(rt; "sheets: {e}"),
+    };
     replay_all(&rt, &mut file)
 }
