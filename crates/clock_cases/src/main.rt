@@ -13,6 +13,10 @@ use sheet::Run;
 use std::{fs, io};
 use worktime::{Walk, Work, Working};
 
+fn write(rt: &impl Print, text: &[u8]) -> io::Result<()> {
+    rt.write_all(text)
+}
+
 // A signed number; the least one, which has no opposite, shows as the next.
 fn print_signed(rt: &impl Print, z: i64) -> io::Result<()> {
     rt.print(number::sign::max(z, -9223372036854775807))
@@ -46,9 +50,9 @@ fn print_work(rt: &impl Print, r: Work) -> io::Result<()> {
 
 fn print_test(rt: &impl Print, b: bool) -> io::Result<()> {
     if b {
-        return print!(rt; "yes");
+        return write(rt, b"yes");
     }
-    print!(rt; "no")
+    write(rt, b"no")
 }
 
 fn print_working(rt: &impl Print, r: Working) -> io::Result<()> {
@@ -180,40 +184,40 @@ fn answer(
 
 fn name_walk(rt: &impl Print, code: u64) -> io::Result<()> {
     if code == 1 {
-        return print!(rt; "next_start ");
+        return write(rt, b"next_start ");
     }
     if code == 2 {
-        return print!(rt; "previous_finish ");
+        return write(rt, b"previous_finish ");
     }
     if code == 3 {
-        return print!(rt; "next_finish ");
+        return write(rt, b"next_finish ");
     }
     if code == 4 {
-        return print!(rt; "previous_start ");
+        return write(rt, b"previous_start ");
     }
-    print!(rt; "start_by ")
+    write(rt, b"start_by ")
 }
 
 fn name_rest(rt: &impl Print, code: u64) -> io::Result<()> {
     if code == 6 {
-        return print!(rt; "working_at ");
+        return write(rt, b"working_at ");
     }
     if code == 7 {
-        return print!(rt; "worked_before ");
+        return write(rt, b"worked_before ");
     }
     if code == 8 {
-        return print!(rt; "day_work ");
+        return write(rt, b"day_work ");
     }
     if code == 9 {
-        return print!(rt; "advance ");
+        return write(rt, b"advance ");
     }
     if code == 10 {
-        return print!(rt; "retreat ");
+        return write(rt, b"retreat ");
     }
     if code == 11 {
-        return print!(rt; "shift ");
+        return write(rt, b"shift ");
     }
-    print!(rt; "between ")
+    write(rt, b"between ")
 }
 
 fn print_name(rt: &impl Print, code: u64) -> io::Result<()> {
@@ -230,7 +234,7 @@ fn print_second(rt: &impl Print, file: &[u8], code: u64, second: usize) -> io::R
     if code < 9 {
         return Ok(());
     }
-    print!(rt; " ")?;
+    write(rt, b" ")?;
     if code < 11 {
         return rt.print(number::read_u32(file, second));
     }
@@ -256,9 +260,9 @@ fn print_case(
     print_name(rt, code)?;
     print_time(rt, t)?;
     print_second(rt, file, code, case + 7)?;
-    print!(rt; ": ")?;
+    write(rt, b": ")?;
     answer(rt, week, file, at, n, code, t, case + 7)?;
-    println!(rt)
+    write(rt, b"\n")
 }
 
 // The lines of the `count` cases from `from` on.
@@ -320,7 +324,7 @@ fn run_cases(
 fn print_calendar(rt: &impl Print, week: [[Period; 8]; 7], w: usize, e: usize) -> io::Result<()> {
     print!(rt; "calendar of {w} W and {e} E, weekly hours: ")?;
     print_test(rt, calendar::has_hours(week))?;
-    println!(rt)
+    write(rt, b"\n")
 }
 
 // The cases of a calendar of `w` W records from `at` on and `e` E records from `from` on; after a mark of 1 they are cases round the clock.
@@ -330,7 +334,7 @@ fn run_week(rt: &impl Print, file: &[u8], at: usize, w: usize, from: usize, e: u
 {
     let end = from + 9 * e;
     if sheet::runs::kind_at(file, end) == 1 {
-        let head = println!(rt; "round the clock");
+        let head = write(rt, b"round the clock\n");
         let ran = run_cases(rt, calendar::round_the_clock(), file, end, 0, end);
         return Ran {
             end: ran.end,

@@ -6,6 +6,10 @@ ghost use Rattle.std.specs.Prelude.{◌+◌, ◌≤◌, ◌<◌, length};
 use sched::Answer;
 use std::io;
 
+fn write(rt: &impl Print, text: &[u8]) -> io::Result<()> {
+    rt.write_all(text)
+}
+
 // A signed number; the least one, which has no opposite, shows as the next.
 fn print_signed(rt: &impl Print, z: i64) -> io::Result<()> {
     rt.print(number::sign::max(z, -9223372036854775807))
@@ -17,10 +21,10 @@ fn print_row(rt: &impl Print, results: &[i64], at: usize, n: usize) -> io::Resul
 {
     print_signed(rt, results[at])?;
     for k in 1..n {
-        print!(rt; " ")?;
+        write(rt, b" ")?;
         print_signed(rt, results[at + k])?;
     }
-    println!(rt)
+    write(rt, b"\n")
 }
 
 // A line an activity, as far as the results reach.
@@ -40,7 +44,7 @@ fn print_answer(rt: &impl Print, answer: Answer, results: &[i64]) -> io::Result<
     match answer {
         Answer::Refused(number, id) => println!(rt; "refused {number} {id}"),
         Answer::Accepted(day, a, ignored, open) => {
-            print!(rt; "plan ")?;
+            write(rt, b"plan ")?;
             print_signed(rt, day)?;
             println!(rt; " {a} {ignored} {open}")?;
             print_rows(rt, results, a)
@@ -61,7 +65,7 @@ fn main(rt: HostRuntime) -> io::Result<()> {
     let mut sheet = [0u8; 16385];
     let n = input::read_full(&mut rt.reader(), &mut sheet)?;
     if n > 16384 {
-        return println!(rt; "too big");
+        return write(&rt, b"too big\n");
     }
     plan(&rt, &sheet[..n])
 }

@@ -8,6 +8,10 @@ use sched::Answer;
 use std::io::Read;
 use std::{fs, io};
 
+fn write(rt: &impl Print, text: &[u8]) -> io::Result<()> {
+    rt.write_all(text)
+}
+
 // A signed number; the least one, which has no opposite, shows as the next.
 fn print_signed(rt: &impl Print, z: i64) -> io::Result<()> {
     rt.print(number::sign::max(z, -9223372036854775807))
@@ -19,10 +23,10 @@ fn print_row(rt: &impl Print, results: &[i64], at: usize, n: usize) -> io::Resul
 {
     print_signed(rt, results[at])?;
     for k in 1..n {
-        print!(rt; " ")?;
+        write(rt, b" ")?;
         print_signed(rt, results[at + k])?;
     }
-    println!(rt)
+    write(rt, b"\n")
 }
 
 // A line an activity, as far as the results reach.
@@ -36,6 +40,10 @@ fn print_rows(rt: &impl Print, results: &[i64], a: u64) -> io::Result<()> {
         at += 15;
     }
     Ok(())
+}
+
+fn wide(x: u32) -> u64 {
+    x as u64
 }
 
 // Where the first 0 stands, or the end.
@@ -59,11 +67,11 @@ fn print_names(rt: &impl Print, names: &[u32], n: usize) -> io::Result<()>
     if n == 0 {
         return Ok(());
     }
-    print!(rt; "names")?;
+    write(rt, b"names")?;
     for name in &names[..n] {
-        print!(rt; " {name}")?;
+        print!(rt; " {}", wide(*name))?;
     }
-    println!(rt)
+    write(rt, b"\n")
 }
 
 // A refusal: its number and its id, and the loop that is named.
@@ -74,7 +82,7 @@ fn print_refused(rt: &impl Print, number: u64, id: u64, names: &[u32]) -> io::Re
 
 // The first line of a plan.
 fn print_totals(rt: &impl Print, day: i64, a: u64, ignored: u64, open: u64) -> io::Result<()> {
-    print!(rt; "plan ")?;
+    write(rt, b"plan ")?;
     print_signed(rt, day)?;
     println!(rt; " {a} {ignored} {open}")
 }
