@@ -1,5 +1,7 @@
 // Runs the clock cases of the file `cases` and writes a line for each. The file and the lines expected come from tools/clock_cases.py, which scans minute
 // by minute as document 01 words the clock and shares nothing with the code here.
+#![tactic(auto)]
+
 ghost use Rattle.std.specs.Prelude.{◌≡◌, ℕ, ◌+◌, ◌*◌, ◌^◌, min, ◌≤◌, ◌<◌, length};
 ghost use Rattle.number.specs.Zed.{dn};
 ghost use Rattle.calendar.specs.Records.{Valid};
@@ -7,75 +9,56 @@ ghost use Rattle.sheet.specs.declared.Run.TheVariants.{Count};
 ghost use Rattle.sheet.specs.Reading.{weeks_from, exceptions_from};
 
 use calendar::Period;
-use libc::STDOUT_FILENO;
 use sheet::Run;
+use std::{fs, io};
 use worktime::{Walk, Work, Working};
 
-fn write(text: &[u8]) {
-    io::write_all(STDOUT_FILENO, text);
+fn write(rt: &impl Print, text: &[u8]) -> io::Result<()> {
+    rt.write_all(text)
 }
 
 // A signed number; the least one, which has no opposite, shows as the next.
-fn print_signed(z: i64) {
-    let back = number::sign::downward(number::sign::max(z, -9223372036854775807));
-    if back != 0 {
-        write(b"-");
-        io::print_decimal(STDOUT_FILENO, back);
-        return;
-    }
-    io::print_decimal(STDOUT_FILENO, number::sign::upward(z));
+fn print_signed(rt: &impl Print, z: i64) -> io::Result<()> {
+    rt.print(number::sign::max(z, -9223372036854775807))
 }
 
 // A time, as 01 counts minutes.
-fn print_time(t: u64) {
+fn print_time(rt: &impl Print, t: u64) -> io::Result<()> {
     if t < 0x8000_0000_0000_0000 {
-        print_signed(date::signed_minute(t));
+        print_signed(rt, date::signed_minute(t))?;
     }
+    Ok(())
 }
 
-fn print_refused(k: u64) {
-    write(b"refused ");
-    io::print_decimal(STDOUT_FILENO, k);
+fn print_refused(rt: &impl Print, k: u64) -> io::Result<()> {
+    print!(rt; "refused {k}")
 }
 
-fn print_walk(r: Walk) {
+fn print_walk(rt: &impl Print, r: Walk) -> io::Result<()> {
     match r {
-        Walk::At(t) => {
-            print_time(t);
-        }
-        Walk::Refused(k) => {
-            print_refused(k);
-        }
+        Walk::At(t) => print_time(rt, t),
+        Walk::Refused(k) => print_refused(rt, k),
     }
 }
 
-fn print_work(r: Work) {
+fn print_work(rt: &impl Print, r: Work) -> io::Result<()> {
     match r {
-        Work::Minutes(z) => {
-            print_signed(z);
-        }
-        Work::Refused(k) => {
-            print_refused(k);
-        }
+        Work::Minutes(z) => print_signed(rt, z),
+        Work::Refused(k) => print_refused(rt, k),
     }
 }
 
-fn print_test(b: bool) {
+fn print_test(rt: &impl Print, b: bool) -> io::Result<()> {
     if b {
-        write(b"yes");
-        return;
+        return write(rt, b"yes");
     }
-    write(b"no");
+    write(rt, b"no")
 }
 
-fn print_working(r: Working) {
+fn print_working(rt: &impl Print, r: Working) -> io::Result<()> {
     match r {
-        Working::Is(b) => {
-            print_test(b);
-        }
-        Working::Refused(k) => {
-            print_refused(k);
-        }
+        Working::Is(b) => print_test(rt, b),
+        Working::Refused(k) => print_refused(rt, k),
     }
 }
 
@@ -96,45 +79,56 @@ fn lag_at(file: &[u8], at: usize) -> i64
 }
 
 // The functions of a time that answer a time.
-fn answer_walk(week: [[Period; 8]; 7], file: &[u8], at: usize, n: usize, code: u64, t: u64)
+fn answer_walk(
+    rt: &impl Print,
+    week: [[Period; 8]; 7],
+    file: &[u8],
+    at: usize,
+    n: usize,
+    code: u64,
+    t: u64,
+) -> io::Result<()>
     requires { Valid week file.now at n }
 {
     if code == 1 {
-        print_walk(clock::next_start(week, file, at, n, t));
-        return;
+        return print_walk(rt, clock::next_start(week, file, at, n, t));
     }
     if code == 2 {
-        print_walk(clock::previous_finish(week, file, at, n, t));
-        return;
+        return print_walk(rt, clock::previous_finish(week, file, at, n, t));
     }
     if code == 3 {
-        print_walk(clock::next_finish(week, file, at, n, t));
-        return;
+        return print_walk(rt, clock::next_finish(week, file, at, n, t));
     }
     if code == 4 {
-        print_walk(clock::previous_start(week, file, at, n, t));
-        return;
+        return print_walk(rt, clock::previous_start(week, file, at, n, t));
     }
-    print_walk(clock::start_by(week, file, at, n, t));
+    print_walk(rt, clock::start_by(week, file, at, n, t))
 }
 
 // The functions of a time that answer a test or a count.
-fn answer_count(week: [[Period; 8]; 7], file: &[u8], at: usize, n: usize, code: u64, t: u64)
+fn answer_count(
+    rt: &impl Print,
+    week: [[Period; 8]; 7],
+    file: &[u8],
+    at: usize,
+    n: usize,
+    code: u64,
+    t: u64,
+) -> io::Result<()>
     requires { Valid week file.now at n }
 {
     if code == 6 {
-        print_working(clock::working_at(week, file, at, n, t));
-        return;
+        return print_working(rt, clock::working_at(week, file, at, n, t));
     }
     if code == 7 {
-        print_work(clock::worked_before(week, file, at, n, t));
-        return;
+        return print_work(rt, clock::worked_before(week, file, at, n, t));
     }
-    print_work(clock::day_work(week, file, at, n, t / 1440));
+    print_work(rt, clock::day_work(week, file, at, n, t / 1440))
 }
 
 // The functions of a time and the work that stands at `second`.
 fn answer_move(
+    rt: &impl Print,
     week: [[Period; 8]; 7],
     file: &[u8],
     at: usize,
@@ -142,26 +136,33 @@ fn answer_move(
     code: u64,
     t: u64,
     second: usize,
-)
+) -> io::Result<()>
     requires { Valid week file.now at n × (second + 6 ≤ length file.now) }
 {
     if code == 9 {
-        print_walk(clock::advance(week, file, at, n, t, number::read_u32(file, second)));
-        return;
+        return print_walk(
+            rt,
+            clock::advance(week, file, at, n, t, number::read_u32(file, second)),
+        );
     }
     if code == 10 {
-        print_walk(clock::retreat(week, file, at, n, t, number::read_u32(file, second)));
-        return;
+        return print_walk(
+            rt,
+            clock::retreat(week, file, at, n, t, number::read_u32(file, second)),
+        );
     }
     if code == 11 {
-        print_walk(clock::shift(week, file, at, n, t, lag_at(file, second)));
-        return;
+        return print_walk(rt, clock::shift(week, file, at, n, t, lag_at(file, second)));
     }
-    print_work(clock::between(week, file, at, n, t, time_at(file, second)));
+    print_work(
+        rt,
+        clock::between(week, file, at, n, t, time_at(file, second)),
+    )
 }
 
 // The answer of the function with a code, on the time `t` and what stands at `second`.
 fn answer(
+    rt: &impl Print,
     week: [[Period; 8]; 7],
     file: &[u8],
     at: usize,
@@ -169,210 +170,233 @@ fn answer(
     code: u64,
     t: u64,
     second: usize,
-)
+) -> io::Result<()>
     requires { Valid week file.now at n × (second + 6 ≤ length file.now) }
 {
     if code < 6 {
-        answer_walk(week, file, at, n, code, t);
-        return;
+        return answer_walk(rt, week, file, at, n, code, t);
     }
     if code < 9 {
-        answer_count(week, file, at, n, code, t);
-        return;
+        return answer_count(rt, week, file, at, n, code, t);
     }
-    answer_move(week, file, at, n, code, t, second);
+    answer_move(rt, week, file, at, n, code, t, second)
 }
 
-fn name_walk(code: u64) {
+fn name_walk(rt: &impl Print, code: u64) -> io::Result<()> {
     if code == 1 {
-        write(b"next_start ");
-        return;
+        return write(rt, b"next_start ");
     }
     if code == 2 {
-        write(b"previous_finish ");
-        return;
+        return write(rt, b"previous_finish ");
     }
     if code == 3 {
-        write(b"next_finish ");
-        return;
+        return write(rt, b"next_finish ");
     }
     if code == 4 {
-        write(b"previous_start ");
-        return;
+        return write(rt, b"previous_start ");
     }
-    write(b"start_by ");
+    write(rt, b"start_by ")
 }
 
-fn name_rest(code: u64) {
+fn name_rest(rt: &impl Print, code: u64) -> io::Result<()> {
     if code == 6 {
-        write(b"working_at ");
-        return;
+        return write(rt, b"working_at ");
     }
     if code == 7 {
-        write(b"worked_before ");
-        return;
+        return write(rt, b"worked_before ");
     }
     if code == 8 {
-        write(b"day_work ");
-        return;
+        return write(rt, b"day_work ");
     }
     if code == 9 {
-        write(b"advance ");
-        return;
+        return write(rt, b"advance ");
     }
     if code == 10 {
-        write(b"retreat ");
-        return;
+        return write(rt, b"retreat ");
     }
     if code == 11 {
-        write(b"shift ");
-        return;
+        return write(rt, b"shift ");
     }
-    write(b"between ");
+    write(rt, b"between ")
 }
 
-fn print_name(code: u64) {
+fn print_name(rt: &impl Print, code: u64) -> io::Result<()> {
     if code < 6 {
-        name_walk(code);
-        return;
+        return name_walk(rt, code);
     }
-    name_rest(code);
+    name_rest(rt, code)
 }
 
 // The second argument, where the function has one.
-fn print_second(file: &[u8], code: u64, second: usize)
+fn print_second(rt: &impl Print, file: &[u8], code: u64, second: usize) -> io::Result<()>
     requires { second + 6 ≤ length file.now }
 {
     if code < 9 {
-        return;
+        return Ok(());
     }
-    write(b" ");
+    write(rt, b" ")?;
     if code < 11 {
-        io::print_decimal(STDOUT_FILENO, number::read_u32(file, second));
-        return;
+        return rt.print(number::read_u32(file, second));
     }
     if code == 11 {
-        print_signed(lag_at(file, second));
-        return;
+        return print_signed(rt, lag_at(file, second));
     }
-    print_time(time_at(file, second));
+    print_time(rt, time_at(file, second))
 }
 
 // The line of the case that stands at `case`.
-fn print_case(week: [[Period; 8]; 7], file: &[u8], at: usize, n: usize, case: usize)
+fn print_case(
+    rt: &impl Print,
+    week: [[Period; 8]; 7],
+    file: &[u8],
+    at: usize,
+    n: usize,
+    case: usize,
+) -> io::Result<()>
     requires { Valid week file.now at n × (case + 13 ≤ length file.now) }
 {
     let code = number::byte(file, case);
     let t = time_at(file, case + 1);
-    print_name(code);
-    print_time(t);
-    print_second(file, code, case + 7);
-    write(b": ");
-    answer(week, file, at, n, code, t, case + 7);
-    write(b"\n");
+    print_name(rt, code)?;
+    print_time(rt, t)?;
+    print_second(rt, file, code, case + 7)?;
+    write(rt, b": ")?;
+    answer(rt, week, file, at, n, code, t, case + 7)?;
+    write(rt, b"\n")
 }
 
 // The lines of the `count` cases from `from` on.
-fn print_cases(week: [[Period; 8]; 7], file: &[u8], at: usize, n: usize, from: usize, count: usize)
+fn print_cases(
+    rt: &impl Print,
+    week: [[Period; 8]; 7],
+    file: &[u8],
+    at: usize,
+    n: usize,
+    from: usize,
+    count: usize,
+) -> io::Result<()>
     requires { Valid week file.now at n × (from + 13 * count ≤ length file.now) }
 {
-    let mut i: usize = 0;
-    while i < count {
-        print_case(week, file, at, n, from + 13 * i);
-        i += 1;
+    for i in 0..count {
+        print_case(rt, week, file, at, n, from + 13 * i)?;
     }
+    Ok(())
+}
+
+// Where the cases of a calendar end, and whether their lines were written.
+#[derive(Drop)]
+struct Ran {
+    end: usize,
+    printed: io::Result<()>,
 }
 
 // The cases that follow a calendar, from their mark on, and where they end.
-fn run_cases(week: [[Period; 8]; 7], file: &[u8], at: usize, n: usize, from: usize) -> usize
+fn run_cases(
+    rt: &impl Print,
+    week: [[Period; 8]; 7],
+    file: &[u8],
+    at: usize,
+    n: usize,
+    from: usize,
+) -> Ran
     requires { Valid week file.now at n × (from ≤ length file.now) }
-    ensures { (min (from + 1) (length file.now) ≤ result) × (result ≤ length file.now) }
+    ensures { (min (from + 1) (length file.now) ≤ result.end) × (result.end ≤ length file.now) }
 {
     if file.len() - from < 3 {
-        return file.len();
+        return Ran {
+            end: file.len(),
+            printed: Ok(()),
+        };
     }
     let count = number::read_u16(file, from + 1) as usize;
     if (file.len() - from - 3) / 13 < count {
-        return file.len();
+        return Ran {
+            end: file.len(),
+            printed: Ok(()),
+        };
     }
-    print_cases(week, file, at, n, from + 3, count);
-    from + 3 + 13 * count
+    Ran {
+        end: from + 3 + 13 * count,
+        printed: print_cases(rt, week, file, at, n, from + 3, count),
+    }
 }
 
-fn print_calendar(week: [[Period; 8]; 7], w: usize, e: usize) {
-    write(b"calendar of ");
-    io::print_decimal(STDOUT_FILENO, w as u64);
-    write(b" W and ");
-    io::print_decimal(STDOUT_FILENO, e as u64);
-    write(b" E, weekly hours: ");
-    print_test(calendar::has_hours(week));
-    write(b"\n");
+fn print_calendar(rt: &impl Print, week: [[Period; 8]; 7], w: usize, e: usize) -> io::Result<()> {
+    print!(rt; "calendar of {w} W and {e} E, weekly hours: ")?;
+    print_test(rt, calendar::has_hours(week))?;
+    write(rt, b"\n")
 }
 
 // The cases of a calendar of `w` W records from `at` on and `e` E records from `from` on; after a mark of 1 they are cases round the clock.
-fn run_week(file: &[u8], at: usize, w: usize, from: usize, e: usize) -> usize
+fn run_week(rt: &impl Print, file: &[u8], at: usize, w: usize, from: usize, e: usize) -> Ran
     requires { (at ≤ from) × (at ≤ length file.now) × (from ≤ length file.now) × (weeks_from file.now at ≡ Count w) × (exceptions_from file.now from ≡ Count e) }
-    ensures { (min (at + 1) (length file.now) ≤ result) × (result ≤ length file.now) }
+    ensures { (min (at + 1) (length file.now) ≤ result.end) × (result.end ≤ length file.now) }
 {
     let end = from + 9 * e;
     if sheet::runs::kind_at(file, end) == 1 {
-        write(b"round the clock\n");
-        return run_cases(calendar::round_the_clock(), file, end, 0, end);
+        let head = write(rt, b"round the clock\n");
+        let ran = run_cases(rt, calendar::round_the_clock(), file, end, 0, end);
+        return Ran {
+            end: ran.end,
+            printed: head.and(ran.printed),
+        };
     }
     let week = calendar::read_week(file, at, w);
-    print_calendar(week, w, e);
-    run_cases(week, file, from, e, end)
+    let head = print_calendar(rt, week, w, e);
+    let ran = run_cases(rt, week, file, from, e, end);
+    Ran {
+        end: ran.end,
+        printed: head.and(ran.printed),
+    }
 }
 
 // The cases of a calendar whose `w` W records stand from `at` on.
-fn run_weeks(file: &[u8], at: usize, w: usize) -> usize
+fn run_weeks(rt: &impl Print, file: &[u8], at: usize, w: usize) -> Ran
     requires { (at ≤ length file.now) × (weeks_from file.now at ≡ Count w) }
-    ensures { (min (at + 1) (length file.now) ≤ result) × (result ≤ length file.now) }
+    ensures { (min (at + 1) (length file.now) ≤ result.end) × (result.end ≤ length file.now) }
 {
     let from = at + 6 * w;
     let exceptions = sheet::runs::read_exceptions(file, from);
     match exceptions {
-        Run::Refused(r) => {
-            print_refused(r);
-            return file.len();
-        }
-        Run::Count(e) => {
-            return run_week(file, at, w, from, e);
-        }
+        Run::Refused(r) => Ran {
+            end: file.len(),
+            printed: print_refused(rt, r),
+        },
+        Run::Count(e) => run_week(rt, file, at, w, from, e),
     }
 }
 
 // The cases of the calendar whose records begin at `at`, and where they end.
-fn run_calendar(file: &[u8], at: usize) -> usize
+fn run_calendar(rt: &impl Print, file: &[u8], at: usize) -> Ran
     requires { at ≤ length file.now }
-    ensures { (min (at + 1) (length file.now) ≤ result) × (result ≤ length file.now) }
+    ensures { (min (at + 1) (length file.now) ≤ result.end) × (result.end ≤ length file.now) }
 {
     let weeks = sheet::runs::read_weeks(file, at);
     match weeks {
-        Run::Refused(r) => {
-            print_refused(r);
-            return file.len();
-        }
-        Run::Count(w) => {
-            return run_weeks(file, at, w);
-        }
+        Run::Refused(r) => Ran {
+            end: file.len(),
+            printed: print_refused(rt, r),
+        },
+        Run::Count(w) => run_weeks(rt, file, at, w),
     }
 }
 
-fn run_file(file: &[u8]) {
+fn run_file(rt: &impl Print, file: &[u8]) -> io::Result<()> {
     let mut at: usize = 0;
     while at < file.len() {
-        at = run_calendar(file, at);
+        let ran = run_calendar(rt, file, at);
+        ran.printed?;
+        at = ran.end;
     }
+    Ok(())
 }
 
-fn main() {
-    let fd = os::open_read(b"cases");
-    if fd < 0 {
-        os::fail(b"cases");
-        return;
-    }
+fn main(rt: HostRuntime) -> io::Result<()> {
+    let mut source = match fs::open(&rt, "cases") {
+        Ok(source) => source,
+        Err(e) => return eprintln!(rt; "cases: {e}"),
+    };
     let mut file = [0u8; 16384];
-    let n = io::read_full(fd, &mut file);
-    run_file(&file[..n]);
+    let n = input::read_full(&mut source, &mut file)?;
+    run_file(&rt, &file[..n])
 }

@@ -1,51 +1,45 @@
 // Schedules the recorded sheets of the file `sheets` and writes each answer as `plan` does, with the names that the call leaves. The file and what is
 // expected, the Rust's answers, come from tools/replay_cases.py.
+#![tactic(auto)]
+
 ghost use Rattle.std.specs.Prelude.{◌+◌, ◌≤◌, ◌<◌, length};
 
-use libc::STDOUT_FILENO;
 use sched::Answer;
+use std::io::Read;
+use std::{fs, io};
 
-fn write(text: &[u8]) {
-    io::write_all(STDOUT_FILENO, text);
+fn write(rt: &impl Print, text: &[u8]) -> io::Result<()> {
+    rt.write_all(text)
 }
 
 // A signed number; the least one, which has no opposite, shows as the next.
-fn print_signed(z: i64) {
-    let back = number::sign::downward(number::sign::max(z, -9223372036854775807));
-    if back != 0 {
-        write(b"-");
-        io::print_decimal(STDOUT_FILENO, back);
-        return;
-    }
-    io::print_decimal(STDOUT_FILENO, number::sign::upward(z));
+fn print_signed(rt: &impl Print, z: i64) -> io::Result<()> {
+    rt.print(number::sign::max(z, -9223372036854775807))
 }
 
 // The `n` numbers from `at` on, on a line.
-fn print_row(results: &[i64], at: usize, n: usize)
+fn print_row(rt: &impl Print, results: &[i64], at: usize, n: usize) -> io::Result<()>
     requires { (0 < n) × (at + n ≤ length results.now) }
 {
-    print_signed(results[at]);
-    let mut k: usize = 1;
-    while k < n {
-        write(b" ");
-        print_signed(results[at + k]);
-        k += 1;
+    print_signed(rt, results[at])?;
+    for k in 1..n {
+        write(rt, b" ")?;
+        print_signed(rt, results[at + k])?;
     }
-    write(b"\n");
+    write(rt, b"\n")
 }
 
 // A line an activity, as far as the results reach.
-fn print_rows(results: &[i64], a: u64) {
-    let mut i: u64 = 0;
+fn print_rows(rt: &impl Print, results: &[i64], a: u64) -> io::Result<()> {
     let mut at: usize = 0;
-    while i < a {
+    for _ in 0..a {
         if results.len() - at < 15 {
-            return;
+            break;
         }
-        print_row(results, at, 15);
+        print_row(rt, results, at, 15)?;
         at += 15;
-        i += 1;
     }
+    Ok(())
 }
 
 fn wide(x: u32) -> u64 {
@@ -67,122 +61,110 @@ fn first_zero(names: &[u32]) -> usize
 }
 
 // The first `n` names on a line, where there are any.
-fn print_names(names: &[u32], n: usize)
+fn print_names(rt: &impl Print, names: &[u32], n: usize) -> io::Result<()>
     requires { n ≤ length names.now }
 {
     if n == 0 {
-        return;
+        return Ok(());
     }
-    write(b"names");
-    let mut i: usize = 0;
-    while i < n {
-        write(b" ");
-        io::print_decimal(STDOUT_FILENO, wide(names[i]));
-        i += 1;
+    write(rt, b"names")?;
+    for name in &names[..n] {
+        print!(rt; " {}", wide(*name))?;
     }
-    write(b"\n");
+    write(rt, b"\n")
 }
 
 // A refusal: its number and its id, and the loop that is named.
-fn print_refused(number: u64, id: u64, names: &[u32]) {
-    write(b"refused ");
-    io::print_decimal(STDOUT_FILENO, number);
-    write(b" ");
-    io::print_decimal(STDOUT_FILENO, id);
-    write(b"\n");
-    print_names(names, first_zero(names));
+fn print_refused(rt: &impl Print, number: u64, id: u64, names: &[u32]) -> io::Result<()> {
+    println!(rt; "refused {number} {id}")?;
+    print_names(rt, names, first_zero(names))
 }
 
 // The first line of a plan.
-fn print_totals(day: i64, a: u64, ignored: u64, open: u64) {
-    write(b"plan ");
-    print_signed(day);
-    write(b" ");
-    io::print_decimal(STDOUT_FILENO, a);
-    write(b" ");
-    io::print_decimal(STDOUT_FILENO, ignored);
-    write(b" ");
-    io::print_decimal(STDOUT_FILENO, open);
-    write(b"\n");
+fn print_totals(rt: &impl Print, day: i64, a: u64, ignored: u64, open: u64) -> io::Result<()> {
+    write(rt, b"plan ")?;
+    print_signed(rt, day)?;
+    println!(rt; " {a} {ignored} {open}")
 }
 
 // Where the ignored links stand.
-fn print_ignored(names: &[u32], ignored: u64) {
+fn print_ignored(rt: &impl Print, names: &[u32], ignored: u64) -> io::Result<()> {
     if ignored <= names.len() as u64 {
-        print_names(names, ignored as usize);
+        print_names(rt, names, ignored as usize)?;
     }
+    Ok(())
 }
 
-fn print_answer(answer: Answer, results: &[i64], names: &[u32]) {
+fn print_answer(rt: &impl Print, answer: Answer, results: &[i64], names: &[u32]) -> io::Result<()> {
     match answer {
-        Answer::Refused(number, id) => {
-            print_refused(number, id, names);
-        }
+        Answer::Refused(number, id) => print_refused(rt, number, id, names),
         Answer::Accepted(day, a, ignored, open) => {
-            print_totals(day, a, ignored, open);
-            print_rows(results, a);
-            print_ignored(names, ignored);
+            print_totals(rt, day, a, ignored, open)?;
+            print_rows(rt, results, a)?;
+            print_ignored(rt, names, ignored)
         }
     }
 }
 
 // Memory for 64 activities and 128 links is lent.
-fn plan(sheet: &[u8]) {
+fn plan(rt: &impl Print, sheet: &[u8]) -> io::Result<()> {
     let mut results = [0i64; 960];
     let mut names = [0u32; 128];
     let mut work = [0i64; 6144];
     let answer = sched::schedule(sheet, &mut results, &mut names, &mut work);
-    print_answer(answer, &results, &names);
+    print_answer(rt, answer, &results, &names)
 }
 
 // Reads a sheet as long as the slice and writes its answer; answers whether it was there.
-fn replay_sheet(fd: i32, sheet: &mut [u8]) -> bool {
-    let n = io::read_full(fd, sheet);
+fn replay_sheet(rt: &impl Print, file: &mut impl Read, sheet: &mut [u8]) -> io::Result<bool> {
+    let n = input::read_full(file, sheet)?;
     if n < sheet.len() {
-        return false;
+        return Ok(false);
     }
-    plan(sheet);
-    true
+    plan(rt, sheet)?;
+    Ok(true)
 }
 
 // The same, for a sheet of `n` bytes.
-fn replay_sized(fd: i32, sheet: &mut [u8], n: usize) -> bool
+fn replay_sized(
+    rt: &impl Print,
+    file: &mut impl Read,
+    sheet: &mut [u8],
+    n: usize,
+) -> io::Result<bool>
     requires { n ≤ length sheet.old }
 {
-    replay_sheet(fd, &mut sheet[..n])
+    replay_sheet(rt, file, &mut sheet[..n])
 }
 
 // Reads the next sheet, its length first, and writes its answer; answers whether there was one.
-fn replay_next(fd: i32) -> bool {
+fn replay_next(rt: &impl Print, file: &mut impl Read) -> io::Result<bool> {
     let mut head = [0u8; 4];
-    if io::read_full(fd, &mut head) < 4 {
-        return false;
+    if input::read_full(file, &mut head)? < 4 {
+        return Ok(false);
     }
     let size = number::read_u32(&head, 0);
     if size > 16384 {
-        return false;
+        return Ok(false);
     }
     let mut sheet = [0u8; 16384];
-    replay_sized(fd, &mut sheet, size as usize)
+    replay_sized(rt, file, &mut sheet, size as usize)
 }
 
 // The answers of all sheets, 65,536 at most.
-fn replay_all(fd: i32) {
-    let mut i: usize = 0;
-    while i < 65536 {
-        if replay_next(fd) {
-            i += 1;
-        } else {
-            return;
+fn replay_all(rt: &impl Print, file: &mut impl Read) -> io::Result<()> {
+    for _ in 0..65536 {
+        if !replay_next(rt, file)? {
+            break;
         }
     }
+    Ok(())
 }
 
-fn main() {
-    let fd = os::open_read(b"sheets");
-    if fd < 0 {
-        os::fail(b"sheets");
-        return;
-    }
-    replay_all(fd);
+fn main(rt: HostRuntime) -> io::Result<()> {
+    let mut file = match fs::open(&rt, "sheets") {
+        Ok(file) => file,
+        Err(e) => return eprintln!(rt; "sheets: {e}"),
+    };
+    replay_all(&rt, &mut file)
 }

@@ -1,7 +1,9 @@
 // Reads the sheets of the file `sheets` and writes a line for each: what it holds, or the number of its refusal.
+#![tactic(auto)]
+
 ghost use Rattle.std.specs.Prelude.{◌+◌, ◌≤◌, length};
 
-use libc::STDOUT_FILENO;
+use std::{fs, io};
 
 // Where the next sheet of the file begins, and how long this one is.
 #[derive(Clone, Copy)]
@@ -72,56 +74,54 @@ fn build(file: &[u8], from: usize, parts: usize, sheet: &mut [u8]) -> Built
     }
 }
 
-fn print(n: usize) {
-    io::write_all(STDOUT_FILENO, b" ");
-    io::print_decimal(STDOUT_FILENO, n as u64);
+fn print(rt: &impl Print, n: usize) -> io::Result<()> {
+    print!(rt; " {n}")
 }
 
 // The line of a sheet.
-fn answer(index: u64, sheet: &[u8]) {
-    io::print_decimal(STDOUT_FILENO, index);
+fn answer(rt: &impl Print, index: u64, sheet: &[u8]) -> io::Result<()> {
+    print!(rt; "{index}")?;
     let read = sheet::read(sheet);
     match read {
         sheet::Sheet::Read(c) => {
-            io::write_all(STDOUT_FILENO, b" read");
-            print(c.calendars);
-            print(c.at);
-            print(c.activities);
-            print(c.links);
+            print!(rt; " read")?;
+            print(rt, c.calendars)?;
+            print(rt, c.at)?;
+            print(rt, c.activities)?;
+            print(rt, c.links)?;
         }
         sheet::Sheet::Refused(r) => {
-            io::write_all(STDOUT_FILENO, b" refused ");
-            io::print_decimal(STDOUT_FILENO, r);
+            print!(rt; " refused {r}")?;
         }
     }
-    io::write_all(STDOUT_FILENO, b"\n");
+    println!(rt)
 }
 
 // The lines of all sheets of the file, each put together in `sheet`.
-fn answer_all(file: &[u8], sheet: &mut [u8]) {
+fn answer_all(rt: &impl Print, file: &[u8], sheet: &mut [u8]) -> io::Result<()> {
     let mut at: usize = 0;
     let mut index: u64 = 0;
     while at < file.len() {
         if file.len() - at < 2 {
-            return;
+            break;
         }
         let parts = number::read_u16(file, at) as usize;
         let built = build(file, at + 2, parts, sheet);
         let size = built.size;
-        answer(index, &sheet[..size]);
+        answer(rt, index, &sheet[..size])?;
         at = built.next;
         index += 1;
     }
+    Ok(())
 }
 
-fn main() {
-    let fd = os::open_read(b"sheets");
-    if fd < 0 {
-        os::fail(b"sheets");
-        return;
-    }
+fn main(rt: HostRuntime) -> io::Result<()> {
+    let mut source = match fs::open(&rt, "sheets") {
+        Ok(source) => source,
+        Err(e) => return eprintln!(rt; "sheets: {e}"),
+    };
     let mut file = [0u8; 131072];
-    let n = io::read_full(fd, &mut file);
+    let n = input::read_full(&mut source, &mut file)?;
     let mut sheet = [0u8; 524288];
-    answer_all(&file[..n], &mut sheet);
+    answer_all(&rt, &file[..n], &mut sheet)
 }

@@ -1,0 +1,7 @@
+-- `check_cases::answer` is safe and ends: what `sheet::read` has read is known.
+use Rattle.std.proofs.Common.{sym}
+use Rattle.sheet.specs.ReadLaws.{read_known}
+use Rattle.check_cases.proofs.answer.Goals as goal
+
+pub check_read-requires : goal.check_read-requires
+check_read-requires g c = read_known c.args.sheet.now c.in-Read.contents (sym c.in-Read.ensures)

@@ -1,0 +1,9 @@
+-- `clock_cases::run_file` is safe and ends: each calendar takes a byte at least.
+use Rattle.std.proofs.Common.{◌-◌, ◌≤◌, length}
+use Rattle.clock_cases.proofs.run_file.Given as goal
+
+abbrev pub invariant-loop-at : goal.invariant-loop-at
+invariant-loop-at g l = l.at ≤ length l.file
+
+abbrev pub decreases-loop-at : goal.decreases-loop-at
+decreases-loop-at g l = length l.file - l.at
