@@ -26,8 +26,8 @@ use Rattle.results.specs.Results.{results}
 use Rattle.results.specs.Rows.{rows_below}
 use Rattle.timetable.specs.Rules.{Obeys}
 use Rattle.timetable.specs.Fit.{Fit}
-use Rattle.timetable.specs.Demand.{run_obeys, run_first}
-use Rattle.timetable.specs.SheetPlan.{sheet_momentary, sheet_activities}
+use Rattle.timetable.proofs.Demand.{run_obeys, run_first}
+use Rattle.timetable.proofs.SheetPlan.{sheet_momentary, sheet_activities}
 use Rattle.sched.specs.declared.Answer.{Answer}
 use Rattle.sched.specs.declared.Answer.TheVariants.{Accepted}
 use Rattle.checks.specs.Names.{then_zeros}

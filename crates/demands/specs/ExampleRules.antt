@@ -10,8 +10,8 @@ use Rattle.passes.specs.Dates.{Early, Late, Pass, leaves, refused}
 use Rattle.passes.specs.Run.{Ran}
 use Rattle.timetable.specs.Rules.{Obeys}
 use Rattle.timetable.specs.Fit.{Fit, Marks}
-use Rattle.timetable.specs.Earliest.{Momentary}
-use Rattle.timetable.specs.Demand.{run_obeys, earlier_disobeys}
+use Rattle.timetable.proofs.Earliest.{Momentary}
+use Rattle.timetable.proofs.Demand.{run_obeys, earlier_disobeys}
 use Rattle.demands.specs.Example.{workday, example_week, task, tasks, example}
 use Rattle.worktime.specs.Walks.{reads, least, next_start, greatest, previous_finish, next_finish, working_at, previous_start, start_by, forward, advance, backward, retreat, shift, spanned, work_from, between, day_work, worked_before}
 use Rattle.worktime.specs.Worked.{count, closing}

@@ -3,7 +3,6 @@ pub mod Results
 pub mod Rows
 pub mod View
 pub mod Showing
-pub mod ShowingLaws
 pub mod ViewLaws
 pub mod Row
 pub mod RowLaws

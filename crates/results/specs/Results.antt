@@ -1,6 +1,5 @@
 -- The results: each activity's days, floats and flags from what the passes leave, and summaries rolled up from their children.
-use Rattle.std.specs.Prelude.{Bool, true, false, ◌&&◌, ◌||◌, not, List, [], ◌∷◌, ◌++◌, ℕ, zero, suc, ◌+◌, ◌-◌, ◌/◌, max, min, eqb, ℤ, pos, negsuc}
-use Rattle.number.specs.Bit.{bit}
+use Rattle.std.specs.Prelude.{Bool, true, false, ◌&&◌, ◌||◌, not, List, [], ◌∷◌, ◌++◌, ℕ, zero, suc, ◌-◌, ◌/◌, max, min, eqb, ℤ, pos}
 use Rattle.worktime.specs.Walks.{reads, between}
 use Rattle.project.specs.declared.ActivityKind.{ActivityKind}
 use Rattle.project.specs.declared.ActivityKind.TheVariants.{Task, StartMilestone, FinishMilestone}
@@ -8,10 +7,10 @@ use Rattle.placing.specs.declared.Actual.{Actual}
 use Rattle.placing.specs.declared.Actual.TheVariants.{Unstarted, Begun, Completed}
 use Rattle.network.specs.ParentLinks.{depth}
 use Rattle.order.specs.Plan.{Plan}
-use Rattle.order.specs.Ids.{id_of, parent_of, summary}
+use Rattle.order.specs.Ids.{parent_of, summary}
 use Rattle.passes.specs.Plan.{own, kind_of, origin, recorded, begun}
-use Rattle.passes.specs.Dates.{Early, Late, Pass, leaves, refused, after, put, through}
-use Rattle.passes.specs.Floats.{measured, float_by, in_days, critical_by, is_completed}
+use Rattle.passes.specs.Dates.{Pass, leaves, refused, after, put, through}
+use Rattle.passes.specs.Floats.{measured, float_by, critical_by, is_completed}
 use Rattle.passes.specs.Run.{Ran}
 use Rattle.results.specs.declared.Shown.{Shown}
 

@@ -1,5 +1,5 @@
 -- What the results are lent, and what is shown of an activity by its row of the memory.
-use Rattle.std.specs.Prelude.{◌≡◌, List, ℕ, ◌<◌, ℤ}
+use Rattle.std.specs.Prelude.{List, ℕ, ◌<◌, ℤ}
 use Rattle.memory.specs.State.{State, Room, state_of}
 use Rattle.sheet.specs.declared.Contents.{Contents}
 use Rattle.sheet.specs.Known.{SheetRead}

@@ -1,5 +1,5 @@
 -- The rows of results: 01's fifteen fields of each activity, in its order.
-use Rattle.std.specs.Prelude.{Bool, true, false, List, [], ◌∷◌, ◌++◌, ℕ, zero, suc, ◌^◌, ℤ, pos, ◌-ℤ◌}
+use Rattle.std.specs.Prelude.{true, false, List, [], ◌∷◌, ◌++◌, ℕ, zero, suc, ◌^◌, ℤ, pos, ◌-ℤ◌}
 use Rattle.number.specs.Bit.{bit}
 use Rattle.date.specs.Days.{signed_minute}
 use Rattle.order.specs.Plan.{Plan}

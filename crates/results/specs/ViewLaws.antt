@@ -1,7 +1,7 @@
 -- What is read off a row after puts, and what the definitions have of the rows.
-use Rattle.std.specs.Prelude.{◌≡◌, refl, Bool, true, ◌≢◌, ℕ, ◌+◌, ◌≤◌, ◌<◌, eqb, ltb}
-use Rattle.std.proofs.Common.{sym, ap, ◌∙◌, ⊎_elim, arith, eq-eqb, ne_eqb, lt-ltb, le-ltb}
-use Rattle.number.specs.Order.{eq_or_ne, lt_or_le}
+use Rattle.std.specs.Prelude.{◌≡◌, refl, Bool, true, ◌≢◌, ℕ, ◌+◌, ◌≤◌, ◌<◌, ltb}
+use Rattle.std.proofs.Common.{sym, ◌∙◌, ⊎_elim, arith, eq-eqb, ne_eqb, lt-ltb, le-ltb}
+use Rattle.number.specs.Order.{lt_or_le}
 use Rattle.number.specs.BitLaws.{mark_flag}
 use Rattle.worktime.specs.Reads.{on_true, on_false}
 use Rattle.memory.specs.State.{State}
@@ -10,13 +10,12 @@ use Rattle.topology.specs.Frame.{outside, Frame}
 use Rattle.topology.specs.FrameLaws.{outside_below}
 use Rattle.order.specs.Plan.{Plan}
 use Rattle.passes.specs.Dates.{put}
-use Rattle.passes.specs.Run.{Ran}
 use Rattle.passes.specs.Plan.{origin}
 use Rattle.dates.specs.ColumnLaws.{put_is, column_at, flags_at, flags_same}
 use Rattle.dates.specs.KeptLaws.{early_kept, late_kept, free_kept}
 use Rattle.results.specs.declared.Shown.{Shown}
 use Rattle.results.specs.Results.{nothing}
-use Rattle.results.specs.View.{ran_in, times_of, times_in, shown_at, shown_to, shown_in, put_shown}
+use Rattle.results.specs.View.{ran_in, times_of, times_in, shown_at, shown_to, put_shown}
 
 -- the row itself and the others
 module _ (S : State) (i : ℕ) (x : Shown) where

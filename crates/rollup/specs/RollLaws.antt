@@ -24,7 +24,7 @@ use Rattle.passes.specs.Run.{Ran}
 use Rattle.results.specs.declared.Shown.{Shown}
 use Rattle.results.specs.Results.{least_of, greatest_of, some_of, children_below, summaries_at, rolled_from, rolled}
 use Rattle.results.specs.View.{shown_to}
-use Rattle.results.specs.ShowingLaws.{critical_in_lem}
+use Rattle.results.proofs.ShowingLaws.{critical_in_lem}
 use Rattle.rollup.specs.Rolling.{deep_of}
 use Rattle.rollup.specs.Roll.{joined, join_all, child_sum, summed, chosen}
 

@@ -1,6 +1,6 @@
 -- `results::all_in_years` meets its contract.
 use mathlib.Core.Path.{sym, ◌∙◌}
-use Rattle.results.specs.ShowingLaws.{in_four, out_four, out_three, out_two}
+use Rattle.results.proofs.ShowingLaws.{in_four, out_four, out_three, out_two}
 use Rattle.results.proofs.all_in_years.Goals as goal
 
 pub returns-then-in_years-3 : goal.returns-then-in_years-3

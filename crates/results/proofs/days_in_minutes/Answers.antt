@@ -4,7 +4,7 @@ use Prim.Native.Nat.{◌<◌, ◌^◌}
 use native.Mathlib.Omega.{arith}
 use mir.Facts.{to_z-of_z, to_z_pos}
 use mir.Syntax.{w64}
-use Rattle.results.specs.ShowingLaws.{widened_fits, widened_back, minutes_fit}
+use Rattle.results.proofs.ShowingLaws.{widened_fits, widened_back, minutes_fit}
 use Rattle.results.proofs.days_in_minutes.Goals as goal
 
 low : (c : goal.Start) → c.args.day_length < 2 ^ 63

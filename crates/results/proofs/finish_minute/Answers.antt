@@ -1,7 +1,7 @@
 -- `results::finish_minute` meets its contract, by the three kinds.
 use mathlib.Core.Path.{◌∙◌}
 use native.Mathlib.Omega.{arith}
-use Rattle.results.specs.ShowingLaws.{finish_none, finish_some, finish_start, finish_finish}
+use Rattle.results.proofs.ShowingLaws.{finish_none, finish_some, finish_start, finish_finish}
 use Rattle.results.proofs.finish_minute.Goals as goal
 
 pub returns-then-left-eq0 : goal.returns-then-left-eq0

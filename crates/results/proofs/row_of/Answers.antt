@@ -7,7 +7,7 @@ use Rattle.project.specs.declared.Activity.{Activity}
 use Rattle.order.specs.Plan.{plan_of}
 use Rattle.calendars.specs.CalendarLaws.{calendar_valid, calendar_worked}
 use Rattle.memory.specs.State.{state_of}
-use Rattle.results.specs.RowLaws.{row_is}
+use Rattle.results.proofs.RowLaws.{row_is}
 use Rattle.results.proofs.row_of.Goals as goal
 
 pub activity_of-activity-requires : goal.activity_of-activity-requires

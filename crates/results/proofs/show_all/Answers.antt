@@ -7,7 +7,7 @@ use Rattle.memory.specs.State.{State, state_of}
 use Rattle.topology.specs.FrameLaws.{frame_then}
 use Rattle.order.specs.Plan.{plan_of}
 use Rattle.results.specs.View.{shown_to}
-use Rattle.results.specs.RowLaws.{to_show_kept, shows_start, shows_turn, shows_stop, shows_end}
+use Rattle.results.proofs.RowLaws.{to_show_kept, shows_start, shows_turn, shows_stop, shows_end}
 use Rattle.results.proofs.show_all.Goals as goal
 
 pub read_project-project-requires : goal.read_project-project-requires

@@ -4,7 +4,7 @@ use Prim.Native.Nat.{◌-◌, ◌≤◌}
 use lib.ListN.{length}
 use Rattle.memory.specs.State.{state_of}
 use Rattle.order.specs.Plan.{plan_of}
-use Rattle.results.specs.RowLaws.{Shows}
+use Rattle.results.proofs.RowLaws.{Shows}
 use Rattle.results.proofs.show_all.Given as goal
 
 abbrev pub invariant-loop-i : goal.invariant-loop-i

@@ -6,7 +6,8 @@ use Rattle.topology.specs.FrameLaws.{frame_refl}
 use Rattle.passes.specs.Dates.{Pass}
 use Rattle.results.specs.declared.Shown.{Shown}
 use Rattle.results.specs.View.{shown_to}
-use Rattle.results.specs.RowLaws.{shown_next, next_done, next_refused, shown_frame}
+use Rattle.results.specs.RowLaws.{shown_next}
+use Rattle.results.proofs.RowLaws.{next_done, next_refused, shown_frame}
 use Rattle.results.proofs.show_one.Goals as goal
 
 pub row_of-row-requires : goal.row_of-row-requires

@@ -4,7 +4,7 @@ use mathlib.Core.Path.{sym, ◌∙◌}
 use mir.Facts.{to_z-of_z}
 use mir.Syntax.{w64}
 use mir.Val.{SFits}
-use Rattle.results.specs.ShowingLaws.{shown_refused, shown_out, shown_in_lem, days_low}
+use Rattle.results.proofs.ShowingLaws.{shown_refused, shown_out, shown_in_lem, days_low}
 use Rattle.results.proofs.shown_of.Goals as goal
 
 pub returns-then-all_in_years : goal.returns-then-all_in_years

@@ -6,7 +6,7 @@ use mir.Syntax.{w64}
 use mir.Val.{SFits}
 use Rattle.worktime.specs.declared.Work.TheVariants.{Minutes}
 use Rattle.results.specs.Results.{total_by}
-use Rattle.results.specs.ShowingLaws.{total_both, total_finish, total_start}
+use Rattle.results.proofs.ShowingLaws.{total_both, total_finish, total_start}
 use Rattle.results.proofs.total_of.Goals as goal
 
 pub returns-in-Minutes-between : goal.returns-in-Minutes-between

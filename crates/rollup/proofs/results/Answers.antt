@@ -6,7 +6,7 @@ use Rattle.memory.specs.State.{State, state_of}
 use Rattle.topology.specs.FrameLaws.{frame_then, frame_wider}
 use Rattle.order.specs.Plan.{plan_of}
 use Rattle.results.specs.View.{ran_in, shown_in}
-use Rattle.results.specs.RowLaws.{to_show, to_show_kept}
+use Rattle.results.proofs.RowLaws.{to_show, to_show_kept}
 use Rattle.rollup.specs.PreparedLaws.{to_roll, to_roll_kept, results_stop, results_on}
 use Rattle.rollup.proofs.results.Goals as goal
 

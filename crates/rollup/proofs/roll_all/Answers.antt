@@ -10,7 +10,7 @@ use Rattle.order.specs.Plan.{plan_of}
 use Rattle.passes.specs.Dates.{through}
 use Rattle.results.specs.Results.{rolled, summaries_at}
 use Rattle.results.specs.View.{shown_in}
-use Rattle.results.specs.RowLaws.{to_show_kept}
+use Rattle.results.proofs.RowLaws.{to_show_kept}
 use Rattle.rollup.specs.RollingLaws.{deep_kept, Rising, rising_turn, rising_stop, rising_end}
 use Rattle.rollup.proofs.roll_all.Goals as goal
 

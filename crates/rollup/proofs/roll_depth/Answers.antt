@@ -12,7 +12,7 @@ use Rattle.order.specs.Plan.{plan_of}
 use Rattle.passes.specs.Dates.{through}
 use Rattle.results.specs.Results.{rolled}
 use Rattle.results.specs.View.{shown_in}
-use Rattle.results.specs.RowLaws.{to_show_kept}
+use Rattle.results.proofs.RowLaws.{to_show_kept}
 use Rattle.rollup.specs.RollingLaws.{deep_kept, rolls_start, rolls_turn, rolls_stop, rolls_end, depth_is}
 use Rattle.rollup.proofs.roll_depth.Goals as goal
 

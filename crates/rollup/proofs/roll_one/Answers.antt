@@ -8,7 +8,7 @@ use Rattle.topology.specs.Frame.{Frame}
 use Rattle.topology.specs.FrameLaws.{frame_refl}
 use Rattle.order.specs.Plan.{plan_of}
 use Rattle.results.specs.View.{shown_in}
-use Rattle.results.specs.RowLaws.{shown_frame}
+use Rattle.results.proofs.RowLaws.{shown_frame}
 use Rattle.rollup.specs.RollingLaws.{one_none, one_done, one_refused}
 use Rattle.rollup.proofs.roll_one.Goals as goal
 

@@ -10,7 +10,7 @@ use Rattle.order.specs.Plan.{plan_of}
 use Rattle.passes.specs.Dates.{through}
 use Rattle.results.specs.declared.Shown.{Shown}
 use Rattle.results.specs.Results.{rolled, deepest_first}
-use Rattle.results.specs.RowLaws.{to_show_kept}
+use Rattle.results.proofs.RowLaws.{to_show_kept}
 use Rattle.rollup.specs.PreparedLaws.{deep_from, shown_kept, keys_in}
 use Rattle.rollup.proofs.roll_up.Goals as goal
 

@@ -5,7 +5,7 @@ use Rattle.calendar.specs.declared.Period.{Period}
 use Rattle.calendar.specs.Records.{Valid, weekly_hours, round_the_clock}
 use Rattle.clock.specs.On.{worked_on}
 use Rattle.clock.specs.Weeks.{weeks_next_start, weeks_previous_finish, weeks_advance, weeks_lead, clock_next_start, clock_previous_finish, clock_advance, clock_retreat}
-use Rattle.timetable.specs.AnswerLaws.{Answering}
+use Rattle.timetable.proofs.AnswerLaws.{Answering}
 
 pub weeks_answering : {week : List (List Period)} {s : List ℕ} {at n : ℕ} → Valid week s at n → length week ≡ 7 → weekly_hours week ≡ true → n ≤ 256
     → Answering (worked_on week s at n)

@@ -19,9 +19,9 @@ use Rattle.passes.specs.Forward.{source_of}
 use Rattle.timetable.specs.Rules.{MayStart, FinishBound, Bounds, CompletedAt, Held, UnlessCompleted}
 use Rattle.timetable.specs.Fit.{Marks}
 use Rattle.timetable.specs.WalkLaws.{shift_mono}
-use Rattle.timetable.specs.BoundLaws.{Starts, HeldBy, HeldAt, MeetsAll, raised_bound, held_bound}
-use Rattle.timetable.specs.StepLaws.{FreshStep}
-use Rattle.timetable.specs.PassLaws.{kept, into_each, each_into}
+use Rattle.timetable.proofs.BoundLaws.{Starts, HeldBy, HeldAt, MeetsAll, raised_bound, held_bound}
+use Rattle.timetable.proofs.StepLaws.{FreshStep}
+use Rattle.timetable.proofs.PassLaws.{kept, into_each, each_into}
 
 -- ---- an earlier bound is a lesser one
 module _ (w : ℕ → Bool) where

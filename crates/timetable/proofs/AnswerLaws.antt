@@ -25,7 +25,7 @@ use Rattle.passes.specs.Plan.{evening, own, lag_own, tie, kind_of, origin, later
 use Rattle.passes.specs.Forward.{source_of}
 use Rattle.timetable.specs.Rules.{IsShift, Bounds, CompletedAt, Placed, Held, Obeyed}
 use Rattle.timetable.specs.WalkLaws.{shift_unique}
-use Rattle.timetable.specs.PassLaws.{kept}
+use Rattle.timetable.proofs.PassLaws.{kept}
 
 -- the first minute of the first day that a sheet can name: "−135,140 to 376,199"
 abbrev pub first_named : ℕ

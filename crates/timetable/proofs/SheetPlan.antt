@@ -18,10 +18,10 @@ use Rattle.order.specs.Plan.{plan_of, week_of_calendar, exception_place, excepti
 use Rattle.order.specs.Checks.{checked}
 use Rattle.order.proofs.FineLaws.{plan_fine_lem}
 use Rattle.order.proofs.LoopLaws.{fine_passes}
-use Rattle.timetable.specs.Earliest.{Momentary}
-use Rattle.timetable.specs.Demand.{milestones_momentary}
-use Rattle.timetable.specs.AnswerLaws.{Answering}
-use Rattle.timetable.specs.CalendarAnswers.{weeks_answering, clock_answering}
+use Rattle.timetable.proofs.Earliest.{Momentary}
+use Rattle.timetable.proofs.Demand.{milestones_momentary}
+use Rattle.timetable.proofs.AnswerLaws.{Answering}
+use Rattle.timetable.proofs.CalendarAnswers.{weeks_answering, clock_answering}
 
 module _ (s : List ℕ) (bytes : (i : ℕ) → byte_at s i < 256) (c : Contents) (read : SheetRead s c) where
   pub sheet_activities : (i : ℕ) → i < (plan_of s c).activities → ActivityInRange ((plan_of s c).activity i)

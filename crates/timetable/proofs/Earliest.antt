@@ -23,9 +23,9 @@ use Rattle.passes.specs.Forward.{early, forward}
 use Rattle.passes.specs.Run.{remaining, early₀, forward_pass}
 use Rattle.timetable.specs.Rules.{CompletedAt, Placed, Held, UnlessCompleted, Obeyed, Obeys}
 use Rattle.timetable.specs.Fit.{Fit}
-use Rattle.timetable.specs.StepLaws.{put_here, completed_any, completed_unique, completed_unless, Sort, fresh, done, fresh_step, recorded_actual, step_sort}
-use Rattle.timetable.specs.PassLaws.{Trace, through_trace, kept, tie_ends, tie_linked, tie_ends_kept, left_of_lem, left_full, Same, same_between}
-use Rattle.timetable.specs.LeastLaws.{Least, Fixed, LinksHold, earlier_held, held_of, of_held, fresh_rule, rule_fresh, fresh_unless, unless_fresh, step_least}
+use Rattle.timetable.proofs.StepLaws.{put_here, completed_any, completed_unique, completed_unless, Sort, fresh, done, fresh_step, recorded_actual, step_sort}
+use Rattle.timetable.proofs.PassLaws.{Trace, through_trace, kept, tie_ends, tie_linked, tie_ends_kept, left_of_lem, left_full, Same, same_between}
+use Rattle.timetable.proofs.LeastLaws.{Least, Fixed, LinksHold, earlier_held, held_of, of_held, fresh_rule, rule_fresh, fresh_unless, unless_fresh, step_least}
 
 -- a finish milestone has no minutes, as the sheet's fields say
 abbrev pub Momentary : Plan → Type 0

@@ -24,8 +24,8 @@ use Rattle.passes.specs.Run.{Ran, remaining, forward_pass, backward_pass, free_p
 use Rattle.passes.specs.Backward.{finish}
 use Rattle.timetable.specs.Rules.{Obeyed, Obeys}
 use Rattle.timetable.specs.Fit.{Mild, Unexpected, FitBy, Marks, Fit}
-use Rattle.timetable.specs.Earliest.{Momentary, early_obeyed, early_least, early_obeys, early_first}
-use Rattle.timetable.specs.HeldLaws.{free_pass_keeps}
+use Rattle.timetable.proofs.Earliest.{Momentary, early_obeyed, early_least, early_obeys, early_first}
+use Rattle.timetable.proofs.HeldLaws.{free_pass_keeps}
 
 -- ---- which plans
 -- "minutes i32 (0 for a milestone, else 3)"

@@ -33,8 +33,8 @@ use Rattle.passes.specs.Floats.{measured, is_late, target_of, gap, slack_by, not
 use Rattle.passes.specs.Run.{free_pass}
 use Rattle.timetable.specs.Fit.{Mild, FitBy, Marks, Fit}
 use Rattle.timetable.specs.WalkLaws.{via_leaves}
-use Rattle.timetable.specs.StepLaws.{recorded_actual}
-use Rattle.timetable.specs.PassLaws.{Trace, through_trace}
+use Rattle.timetable.proofs.StepLaws.{recorded_actual}
+use Rattle.timetable.proofs.PassLaws.{Trace, through_trace}
 
 mild_late : (c : Constraint) → Mild c → is_late c ≡ false
 mild_late Unconstrained m = refl

@@ -21,8 +21,8 @@ use Rattle.passes.specs.Plan.{tie, ties_into, recorded, full}
 use Rattle.passes.specs.Dates.{Early, Pass, leaves, refused, after, put, through}
 use Rattle.passes.specs.Forward.{left_by, left_of, left_below, forward}
 use Rattle.timetable.specs.WalkLaws.{via_leaves}
-use Rattle.timetable.specs.BoundLaws.{Each}
-use Rattle.timetable.specs.StepLaws.{put_here, put_there, step_changes}
+use Rattle.timetable.proofs.BoundLaws.{Each}
+use Rattle.timetable.proofs.StepLaws.{put_here, put_there, step_changes}
 
 -- ---- a pass that is not refused, step by step
 module _ {A : Type 0} (step : A → ℕ → Pass A) where
