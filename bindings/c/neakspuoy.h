@@ -1,4 +1,4 @@
-/* The scheduling call. Link target/staticlib/libsched.a, which `rt staticlib sched` writes. */
+/* The scheduling call. Link target/staticlib/libsched.a, which `tools/library.sh` writes. */
 #ifndef NEAKSPUOY_H
 #define NEAKSPUOY_H
 

@@ -1,4 +1,4 @@
-//! Links the static library that `rt staticlib sched` writes, or the one that NEAKSPUOY_LIB names.
+//! Links the static library that `tools/library.sh` writes, or the one that NEAKSPUOY_LIB names.
 
 use std::path::PathBuf;
 
