@@ -1,6 +1,5 @@
 -- 01's example at the level of the plan: what the definitions of the passes give it, by evaluation.
-use Rattle.std.specs.Prelude.{◌≡◌, refl, Bool, true, false, List, [], ◌∷◌, ℕ, zero, suc, ◌+◌, ◌*◌, ◌%◌, ℤ, pos, negsuc, replicate, get_or}
-use Rattle.date.specs.declared.Date.{Date}
+use Rattle.std.specs.Prelude.{◌≡◌, refl, List, [], ◌∷◌, ℕ, zero, suc, ◌+◌, ◌%◌, pos, negsuc, replicate, get_or}
 use Rattle.calendar.specs.declared.Period.{Period}
 use Rattle.calendar.specs.Hours.{none}
 use Rattle.project.specs.declared.ActivityKind.TheVariants.{Task}
@@ -14,10 +13,9 @@ use Rattle.project.specs.declared.FloatKind.TheVariants.{Finish}
 use Rattle.project.specs.declared.ProgressMode.TheVariants.{RetainedLogic}
 use Rattle.project.specs.declared.CriticalBy.TheVariants.{TotalFloat}
 use Rattle.project.specs.declared.Activity.{Activity}
-use Rattle.project.specs.declared.Relationship.{Relationship}
 use Rattle.order.specs.Plan.{Plan}
 use Rattle.sched.specs.declared.Answer.TheVariants.{Accepted}
-use Rattle.sched.specs.Outcome.{Lent, Ended}
+use Rattle.sched.specs.Outcome.{Lent}
 use Rattle.worktime.specs.Walks.{reads, least, next_start, greatest, previous_finish, next_finish, working_at, previous_start, start_by, forward, advance, backward, retreat, shift, spanned, work_from, between, day_work, worked_before}
 use Rattle.worktime.specs.Worked.{count, closing}
 use Rattle.date.specs.Years.{in_years}

@@ -1,15 +1,13 @@
 -- 01's example and the timetable rules: its early starts obey them, and a timetable with a start a minute earlier does not.
-use Rattle.std.specs.Prelude.{◌≡◌, refl, Bool, true, false, ℕ, zero, suc, ◌<◌, ℤ, pos, negsuc}
+use Rattle.std.specs.Prelude.{◌≡◌, refl, false, ℕ, zero, suc, ℤ, pos}
 use Rattle.std.proofs.Common.{arith}
-use Rattle.std.specs.Int.Signed.{lt_z}
 use Rattle.date.specs.Days.{signed_minute}
 use Rattle.cells.specs.Chain.{keyed}
-use Rattle.project.specs.declared.ActivityKind.{ActivityKind}
 use Rattle.project.specs.declared.ActivityKind.TheVariants.{Task, FinishMilestone}
-use Rattle.passes.specs.Dates.{Early, Late, Pass, leaves, refused}
+use Rattle.passes.specs.Dates.{Early, Pass, leaves, refused}
 use Rattle.passes.specs.Run.{Ran}
 use Rattle.timetable.specs.Rules.{Obeys}
-use Rattle.timetable.specs.Fit.{Fit, Marks}
+use Rattle.timetable.specs.Fit.{Fit}
 use Rattle.timetable.proofs.Earliest.{Momentary}
 use Rattle.timetable.proofs.Demand.{run_obeys, earlier_disobeys}
 use Rattle.demands.specs.Example.{workday, example_week, task, tasks, example}

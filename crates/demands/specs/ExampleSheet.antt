@@ -1,7 +1,7 @@
 -- 01's example sheet, byte by byte: what `outcome` gives it is what 01 prints, by evaluation.
-use Rattle.std.specs.Prelude.{◌≡◌, refl, List, [], ◌∷◌, ℕ, ℤ, pos, negsuc, replicate}
+use Rattle.std.specs.Prelude.{◌≡◌, refl, List, [], ◌∷◌, ℕ, pos, negsuc, replicate}
 use Rattle.sched.specs.declared.Answer.TheVariants.{Accepted}
-use Rattle.sched.specs.Outcome.{Lent, Ended}
+use Rattle.sched.specs.Outcome.{Lent}
 use Rattle.sheet.specs.Reading.{run, weeks_from, exceptions_from, activities_from, links_from, calendars_from, read_sheet}
 use Rattle.judges.specs.Judging.{judged, judge_calendar, period_ok, week_after, judge_week, no_work, exception_after, judge_exception, judge_activity, judge_link}
 use Rattle.sheet.specs.Places.{week_count, exceptions_at, exception_count, next_calendar, place_at, calendar_at, week_at, calendar_end}

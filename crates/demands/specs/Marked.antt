@@ -1,9 +1,8 @@
 -- 01's thirteen marked instances: one table, proved by one evaluation of the definitions. "that week": it begins on Monday, day 19723.
-use Rattle.std.specs.Prelude.{◌≡◌, refl, List, [], ◌∷◌, map, ℕ, zero, suc, ◌+◌, ◌*◌, ℤ, pos, negsuc, length, get_or, replicate}
+use Rattle.std.specs.Prelude.{◌≡◌, refl, List, [], ◌∷◌, map, ℕ, zero, suc, ℤ, pos, negsuc}
 use Rattle.number.specs.Sign.{clamp_z, percent_of, whole_days}
-use Rattle.number.specs.Zed.{up}
 use Rattle.date.specs.Years.{in_years}
-use Rattle.calendar.specs.Hours.{none, held, worked, works}
+use Rattle.calendar.specs.Hours.{held, worked, works}
 use Rattle.calendar.specs.Records.{hours_on, exceptions_on, weekly_hours}
 use Rattle.clock.specs.Instances.{day, week, w, at}
 use Rattle.worktime.specs.declared.Walk.{Walk}

@@ -1,10 +1,8 @@
 -- Every refusal of a walk, of a pass and of the results is row 8: "A walk that reads a day outside years −9999 to 9999 is 8", "one more is 8".
-use Rattle.std.specs.Prelude.{◌≡◌, Bool, ◌&&◌, List, [], ◌∷◌, reverse, eqb, ltb, leb, ℤ, pos, negsuc, neg_ℤ}
+use Rattle.std.specs.Prelude.{◌≡◌, Bool, ◌&&◌, eqb, leb, ℤ, pos, negsuc}
 use Rattle.std.proofs.Math.Path.{refl}
 use Rattle.std.proofs.Math.Bool.{true, false}
-use Prim.Native.Nat.{ℕ, zero, suc, ◌+◌, ◌-◌, ◌/◌, max, min}
-use Rattle.number.specs.Zed.{up, dn}
-use Rattle.number.specs.Sign.{min_z}
+use Prim.Native.Nat.{ℕ, zero, suc, ◌+◌, ◌-◌, ◌/◌}
 use Rattle.date.specs.Years.{in_years}
 use Rattle.worktime.specs.declared.Walk.{Walk}
 use Rattle.worktime.specs.declared.Walk.TheVariants.{At, Refused}
@@ -14,21 +12,15 @@ use Rattle.worktime.specs.Walks.{reads, least, next_start, greatest, previous_fi
 use Rattle.worktime.specs.Worked.{closing}
 use Rattle.project.specs.declared.ActivityKind.{ActivityKind}
 use Rattle.project.specs.declared.ActivityKind.TheVariants.{Task, StartMilestone, FinishMilestone}
-use Rattle.project.specs.declared.Constraint.{Constraint}
-use Rattle.project.specs.declared.Constraint.TheVariants.{Unconstrained, StartOnOrAfter, StartOnOrBefore, FinishOnOrAfter, FinishOnOrBefore, StartOn, FinishOn, MandatoryStart, MandatoryFinish, AsLateAsPossible}
 use Rattle.project.specs.declared.OptionalDate.{OptionalDate}
 use Rattle.project.specs.declared.OptionalDate.TheVariants.{On, Absent}
-use Rattle.project.specs.declared.Remaining.{Remaining}
-use Rattle.project.specs.declared.RelationshipType.{RelationshipType}
-use Rattle.project.specs.declared.RelationshipType.TheVariants.{FinishToStart, StartToStart, FinishToFinish, StartToFinish}
 use Rattle.project.specs.declared.End.{End}
 use Rattle.project.specs.declared.End.TheVariants.{Start, Finish, Neither}
-use Rattle.project.specs.Status.{on_start, bounds_start}
 use Rattle.placing.specs.declared.Actual.{Actual}
 use Rattle.placing.specs.declared.Actual.TheVariants.{Unstarted, Begun, Completed}
 use Rattle.placing.specs.declared.Moment.{Moment}
 use Rattle.placing.specs.declared.Moment.TheVariants.{Nowhere}
-use Rattle.placing.specs.Placing.{midnight_of, via, bounded, is_moment, found, moment_of, completed, place_start, finish_of, start_for_finish, place_finish, latest_same, start_of, finish_for_start, finish_for_start_by, day_start, constraint_time, actual}
+use Rattle.placing.specs.Placing.{midnight_of, via, bounded, is_moment, moment_of, completed, place_start, start_for_finish, place_finish, finish_for_start, finish_for_start_by, day_start, constraint_time, actual}
 
 -- ---- what is refused, is refused with 8
 abbrev pub WalkEight : Walk → Type 0

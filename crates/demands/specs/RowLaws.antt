@@ -1,9 +1,9 @@
 -- Where the fields of an activity stand among the results.
-use Rattle.std.specs.Prelude.{◌≡◌, Bool, true, false, List, [], ◌∷◌, ◌++◌, ℤ, pos, get_or}
+use Rattle.std.specs.Prelude.{◌≡◌, false, List, ◌++◌, ℤ, pos, get_or}
 use Rattle.std.proofs.Math.Path.{refl}
-use Rattle.std.proofs.Common.{sym, ap, ◌∙◌, get_or-append-add}
+use Rattle.std.proofs.Common.{◌∙◌, get_or-append-add}
 use Rattle.std.proofs.Math.Logic.{⊎_elim}
-use Prim.Native.Nat.{ℕ, zero, suc, ◌+◌, ◌-◌, ◌*◌, ◌≤◌, ◌<◌}
+use Prim.Native.Nat.{ℕ, zero, suc, ◌+◌, ◌*◌, ◌≤◌, ◌<◌}
 use native.Mathlib.Omega.{arith}
 use Rattle.std.proofs.Math.ListN.{length, length-append, get_or-append}
 use Rattle.number.specs.Order.{lt_or_le}

@@ -10,8 +10,7 @@ use Rattle.worktime.specs.declared.Walk.{Walk}
 use Rattle.worktime.specs.declared.Walk.TheVariants.{At, Refused}
 use Rattle.worktime.specs.declared.Work.{Work}
 use Rattle.worktime.specs.declared.Work.TheVariants.{Minutes}
-use Rattle.worktime.specs.Walks.{reads, next_start, previous_finish, advance, retreat, shift, between}
-use Rattle.project.specs.declared.ActivityKind.{ActivityKind}
+use Rattle.worktime.specs.Walks.{next_start, previous_finish, advance, retreat, shift, between}
 use Rattle.project.specs.declared.Constraint.{Constraint}
 use Rattle.project.specs.declared.Constraint.TheVariants.{Unconstrained, StartOnOrAfter, StartOnOrBefore, FinishOnOrAfter, FinishOnOrBefore, StartOn, FinishOn, MandatoryStart, MandatoryFinish, AsLateAsPossible}
 use Rattle.project.specs.declared.OptionalDate.{OptionalDate}
@@ -37,7 +36,7 @@ use Rattle.passes.specs.Backward as bwd
 use Rattle.passes.specs.Floats as flo
 use Rattle.passes.specs.Run.{Ran, remaining, early₀, forward_pass, backward_pass, free_pass, path_pass, run}
 use Rattle.results.specs.declared.Shown.{Shown}
-use Rattle.results.specs.Results.{shown_day, start_minute, finish_minute, total_of, shown, shown_below, deepest_first, children_below, least_of, greatest_of, some_of, rolled_from, rolled, results}
+use Rattle.results.specs.Results.{shown_day, start_minute, finish_minute, total_of, shown, shown_below, deepest_first, children_below, rolled_from, rolled, results}
 use Rattle.demands.specs.Refusals.{WalkEight, WorkEight, ActualEight, MomentEight, either, follows, then_walk, read_day, next_start_eight, previous_finish_eight, advance_eight, retreat_eight, shift_eight, between_eight, place_start_eight, start_for_finish_eight, place_finish_eight, finish_for_start_eight, finish_for_start_by_eight, constraint_eight, actual_eight_lem, bounded_eight}
 
 -- the refusal's number, and 8 where there is none

@@ -1,5 +1,5 @@
 -- The C form of the call: the answer as five numbers in a lent slice.
-use Rattle.std.specs.Prelude.{◌≡◌, true, false, List, [], ◌∷◌, ◌++◌, ℕ, min, ltb, ℤ, pos, length, drop}
+use Rattle.std.specs.Prelude.{true, false, List, [], ◌∷◌, ◌++◌, ℕ, min, ltb, ℤ, pos, length, drop}
 use Rattle.sched.specs.declared.Answer.{Answer}
 use Rattle.sched.specs.declared.Answer.TheVariants.{Accepted}
 use Rattle.sched.specs.Outcome.{Lent, Ended, outcome}

@@ -2,4 +2,3 @@
 pub mod Outcome
 pub mod CallLaws
 pub mod InC
-pub mod InCLaws

@@ -1,12 +1,12 @@
 -- The outcome of the scheduling call: its answer, and every lent slice afterwards.
-use Rattle.std.specs.Prelude.{Bool, true, false, ◌&&◌, List, [], ◌∷◌, ◌++◌, ℕ, ◌+◌, ◌*◌, max, eqb, leb, ℤ, pos, length, drop, replicate}
+use Rattle.std.specs.Prelude.{Bool, true, false, ◌&&◌, List, [], ◌++◌, ℕ, ◌+◌, ◌*◌, max, eqb, leb, ℤ, pos, length, drop, replicate}
 use Rattle.sheet.specs.declared.Contents.{Contents}
 use Rattle.sheet.specs.declared.Sheet.{Sheet}
 use Rattle.sheet.specs.declared.Sheet.TheVariants.{Read}
 use Rattle.sheet.specs.Reading.{read_sheet}
 use Rattle.order.specs.Plan.{Plan, plan_of}
 use Rattle.order.specs.Ties.{ignored_links, open_ends}
-use Rattle.order.specs.Checks.{Verdict, checked}
+use Rattle.order.specs.Checks.{checked}
 use Rattle.checks.specs.Names.{then_zeros}
 use Rattle.passes.specs.Dates.{Pass, leaves, refused}
 use Rattle.passes.specs.Run.{Ran, run}

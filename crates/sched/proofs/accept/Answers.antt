@@ -1,5 +1,4 @@
 -- `sched::accept` meets its contract.
-use borrow.Author.Rules.{rules}
 use mathlib.Core.Path.{ap}
 use lib.IntN.{ℤ}
 use mir.Facts.{to_z-of_z}
@@ -8,7 +7,7 @@ use Rattle.memory.specs.State.{state_of}
 use Rattle.order.specs.Plan.{plan_of}
 use Rattle.results.specs.View.{ran_in}
 use Rattle.sched.specs.declared.Answer.TheVariants.{Accepted}
-use Rattle.sched.specs.CallLaws.{accepted_as}
+use Rattle.sched.proofs.CallLaws.{accepted_as}
 use Rattle.sched.proofs.accept.Goals as goal
 
 pub returns : goal.returns

@@ -1,9 +1,6 @@
 -- `sched::has_room` meets its contract.
-use borrow.Author.Rules.{rules}
 use native.Mathlib.Omega.{arith}
-use Rattle.sched.specs.CallLaws.{room_results, room_names, room_work, room_all}
-use Rattle.sched.proofs.has_room.Reads as reads
-use Rattle.sched.proofs.has_room.Lts as lts
+use Rattle.sched.proofs.CallLaws.{room_results, room_names, room_work, room_all}
 use Rattle.sched.proofs.has_room.Goals as goal
 
 pub returns-then-results-a : goal.returns-then-results-a

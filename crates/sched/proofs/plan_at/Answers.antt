@@ -1,9 +1,8 @@
 -- `sched::plan_at` meets its contract.
-use borrow.Author.Rules.{rules}
 use mathlib.Core.Path.{refl, subst}
 use Rattle.order.specs.Plan.{plan_of}
 use Rattle.checks.specs.Stages.{PlanChecked}
-use Rattle.sched.specs.CallLaws.{planned_checked, names_kept}
+use Rattle.sched.proofs.CallLaws.{planned_checked, names_kept}
 use Rattle.sched.proofs.plan_at.Goals as goal
 
 pub returns-in-Refused : goal.returns-in-Refused

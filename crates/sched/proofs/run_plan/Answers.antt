@@ -1,12 +1,11 @@
 -- `sched::run_plan` meets its contract.
-use borrow.Author.Rules.{rules}
 use mathlib.Core.Path.{subst, ◌∙◌}
 use native.Mathlib.Omega.{arith}
 use Rattle.memory.specs.State.{state_of}
 use Rattle.order.specs.Plan.{plan_of}
 use Rattle.run.specs.Stages.{RunIn}
 use Rattle.dates.specs.KeptLaws.{ready_kept}
-use Rattle.sched.specs.CallLaws.{run_refuses}
+use Rattle.sched.proofs.CallLaws.{run_refuses}
 use Rattle.sched.proofs.run_plan.Goals as goal
 
 pub returns-in-Refused : goal.returns-in-Refused

@@ -1,10 +1,9 @@
 -- `sched::schedule` meets its contract.
-use borrow.Author.Rules.{rules}
 use mathlib.Core.Path.{sym, ◌∙◌}
 use lib.ListN.{length}
 use Rattle.sheet.specs.ReadLaws.{read_known}
 use Rattle.sched.specs.Outcome.{Lent}
-use Rattle.sched.specs.CallLaws.{room_has, room_for_lem, unread_is, short_is, planned_is}
+use Rattle.sched.proofs.CallLaws.{room_has, room_for_lem, unread_is, short_is, planned_is}
 use Rattle.sched.proofs.schedule.Goals as goal
 
 pub returns-in-Refused : goal.returns-in-Refused

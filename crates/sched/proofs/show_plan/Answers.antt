@@ -1,5 +1,4 @@
 -- `sched::show_plan` meets its contract.
-use borrow.Author.Rules.{rules}
 use mathlib.Core.Path.{refl, sym, ap, subst, ◌∙◌}
 use native.Mathlib.Omega.{arith}
 use Rattle.memory.specs.State.{state_of}
@@ -10,7 +9,8 @@ use Rattle.results.specs.View.{ran_in, shown_in}
 use Rattle.results.specs.ViewLaws.{ran_kept}
 use Rattle.rows.specs.WritingLaws.{to_write}
 use Rattle.dates.specs.KeptLaws.{ready_kept, recorded_kept}
-use Rattle.sched.specs.CallLaws.{AcceptedAs, show_refuses, show_accepts}
+use Rattle.sched.specs.CallLaws.{AcceptedAs}
+use Rattle.sched.proofs.CallLaws.{show_refuses, show_accepts}
 use Rattle.sched.proofs.show_plan.Goals as goal
 
 pub returns-in-Refused : goal.returns-in-Refused

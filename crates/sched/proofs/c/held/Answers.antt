@@ -1,11 +1,10 @@
 -- `sched::c::held` meets its contract.
-use borrow.Author.Rules.{rules}
 use mathlib.Core.Path.{◌∙◌}
 use Prim.Native.Nat.{◌<◌, ◌^◌}
 use native.Mathlib.Omega.{arith}
 use mir.Facts.{to_z_pos}
 use mir.Syntax.{w64}
-use Rattle.sched.specs.InCLaws.{held_low, held_high}
+use Rattle.sched.proofs.InCLaws.{held_low, held_high}
 use Rattle.sched.proofs.c.held.Goals as goal
 
 pub returns-then-n-gt9223372036854775807 : goal.returns-then-n-gt9223372036854775807

@@ -1,7 +1,6 @@
 -- `sched::c::neakspuoy_schedule` meets its contract.
-use borrow.Author.Rules.{rules}
 use native.Mathlib.Omega.{arith}
-use Rattle.sched.specs.InCLaws.{called_short, called_whole}
+use Rattle.sched.proofs.InCLaws.{called_short, called_whole}
 use Rattle.sched.proofs.c.neakspuoy_schedule.Goals as goal
 
 pub returns-then-answer-lt5 : goal.returns-then-answer-lt5

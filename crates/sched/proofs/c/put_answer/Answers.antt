@@ -1,9 +1,8 @@
 -- `sched::c::put_answer` meets its contract.
-use borrow.Author.Rules.{rules}
 use mathlib.Core.Path.{◌∙◌}
 use mir.Facts.{to_z-of_z}
 use mir.Syntax.{w64}
-use Rattle.sched.specs.InCLaws.{accepted_numbers, refused_numbers}
+use Rattle.sched.proofs.InCLaws.{accepted_numbers, refused_numbers}
 use Rattle.sched.proofs.c.put_answer.Goals as goal
 
 pub returns-in-Accepted : goal.returns-in-Accepted

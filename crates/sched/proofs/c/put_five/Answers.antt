@@ -1,7 +1,6 @@
 -- `sched::c::put_five` meets its contract.
-use borrow.Author.Rules.{rules}
 use mir.Facts.{to_z-of_z}
-use Rattle.sched.specs.InCLaws.{five_stores}
+use Rattle.sched.proofs.InCLaws.{five_stores}
 use Rattle.sched.proofs.c.put_five.Goals as goal
 
 pub returns : goal.returns

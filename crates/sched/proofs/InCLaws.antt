@@ -1,14 +1,14 @@
 -- The C form by the ways of its code.
-use Rattle.std.specs.Prelude.{◌≡◌, refl, List, [], ◌∷◌, ◌++◌, ℕ, zero, suc, min, ◌≤◌, ◌<◌, ltb, ℤ, pos, length, drop}
+use Rattle.std.specs.Prelude.{◌≡◌, refl, List, [], ◌∷◌, ◌++◌, ℕ, min, ◌≤◌, ◌<◌, ltb, ℤ, pos, length, drop}
 use Rattle.std.proofs.Math.Path.{sym, ap}
 use Rattle.std.proofs.Common.{◌∙◌, arith, lt-ltb, le-ltb}
 use Rattle.cells.specs.Cell.{store_z}
 use Rattle.worktime.specs.Reads.{on_true, on_false}
 use Rattle.sched.specs.declared.Answer.{Answer}
 use Rattle.sched.specs.declared.Answer.TheVariants.{Accepted}
-use Rattle.sched.specs.Outcome.{Lent, Ended, outcome}
+use Rattle.sched.specs.Outcome.{Lent, outcome}
 use Rattle.sched.specs.CallLaws.{ended_with}
-use Rattle.sched.specs.InC.{held_as, numbers_of, Called, called_with, called}
+use Rattle.sched.specs.InC.{held_as, numbers_of, called_with, called}
 
 pub held_low : (n : ℕ) → n ≤ 9223372036854775807 → pos n ≡ held_as n
 held_low n l = let e : n ≡ min n 9223372036854775807 = omega arith in ap pos e

@@ -1,0 +1,2 @@
+-- Demand 3 about the call's own answers.
+pub mod Demand

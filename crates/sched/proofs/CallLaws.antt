@@ -1,0 +1,216 @@
+-- The outcome by the ways of the code: what is left at each of its ends is what the definition says.
+use Rattle.std.specs.Prelude.{◌≡◌, Bool, true, false, ◌&&◌, List, [], ◌++◌, ◌≢◌, ℕ, ◌+◌, ◌-◌, ◌*◌, ◌≤◌, ◌<◌, max, eqb, leb, ℤ, pos, drop, replicate}
+use Rattle.std.proofs.Math.Path.{refl, sym, ap}
+use Rattle.std.proofs.Common.{◌∙◌, eq-eqb, ne_eqb, le-leb, leb-true, length-append}
+use native.Mathlib.Omega.{arith}
+use Rattle.std.proofs.lemmas.Bool.{lt-leb}
+use Rattle.std.proofs.Math.ListN.{length}
+use Rattle.std.proofs.lemmas.List.{length-replicate}
+use Rattle.worktime.specs.Reads.{on_true, on_false}
+use Rattle.sheet.specs.declared.Contents.{Contents}
+use Rattle.sheet.specs.declared.Sheet.{Sheet}
+use Rattle.sheet.specs.declared.Sheet.TheVariants.{Read}
+use Rattle.sheet.specs.Reading.{read_sheet}
+use Rattle.order.specs.Plan.{Plan, plan_of}
+use Rattle.order.specs.Ties.{ignored_links, open_ends}
+use Rattle.order.specs.TieLaws.{ignored_le}
+use Rattle.order.specs.Checks.{checked}
+use Rattle.passes.specs.Dates.{leaves, refused}
+use Rattle.passes.specs.Run.{Ran, run}
+use Rattle.results.specs.declared.Shown.{Shown}
+use Rattle.results.specs.Results.{results, finish_day}
+use Rattle.results.specs.Rows.{signed_day_of, rows_below}
+use Rattle.checks.specs.Names.{then_zeros}
+use Rattle.sched.specs.declared.Answer.{Answer}
+use Rattle.sched.specs.declared.Answer.TheVariants.{Accepted}
+use Rattle.sched.specs.Outcome.{Lent, refused_with, untouched, accepted, shown_with, ran_with, planned, room_for, read_with, outcome}
+use Rattle.sched.specs.CallLaws.{ended_with, zeros, LentAs, AcceptedAs}
+
+-- ---- room
+abbrev tag : Bool → ℕ
+tag true = 1
+tag false = 0
+
+clash : ◌≡◌ {A = Bool} false true → ⊥
+clash e = let z = ap tag e in omega (arith, z)
+
+both : (x y : Bool) → x ≡ true → y ≡ true → x && y ≡ true
+both true y e f = f
+both false y e f = e
+
+no_first : (x y : Bool) → x ≡ false → x && y ≡ false
+no_first true y e = absurd (clash (sym e))
+no_first false y e = refl
+
+no_second : (x y : Bool) → y ≡ false → x && y ≡ false
+no_second true y e = e
+no_second false y e = refl
+
+module _ (a l results names work : ℕ) where
+  abbrev enough : Bool
+  enough = leb (15 * a) results
+
+  abbrev named : Bool
+  named = leb (max (a + 1) l) names
+
+  abbrev fits : Bool
+  fits = leb (64 * a + 16 * l) work
+
+  abbrev pub room : Bool
+  room = leb (15 * a) results && leb (max (a + 1) l) names && leb (64 * a + 16 * l) work
+
+  pub room_results : results < 15 * a → false ≡ room
+  room_results h = sym (no_first (enough && named) fits (no_first enough named (lt-leb (15 * a) results h)))
+
+  pub room_names : names < max (a + 1) l → false ≡ room
+  room_names h = sym (no_first (enough && named) fits (no_second enough named (lt-leb (max (a + 1) l) names h)))
+
+  pub room_work : work < 64 * a + 16 * l → false ≡ room
+  room_work h = sym (no_second (enough && named) fits (lt-leb (64 * a + 16 * l) work h))
+
+  pub room_all : 15 * a ≤ results → max (a + 1) l ≤ names → 64 * a + 16 * l ≤ work → true ≡ room
+  room_all h k m =
+      sym (both (enough && named) fits (both enough named (le-leb (15 * a) results h) (le-leb (max (a + 1) l) names k)) (le-leb (64 * a + 16 * l) work m))
+
+  -- and back
+  pub room_has : room ≡ true → (15 * a ≤ results) × (max (a + 1) l ≤ names) × (64 * a + 16 * l ≤ work)
+  room_has e = (
+    leb-true (15 * a) results (first enough named (first (enough && named) fits e)),
+    leb-true (max (a + 1) l) names (second enough named (first (enough && named) fits e)),
+    leb-true (64 * a + 16 * l) work (second (enough && named) fits e),
+  )
+    where
+      first : (x y : Bool) → x && y ≡ true → x ≡ true
+      first true y e = refl
+      first false y e = e
+
+      second : (x y : Bool) → x && y ≡ true → y ≡ true
+      second true y e = e
+      second false y e = absurd (clash e)
+
+-- ---- names
+pub zeros_alone : (names : List ℕ) → then_zeros [] names ≡ replicate (length names) 0
+zeros_alone names = let e : length names - 0 ≡ length names = omega arith in rw e
+
+pub then_length : (xs names : List ℕ) → length xs ≤ length names → length (then_zeros xs names) ≡ length names
+then_length xs names h =
+    omega (arith, length-append xs (replicate (length names - length xs) 0), length-replicate {A = ℕ} (length names - length xs) 0)
+
+-- only the length of what was lent counts
+pub then_same : (xs names other : List ℕ) → length names ≡ length other → then_zeros xs names ≡ then_zeros xs other
+then_same xs names other e = rw e
+
+-- ---- the ways of a plan that was read and has room
+module _ (m : Lent) (p : Plan) where
+  pub refused_is : (number id : ℕ) (loop names : List ℕ) (work : List ℤ) → names ≡ then_zeros loop m.names → work ≡ zeros m.work
+      → ended_with (Answer.Refused number id) m.results names work ≡ refused_with m number id loop
+  unfolding refused_with
+  refused_is number id loop names work e f = rw (e, f)
+
+  -- rows 5 to 15
+  pub planned_checked : (number id : ℕ) (names : List ℕ) (work : List ℤ) → number ≡ (checked p).number → id ≡ (checked p).id → 0 < number
+      → names ≡ then_zeros (checked p).loop m.names → work ≡ zeros m.work → ended_with (Answer.Refused number id) m.results names work ≡ planned m p
+  unfolding planned
+  planned_checked number id names work d e l f g =
+      let n : (checked p).number ≢ 0 = λ z. omega arith in
+      ap (λ (k : ℕ). ended_with (Answer.Refused k id) m.results names work) d
+      ∙ ap (λ (k : ℕ). ended_with (Answer.Refused (checked p).number k) m.results names work) e
+      ∙ refused_is (checked p).number (checked p).id (checked p).loop names work f g
+      ∙ sym (on_false (eqb (checked p).number 0) _ _ (ne_eqb (checked p).number 0 n))
+
+  module _ (fine : (checked p).number ≡ 0) where
+    planned_run : planned m p ≡ ran_with m p (run p)
+    unfolding planned
+    planned_run = on_true (eqb (checked p).number 0) _ _ (eq-eqb (checked p).number 0 fine)
+
+    cleared : (k : ℕ) (names : List ℕ) (work : List ℤ) → names ≡ replicate (length m.names) 0 → work ≡ zeros m.work
+        → ended_with (Answer.Refused k 0) m.results names work ≡ refused_with m k 0 []
+    cleared k names work e f = refused_is k 0 [] names work (e ∙ sym (zeros_alone m.names)) f
+
+    -- a walk of the passes is refused
+    pub planned_passes : (k : ℕ) (names : List ℕ) (work : List ℤ) → run p ≡ refused k → names ≡ replicate (length m.names) 0 → work ≡ zeros m.work
+        → ended_with (Answer.Refused k 0) m.results names work ≡ planned m p
+    planned_passes k names work r e f = cleared k names work e f ∙ sym (ap (ran_with m p) r) ∙ sym planned_run
+
+    module _ (ran : Ran) (runs : run p ≡ leaves ran) where
+      -- a walk of the results is refused
+      pub planned_results : (k : ℕ) (names : List ℕ) (work : List ℤ) → results p ran ≡ refused k → names ≡ replicate (length m.names) 0 → work ≡ zeros m.work
+          → ended_with (Answer.Refused k 0) m.results names work ≡ planned m p
+      planned_results k names work r e f =
+          cleared k names work e f ∙ sym (ap (shown_with m p ran) r) ∙ sym (ap (ran_with m p) runs) ∙ sym planned_run
+
+      -- nothing is refused
+      pub planned_accepted : (f : ℕ → Shown) → results p ran ≡ leaves f → (day : ℤ) (a n o : ℕ) (rows : List ℤ) (names : List ℕ) (work : List ℤ)
+          → day ≡ signed_day_of (finish_day p ran f p.activities) → a ≡ p.activities → n ≡ length (ignored_links p) → o ≡ open_ends p
+          → rows ≡ rows_below p ran f p.activities ++ drop (15 * p.activities) m.results → names ≡ then_zeros (ignored_links p) m.names → work ≡ zeros m.work
+          → ended_with (Accepted day a n o) rows names work ≡ planned m p
+      unfolding accepted
+      planned_accepted f r day a n o rows names work e1 e2 e3 e4 e5 e6 e7 =
+          rw (e1, e2, e3, e4, e5, e6, e7) (sym (ap (shown_with m p ran) r)) ∙ sym (ap (ran_with m p) runs) ∙ sym planned_run
+
+-- ---- the ways of a sheet
+module _ (s : List ℕ) (m : Lent) where
+  pub unread_is : (number : ℕ) → read_sheet s ≡ Sheet.Refused number → ended_with (Answer.Refused number 0) m.results m.names m.work ≡ outcome s m
+  unfolding outcome
+  unread_is number e = sym (ap (read_with s m) e)
+
+  module _ (c : Contents) (read : read_sheet s ≡ Read c) where
+    pub short_is : room_for m c ≡ false → ended_with (Answer.Refused 1 0) m.results m.names m.work ≡ outcome s m
+    unfolding outcome
+    short_is e = sym (on_false (room_for m c) (planned m (plan_of s c)) (untouched m 1) e) ∙ sym (ap (read_with s m) read)
+
+    pub planned_is : room_for m c ≡ true → planned m (plan_of s c) ≡ outcome s m
+    unfolding outcome
+    planned_is e = sym (on_true (room_for m c) (planned m (plan_of s c)) (untouched m 1) e) ∙ sym (ap (read_with s m) read)
+
+-- ---- the ways after the checks: what was lent to the call is m
+module _ (m : Lent) (p : Plan) {results₀ : List ℤ} {names₀ : List ℕ} {work₀ : List ℤ} (L : LentAs m p results₀ names₀ work₀) (fine : (checked p).number ≡ 0) where
+  cleared_names : (names : List ℕ) → names ≡ replicate (length names₀) 0 → names ≡ replicate (length m.names) 0
+  cleared_names names e = e ∙ ap (λ (k : ℕ). replicate k 0) L.names_length
+
+  cleared_work : (work₁ work : List ℤ) → length work₁ ≡ length work₀ → work ≡ zeros work₁ → work ≡ zeros m.work
+  cleared_work work₁ work k e = e ∙ ap (λ (k : ℕ). replicate k (pos 0)) (k ∙ L.work_length)
+
+  answered_as : (r r' : Answer) (names : List ℕ) (work : List ℤ) → r ≡ r' → ended_with r results₀ names work ≡ ended_with r' m.results names work
+  answered_as r r' names work e = λ z. ended_with (e z) (L.results_is z) names work
+
+  -- a walk of the passes is refused; work₁ is what the passes leave
+  pub run_refuses : (r : Answer) (k : ℕ) (names : List ℕ) (work₁ work : List ℤ) → run p ≡ refused k → r ≡ Answer.Refused k 0 → names ≡ replicate (length names₀) 0
+      → length work₁ ≡ length work₀ → work ≡ zeros work₁ → ended_with r results₀ names work ≡ planned m p
+  run_refuses r k names work₁ work q e f g h =
+      answered_as r (Answer.Refused k 0) names work e ∙ planned_passes m p fine k names work q (cleared_names names f) (cleared_work work₁ work g h)
+
+  module _ (ran : Ran) (runs : run p ≡ leaves ran) where
+    -- a walk of the results is refused
+    pub show_refuses : (r : Answer) (k : ℕ) (names : List ℕ) (work₁ work : List ℤ) → results p ran ≡ refused k → r ≡ Answer.Refused k 0 → names ≡ replicate (length names₀) 0
+        → length work₁ ≡ length work₀ → work ≡ zeros work₁ → ended_with r results₀ names work ≡ planned m p
+    show_refuses r k names work₁ work q e f g h =
+        answered_as r (Answer.Refused k 0) names work e ∙ planned_results m p fine ran runs k names work q (cleared_names names f) (cleared_work work₁ work g h)
+
+    -- nothing is refused
+    pub show_accepts : (f : ℕ → Shown) → results p ran ≡ leaves f → (r : Answer) (day : ℤ) (a n o : ℕ) (rows : List ℤ) (work₁ work : List ℤ) → r ≡ Accepted day a n o
+        → day ≡ signed_day_of (finish_day p ran f p.activities) → a ≡ p.activities → n ≡ length (ignored_links p) → o ≡ open_ends p
+        → rows ≡ rows_below p ran f p.activities ++ drop (15 * p.activities) results₀ → length work₁ ≡ length work₀ → work ≡ zeros work₁
+        → ended_with r rows names₀ work ≡ planned m p
+    show_accepts f q r day a n o rows work₁ work e e1 e2 e3 e4 e5 g h =
+        (λ z. ended_with (e z) rows names₀ work)
+        ∙ planned_accepted m p fine ran runs f q day a n o rows names₀ work e1 e2 e3 e4
+        (e5 ∙ ap (λ (xs : List ℤ). rows_below p ran f p.activities ++ drop (15 * p.activities) xs) L.results_is) L.names_is (cleared_work work₁ work g h)
+
+-- ---- a plan of the sheet: its counts are the contents'
+module _ (s : List ℕ) (c : Contents) where
+  pub accepted_as : {ran : Ran} {f : ℕ → Shown} {n o : ℕ} {results rows : List ℤ} {r : Answer} (day : ℤ) → day ≡ signed_day_of (finish_day (plan_of s c) ran f c.activities)
+      → r ≡ Accepted day c.activities n o → rows ≡ rows_below (plan_of s c) ran f c.activities ++ drop (15 * c.activities) results
+      → AcceptedAs (plan_of s c) ran f n o results rows r
+  unfolding plan_of
+  accepted_as day e g h = record { day = day; day_is = e; is = g; rows_is = h }
+
+  -- the ignored links fit into the names
+  pub names_kept : (names after : List ℕ) → max (c.activities + 1) c.links ≤ length names → after ≡ then_zeros (ignored_links (plan_of s c)) names → length after ≡ length names
+  unfolding plan_of
+  names_kept names after l e =
+      ap length e ∙ then_length (ignored_links (plan_of s c)) names (omega (arith, ignored_le (plan_of s c) c.links))
+
+  pub room_for_lem : (m : Lent) → room c.activities c.links (length m.results) (length m.names) (length m.work) ≡ room_for m c
+  unfolding room_for
+  room_for_lem m = refl
