@@ -95,7 +95,7 @@ stands_not f h =
     let ne : (g : ℕ) → 2 ≤ g → g < 8 → f ≢ g = λ g a b e. h (omega arith) (omega arith) in
     simp (ne_eqb f 2 (ne 2 (omega arith) (omega arith)), ne_eqb f 3 (ne 3 (omega arith) (omega arith)), ne_eqb f 4 (ne 4 (omega arith) (omega arith)), ne_eqb f 5 (ne 5 (omega arith) (omega arith)), ne_eqb f 7 (ne 7 (omega arith) (omega arith)))
 
--- ---- the columns of activities: parent to first_out and orderAt stand
+-- ---- the columns of activities: parent to first_out and order_at stand
 module _ (a : ℕ) {xs ys zs ws : List ℤ} where
   pub activities_cleared : Cleared 0 (2 * a) xs ys → Cleared (6 * a) (7 * a) ys zs → Cleared (8 * a) (64 * a) zs ws → ColumnsCleared 0 a of_activity 0 64 xs ws
   activities_cleared C D E =

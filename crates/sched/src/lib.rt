@@ -145,7 +145,7 @@ fn plan_at(
     work: &mut [i64],
 ) -> Answer
     requires { SheetRead sheet.now contents × Places sheet.now contents places.now × Lengths (plan_of sheet.now contents) lengths.now × (15 * contents.activities ≤ length results.old) × (max (contents.activities + 1) contents.links ≤ length names.old) × Room contents.activities contents.links work.old }
-    ensures { ended_with result results.exit.now names.new work.new ≡ planned (record { results = results.entry.now; names = names.old; work = work.old }) (plan_of sheet.now contents) }
+    ensures { ended_with result results.new names.new work.new ≡ planned (record { results = results.old; names = names.old; work = work.old }) (plan_of sheet.now contents) }
 {
     match checks::check_plan(sheet, contents, places, lengths, names, work) {
         Checked::Refused(number, id) => {
@@ -168,7 +168,7 @@ fn plan_sheet(
     work: &mut [i64],
 ) -> Answer
     requires { SheetRead sheet.now contents × (15 * contents.activities ≤ length results.old) × (max (contents.activities + 1) contents.links ≤ length names.old) × Room contents.activities contents.links work.old }
-    ensures { ended_with result results.exit.now names.new work.new ≡ planned (record { results = results.entry.now; names = names.old; work = work.old }) (plan_of sheet.now contents) }
+    ensures { ended_with result results.new names.new work.new ≡ planned (record { results = results.old; names = names.old; work = work.old }) (plan_of sheet.now contents) }
 {
     let mut places = [0u64; 450];
     let mut lengths = [0u64; 16];
@@ -178,7 +178,7 @@ fn plan_sheet(
 
 // The scheduling call.
 pub fn schedule(sheet: &[u8], results: &mut [i64], names: &mut [u32], work: &mut [i64]) -> Answer
-    ensures { ended_with result results.exit.now names.new work.new ≡ outcome sheet.now (record { results = results.entry.now; names = names.old; work = work.old }) }
+    ensures { ended_with result results.new names.new work.new ≡ outcome sheet.now (record { results = results.old; names = names.old; work = work.old }) }
 {
     match sheet::read(sheet) {
         Sheet::Refused(number) => {

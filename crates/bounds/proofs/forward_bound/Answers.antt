@@ -13,12 +13,12 @@ returns-in-At c =
     let p = plan_of c.args.sheet.now c.args.contents in
     c.bounded.ensures ∙
     sym
-    (bound_at p (as_tie c.args.tie) _ _ _ _ (c.source_of-source.ensures p) (to_z-of_z {w = w64} (record { sfits = c.struct_told-1.given.1.1.1.0.1 })) _ _ _
+    (bound_at p (as_tie c.args.tie) _ _ _ _ (c.source_of-source.ensures p) (to_z-of_z {w = w64} (record { sfits = search rules })) _ _ _
     c.shifted.ensures c.in-At.is c.origin_of-origin.ensures.0)
 
 pub returns-in-Refused : goal.returns-in-Refused
 returns-in-Refused c =
     let p = plan_of c.args.sheet.now c.args.contents in
     sym
-    (bound_refused p (as_tie c.args.tie) _ _ _ _ (c.source_of-source.ensures p) (to_z-of_z {w = w64} (record { sfits = c.struct_told-1.given.1.1.1.0.1 })) _ _ c.shifted.ensures
+    (bound_refused p (as_tie c.args.tie) _ _ _ _ (c.source_of-source.ensures p) (to_z-of_z {w = w64} (record { sfits = search rules })) _ _ c.shifted.ensures
     c.in-Refused.is)

@@ -1,9 +1,11 @@
 -- `calendar::day_rank` meets its contract: that of its row, or of its records, where the loop keeps the sum over those passed and the rank in those that are left.
 use mathlib.Core.Path.{◌≡◌, refl, sym, ap, ◌∙◌}
-use Prim.Native.Nat.{◌≤◌, ◌<◌, ◌+◌, ◌-◌}
+use Prim.Native.Nat.{ℕ, ◌≤◌, ◌<◌, ◌+◌, ◌-◌}
 use native.Mathlib.Omega.{arith}
 use borrow.Author.Rules.{rules}
 use lib.ListN.{drop}
+use mathlib.Core.List.{List}
+use Rattle.calendar.specs.declared.Hours.{Hours}
 use Rattle.calendar.specs.Records.{record_periods, periods_of}
 use Rattle.calendar.specs.Hours.{rank, Ordered}
 use Rattle.calendar.specs.Steps.{rank_step, rank_end}
@@ -35,21 +37,11 @@ returns-then-hours-eq0 c =
 pub loop-i-init : goal.loop-i-init
 loop-i-init c = (omega arith, omega arith)
 
-order_at_1 : (c : goal.After-period_rank-sum) → let a = c.args in Ordered 0 (record_periods a.sheet.now a.hours.at a.hours.n)
-order_at_1 c = let s = c.before.before.before.before.before.before in rw (of_records s.args.hours s.args.sheet.now (omega arith)) at s.requires.1
+order : (hours : Hours) (sheet : List ℕ) → 0 < hours.n → Ordered 0 (periods_of hours sheet) → Ordered 0 (record_periods sheet hours.at hours.n)
+order hours sheet some o = rw (of_records hours sheet some) at o
 
-order_at_2 : (c : goal.After-loop-i) → let a = c.args in Ordered 0 (record_periods a.sheet.now a.hours.at a.hours.n)
-order_at_2 c = let s = c.before.before.before.before.before.before in rw (of_records s.args.hours s.args.sheet.now (omega arith)) at s.requires.1
-
-small_at_1 : (c : goal.After-period_rank-sum) →
-    let a = c.args in
-    rank (record_periods a.sheet.now a.hours.at a.hours.n) c.day_minute-before.result ≤ 1440
-small_at_1 c = rank_bound _ _ (order_at_1 c)
-
-small_at_2 : (c : goal.After-loop-i) →
-    let a = c.args in
-    rank (record_periods a.sheet.now a.hours.at a.hours.n) c.day_minute-before.result ≤ 1440
-small_at_2 c = rank_bound _ _ (order_at_2 c)
+small : (hours : Hours) (sheet : List ℕ) (m : ℕ) → 0 < hours.n → Ordered 0 (periods_of hours sheet) → rank (record_periods sheet hours.at hours.n) m ≤ 1440
+small hours sheet m some o = rank_bound _ _ (order hours sheet some o)
 
 step : (c : goal.After-period_rank-sum) →
     let l = c.before.before.before in
@@ -65,13 +57,13 @@ step c =
     omega (arith, c.period_rank-sum.ensures, rank_step (record_periods a.sheet.now a.hours.at a.hours.n) l.loop-i.i l.day_minute-before.result b.result g.0 g.1)
 
 pub overflow_add-sum : goal.overflow_add-sum
-overflow_add-sum c = omega (arith, step c, small_at_1 c)
+overflow_add-sum c = omega (arith, step c, small c.args.hours c.args.sheet.now c.day_minute-before.result (omega arith) c.requires.1)
 
 pub loop-i-preserved : goal.loop-i-preserved
 loop-i-preserved c = (omega arith, omega (arith, step c))
 
 pub overflow_cast-result-2 : goal.overflow_cast-result-2
-overflow_cast-result-2 c = omega (arith, small_at_2 c)
+overflow_cast-result-2 c = omega (arith, small c.args.hours c.args.sheet.now c.day_minute-before.result (omega arith) c.requires.1)
 
 pub returns : goal.returns
 returns c =
@@ -82,5 +74,5 @@ returns c =
     let e : l.loop-i.sum ≡ rank xs d.result =
     omega (arith, rank_end xs l.loop-i.i d.result (omega (arith, records_length a.sheet.now a.hours.at a.hours.n))) in
     let t : l.loop-i.sum ≡ rank (periods_of a.hours a.sheet.now) a.m =
-    rw (of_records a.hours a.sheet.now (omega arith)) (e ∙ ap (rank xs) d.ensures ∙ rank_top 0 xs a.m (order_at_2 c)) in
-    (t, omega (arith, small_at_2 c))
+    rw (of_records a.hours a.sheet.now (omega arith)) (e ∙ ap (rank xs) d.ensures ∙ rank_top 0 xs a.m (order a.hours a.sheet.now (omega arith) c.requires.1)) in
+    (t, omega (arith, small c.args.hours c.args.sheet.now c.day_minute-before.result (omega arith) c.requires.1))

@@ -14,12 +14,6 @@ use Rattle.calendar.proofs.read_week.Goals.{then-k-lt7, else-k-lt7}
 pub loop-i-init : goal.loop-i-init
 loop-i-init c = (omega arith, rows_start _ _)
 
-pub overflow_cast-k : goal.overflow_cast-k
-overflow_cast-k c =
-    let l = c.before.before in
-    let a = l.args in
-    omega (arith, c.shared_slice_known-in-loop-i-1.given (a.at + 6 * l.loop-i.i + 1))
-
 -- where another period comes, its row has room
 room : (c : goal.After-week_period) →
     let l = c.before.before.before in

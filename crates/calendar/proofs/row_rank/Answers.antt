@@ -12,12 +12,6 @@ use Rattle.calendar.proofs.row_rank.Goals as goal
 pub loop-i-init : goal.loop-i-init
 loop-i-init c = (omega arith, omega arith)
 
-small_at_1 : (c : goal.After-period_rank-sum) → rank c.args.row c.args.m ≤ 1440
-small_at_1 c = rank_bound _ _ c.requires
-
-small_at_2 : (c : goal.After-loop-i) → rank c.args.row c.args.m ≤ 1440
-small_at_2 c = rank_bound _ _ c.requires
-
 step : (c : goal.After-period_rank-sum) →
     let l = c.before.before.before in
     let a = l.args in
@@ -28,7 +22,7 @@ step c =
     omega (arith, c.period_rank-sum.ensures, rank_step a.row l.loop-i.i a.m (get_or a.row l.loop-i.i none) refl (omega arith))
 
 pub overflow_add-sum : goal.overflow_add-sum
-overflow_add-sum c = omega (arith, step c, small_at_1 c)
+overflow_add-sum c = omega (arith, step c, rank_bound c.args.row c.args.m c.requires)
 
 pub loop-i-preserved : goal.loop-i-preserved
 loop-i-preserved c = (omega arith, omega (arith, step c))
@@ -38,4 +32,4 @@ returns c =
     let l = c.before in
     let a = l.args in
     let e : l.loop-i.sum ≡ rank a.row a.m = omega (arith, rank_end a.row l.loop-i.i a.m (omega arith)) in
-    (e, omega (arith, small_at_2 c))
+    (e, omega (arith, rank_bound a.row a.m c.requires))

@@ -12,12 +12,6 @@ use Rattle.calendar.proofs.row_work.Goals as goal
 pub loop-i-init : goal.loop-i-init
 loop-i-init c = (omega arith, omega arith)
 
-small_at_1 : (c : goal.After-period_length-sum) → rank c.args.row 1440 ≤ 1440
-small_at_1 c = rank_bound _ _ c.requires
-
-small_at_2 : (c : goal.After-loop-i) → rank c.args.row 1440 ≤ 1440
-small_at_2 c = rank_bound _ _ c.requires
-
 step : (c : goal.After-period_length-sum) →
     let l = c.before.before.before in
     let row = l.args.row in
@@ -33,7 +27,7 @@ step c =
     )
 
 pub overflow_add-sum : goal.overflow_add-sum
-overflow_add-sum c = omega (arith, step c, small_at_1 c)
+overflow_add-sum c = omega (arith, step c, rank_bound c.args.row 1440 c.requires)
 
 pub loop-i-preserved : goal.loop-i-preserved
 loop-i-preserved c = (omega arith, omega (arith, step c))
@@ -43,4 +37,4 @@ returns c =
     let l = c.before in
     let row = l.args.row in
     let e : l.loop-i.sum ≡ rank row 1440 = omega (arith, rank_end row l.loop-i.i 1440 (omega arith)) in
-    (e, omega (arith, small_at_2 c))
+    (e, omega (arith, rank_bound row 1440 c.requires))

@@ -42,7 +42,7 @@ returns-in-Minutes-between c =
     let w = worked_on x.week x.sheet.now x.at x.n in
     let i : x.i < p.activities = omega (arith, activities_are x.sheet.now x.contents, q.2) in
     let f =
-    rw (to_z-of_z (record { sfits = c.in-Minutes.known_told-1-own.given.0.1 }), to_z-of_z (record { sfits = c.in-Minutes-between.known_told-in-Minutes-between-1-own.given.0.1 }))
+    rw (to_z-of_z (record { sfits = search rules }), to_z-of_z (record { sfits = search rules }))
     at (c.free_by.ensures.0 p d)
     in (
       free_of_found q.0 x.i x.finish _ c.slack_of.ensures _ _ c.in-Minutes.is _ w (calendar_worked q.3) (c.get_act-ef.ensures.0 ∙ sym (ef_at p S x.i i)) _

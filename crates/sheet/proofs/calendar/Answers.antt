@@ -7,17 +7,11 @@ use Rattle.sheet.specs.PlaceLaws.{count_weeks, run_weeks, weeks_end_lem, count_e
 use borrow.Author.Rules.{rules}
 use Rattle.sheet.proofs.calendar.Goals as goal
 
-weeks-counted_at_1 : (c : goal.After-count_run-weeks) → c.count_run-weeks.result ≡ week_count c.args.sheet.now c.args.at
-weeks-counted_at_1 c = c.count_run-weeks.ensures ∙ count_weeks c.args.sheet.now c.args.at c.requires
-
-weeks-counted_at_2 : (c : goal.After-count_run-exceptions) → c.count_run-weeks.result ≡ week_count c.args.sheet.now c.args.at
-weeks-counted_at_2 c = c.count_run-weeks.ensures ∙ count_weeks c.args.sheet.now c.args.at c.requires
-
 exceptions-counted : (c : goal.After-count_run-exceptions)
     → c.count_run-exceptions.result ≡ exception_count c.args.sheet.now c.args.at
 exceptions-counted c =
     let w = c.count_run-weeks in
-    c.count_run-exceptions.ensures ∙ count_exceptions c.args.sheet.now c.args.at c.requires w.result (weeks-counted_at_2 c)
+    c.count_run-exceptions.ensures ∙ count_exceptions c.args.sheet.now c.args.at c.requires w.result (c.count_run-weeks.ensures ∙ count_weeks c.args.sheet.now c.args.at c.requires)
 
 pub count_run-weeks-requires : goal.count_run-weeks-requires
 count_run-weeks-requires c = (omega arith, run_weeks c.args.sheet.now c.args.at c.requires)
@@ -25,29 +19,29 @@ count_run-weeks-requires c = (omega arith, run_weeks c.args.sheet.now c.args.at 
 pub overflow_mul-from : goal.overflow_mul-from
 overflow_mul-from c =
     let w = c.count_run-weeks in
-    omega (arith, weeks_end_lem c.args.sheet.now c.args.at c.requires w.result (weeks-counted_at_1 c))
+    omega (arith, weeks_end_lem c.args.sheet.now c.args.at c.requires w.result (c.count_run-weeks.ensures ∙ count_weeks c.args.sheet.now c.args.at c.requires))
 
 pub overflow_add-from-2 : goal.overflow_add-from-2
 overflow_add-from-2 c =
     let w = c.count_run-weeks in
-    omega (arith, weeks_end_lem c.args.sheet.now c.args.at c.requires w.result (weeks-counted_at_1 c))
+    omega (arith, weeks_end_lem c.args.sheet.now c.args.at c.requires w.result (c.count_run-weeks.ensures ∙ count_weeks c.args.sheet.now c.args.at c.requires))
 
 pub count_run-exceptions-requires : goal.count_run-exceptions-requires
 count_run-exceptions-requires c =
     let w = c.count_run-weeks in
-    (weeks_end_lem c.args.sheet.now c.args.at c.requires w.result (weeks-counted_at_1 c), run_exceptions c.args.sheet.now c.args.at c.requires w.result (weeks-counted_at_1 c))
+    (weeks_end_lem c.args.sheet.now c.args.at c.requires w.result (c.count_run-weeks.ensures ∙ count_weeks c.args.sheet.now c.args.at c.requires), run_exceptions c.args.sheet.now c.args.at c.requires w.result (c.count_run-weeks.ensures ∙ count_weeks c.args.sheet.now c.args.at c.requires))
 
 pub overflow_mul-result : goal.overflow_mul-result
 overflow_mul-result c =
     let w = c.count_run-weeks in
-    omega (arith, exceptions_end_lem c.args.sheet.now c.args.at c.requires w.result (weeks-counted_at_2 c) c.count_run-exceptions.result (exceptions-counted c))
+    omega (arith, exceptions_end_lem c.args.sheet.now c.args.at c.requires w.result (c.count_run-weeks.ensures ∙ count_weeks c.args.sheet.now c.args.at c.requires) c.count_run-exceptions.result (exceptions-counted c))
 
 pub overflow_add-result : goal.overflow_add-result
 overflow_add-result c =
     let w = c.count_run-weeks in
-    omega (arith, exceptions_end_lem c.args.sheet.now c.args.at c.requires w.result (weeks-counted_at_2 c) c.count_run-exceptions.result (exceptions-counted c))
+    omega (arith, exceptions_end_lem c.args.sheet.now c.args.at c.requires w.result (c.count_run-weeks.ensures ∙ count_weeks c.args.sheet.now c.args.at c.requires) c.count_run-exceptions.result (exceptions-counted c))
 
 pub returns : goal.returns
 returns c =
     let w = c.count_run-weeks in
-    place_is c.args.sheet.now c.args.at c.requires w.result (weeks-counted_at_2 c) c.count_run-exceptions.result (exceptions-counted c)
+    place_is c.args.sheet.now c.args.at c.requires w.result (c.count_run-weeks.ensures ∙ count_weeks c.args.sheet.now c.args.at c.requires) c.count_run-exceptions.result (exceptions-counted c)

@@ -2,7 +2,8 @@
 -- the W records counted, and so within the sheet
 use native.Mathlib.Omega.{arith}
 use mathlib.Core.Path.{◌≡◌, sym, ◌∙◌}
-use Prim.Native.Nat.{◌+◌, ◌*◌, ◌≤◌}
+use mathlib.Core.List.{List}
+use Prim.Native.Nat.{ℕ, ◌+◌, ◌*◌, ◌≤◌}
 use lib.ListN.{length}
 use Rattle.sheet.specs.declared.Run.TheVariants.{Count}
 use Rattle.sheet.specs.Reading.{weeks_from, exceptions_from}
@@ -11,34 +12,8 @@ use Rattle.sheet.specs.CalendarLaws.{end_weeks, end_exceptions, end_count}
 use borrow.Author.Rules.{rules}
 use Rattle.sheet.proofs.read_calendar.Goals as goal
 
-weeks-are_at_1 : (c : goal.In-Count)
-    → let x = c.args in
-    weeks_from x.sheet.now (x.at + 3) ≡ Count c.in-Count.w
-weeks-are_at_1 c = sym c.read_weeks-weeks.ensures ∙ c.in-Count.is
-
-weeks-are_at_2 : (c : goal.In-Count-exceptions)
-    → let x = c.args in
-    weeks_from x.sheet.now (x.at + 3) ≡ Count c.in-Count.w
-weeks-are_at_2 c = sym c.read_weeks-weeks.ensures ∙ c.in-Count.is
-
-weeks-are_at_3 : (c : goal.In-Refused-exceptions)
-    → let x = c.args in
-    weeks_from x.sheet.now (x.at + 3) ≡ Count c.in-Count.w
-weeks-are_at_3 c = sym c.read_weeks-weeks.ensures ∙ c.in-Count.is
-
-weeks-end_at_1 : (c : goal.In-Count)
-    → let x = c.args in
-    x.at + 3 + 6 * c.in-Count.w ≤ length x.sheet.now
-weeks-end_at_1 c =
-    let x = c.args in
-    (weeks_counted_lem x.sheet.now (x.at + 3) c.in-Count.w (omega arith) (weeks-are_at_1 c)).within
-
-weeks-end_at_2 : (c : goal.In-Count-exceptions)
-    → let x = c.args in
-    x.at + 3 + 6 * c.in-Count.w ≤ length x.sheet.now
-weeks-end_at_2 c =
-    let x = c.args in
-    (weeks_counted_lem x.sheet.now (x.at + 3) c.in-Count.w (omega arith) (weeks-are_at_2 c)).within
+weeks-end : (sheet : List ℕ) (at w : ℕ) → at + 3 ≤ length sheet → weeks_from sheet (at + 3) ≡ Count w → at + 3 + 6 * w ≤ length sheet
+weeks-end sheet at w h e = (weeks_counted_lem sheet (at + 3) w h e).within
 
 -- the E records counted
 exceptions-are : (c : goal.In-Count-exceptions)
@@ -52,16 +27,16 @@ exceptions-end : (c : goal.In-Count-exceptions)
 exceptions-end c =
     let x = c.args in
     let w = c.in-Count.w in
-    (exceptions_counted_lem x.sheet.now (x.at + 3 + 6 * w) c.in-Count-exceptions.e (weeks-end_at_2 c) (exceptions-are c)).within
+    (exceptions_counted_lem x.sheet.now (x.at + 3 + 6 * w) c.in-Count-exceptions.e (weeks-end c.args.sheet.now c.args.at c.in-Count.w (omega arith) (sym c.read_weeks-weeks.ensures ∙ c.in-Count.is)) (exceptions-are c)).within
 
 pub overflow_mul-from : goal.overflow_mul-from
-overflow_mul-from c = omega (arith, weeks-end_at_1 c)
+overflow_mul-from c = omega (arith, weeks-end c.args.sheet.now c.args.at c.in-Count.w (omega arith) (sym c.read_weeks-weeks.ensures ∙ c.in-Count.is))
 
 pub overflow_add-from-in-Count : goal.overflow_add-from-in-Count
-overflow_add-from-in-Count c = omega (arith, weeks-end_at_1 c)
+overflow_add-from-in-Count c = omega (arith, weeks-end c.args.sheet.now c.args.at c.in-Count.w (omega arith) (sym c.read_weeks-weeks.ensures ∙ c.in-Count.is))
 
 pub read_exceptions-exceptions-requires : goal.read_exceptions-exceptions-requires
-read_exceptions-exceptions-requires c = weeks-end_at_1 c
+read_exceptions-exceptions-requires c = weeks-end c.args.sheet.now c.args.at c.in-Count.w (omega arith) (sym c.read_weeks-weeks.ensures ∙ c.in-Count.is)
 
 pub overflow_mul-result : goal.overflow_mul-result
 overflow_mul-result c = omega (arith, exceptions-end c)
@@ -79,11 +54,11 @@ returns-in-Refused-exceptions c =
     let x = c.args in
     sym
     (end_exceptions x.sheet.now x.at c.in-Count.w c.in-Refused-exceptions.r
-    (weeks-are_at_3 c) (sym c.read_exceptions-exceptions.ensures ∙ c.in-Refused-exceptions.is))
+    (sym c.read_weeks-weeks.ensures ∙ c.in-Count.is) (sym c.read_exceptions-exceptions.ensures ∙ c.in-Refused-exceptions.is))
 
 pub returns-in-Count-exceptions : goal.returns-in-Count-exceptions
 returns-in-Count-exceptions c =
     let x = c.args in
     sym
     (end_count x.sheet.now x.at c.in-Count.w c.in-Count-exceptions.e
-    (weeks-are_at_2 c) (exceptions-are c))
+    (sym c.read_weeks-weeks.ensures ∙ c.in-Count.is) (exceptions-are c))

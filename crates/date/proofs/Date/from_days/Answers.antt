@@ -7,16 +7,8 @@ use Rattle.date.specs.Days.{biased}
 use Rattle.date.specs.DaysLaws.{from_days_in, from_days_out}
 use Rattle.date.proofs.Date.from_days.Goals as goal
 
--- the test is that of the definition
-tested_at_1 : (c : goal.Then-in_years) → c.in_years.result ≡ in_years (biased c.args.days)
-tested_at_1 c = c.in_years.ensures ∙ ap in_years (rw (to_z-of_z c.ranges.days) at c.biased.ensures.0)
-
--- the test is that of the definition
-tested_at_2 : (c : goal.Else-in_years) → c.in_years.result ≡ in_years (biased c.args.days)
-tested_at_2 c = c.in_years.ensures ∙ ap in_years (rw (to_z-of_z c.ranges.days) at c.biased.ensures.0)
-
 pub returns-then-in_years : goal.returns-then-in_years
-returns-then-in_years c = rw (to_z-of_z c.ranges.days) (sym (from_days_in c.args.days (sym (tested_at_1 c) ∙ c.if-in_years.true)))
+returns-then-in_years c = rw (to_z-of_z c.ranges.days) (sym (from_days_in c.args.days (sym (c.in_years.ensures ∙ ap in_years (rw (to_z-of_z c.ranges.days) at c.biased.ensures.0)) ∙ c.if-in_years.true)))
 
 pub returns : goal.returns
-returns c = sym (from_days_out c.args.days (sym (tested_at_2 c) ∙ c.if-in_years.false))
+returns c = sym (from_days_out c.args.days (sym (c.in_years.ensures ∙ ap in_years (rw (to_z-of_z c.ranges.days) at c.biased.ensures.0)) ∙ c.if-in_years.false))

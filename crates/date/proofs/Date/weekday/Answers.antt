@@ -9,7 +9,7 @@ use Rattle.date.specs.Days.{biased}
 use Rattle.date.proofs.Date.weekday.Goals as goal
 
 fits : (c : goal.After-biased) → SFits w32 c.args.self.0
-fits c = record { sfits = c.struct_told-1.given.0.1 }
+fits c = record { sfits = search rules }
 
 counted : (c : goal.After-biased) → c.biased.result ≡ biased c.args.self.0
 counted c = rw (to_z-of_z (fits c)) at c.biased.ensures.0

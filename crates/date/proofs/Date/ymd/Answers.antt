@@ -11,7 +11,7 @@ use Rattle.date.specs.DaysLaws.{biased_is}
 use Rattle.date.proofs.Date.ymd.Goals as goal
 
 fits : (c : goal.After-from_march) → SFits w32 c.args.self.0
-fits c = record { sfits = c.struct_told-1.given.0.1 }
+fits c = record { sfits = search rules }
 
 counted : (c : goal.After-from_march) → c.biased.result ≡ biased c.args.self.0
 counted c = rw (to_z-of_z (fits c)) at c.biased.ensures.0

@@ -1,5 +1,5 @@
 -- `project::codes::activity_kind_of` meets its contract.
-use borrow.Author.Tests.{ne_eqb}
+use Rattle.std.proofs.Common.{rules, tests}
 use Rattle.project.specs.Records.{activity_kind_of}
 use Rattle.project.proofs.codes.activity_kind_of.Goals as goal
 
@@ -13,4 +13,4 @@ returns-in-1 c = rw c.in-1.is
 
 pub returns-in_default : goal.returns-in_default
 unfolding activity_kind_of
-returns-in_default c = simp (ne_eqb c.args.code 0 c.in_default.in_default-own.rest.0.1, ne_eqb c.args.code 1 c.in_default.in_default-own.rest.1)
+returns-in_default c = search (tests, rules)

@@ -1,5 +1,5 @@
 -- `project::codes::constraint_of` meets its contract.
-use borrow.Author.Tests.{ne_eqb}
+use Rattle.std.proofs.Common.{rules, tests}
 use Rattle.project.specs.Records.{constraint_of}
 use Rattle.project.proofs.codes.constraint_of.Goals as goal
 
@@ -41,4 +41,4 @@ returns-in-8 c = rw c.in-8.is
 
 pub returns-in_default : goal.returns-in_default
 unfolding constraint_of
-returns-in_default c = simp (ne_eqb c.args.code 0 c.in_default.in_default-own.rest.0.0.0.0.0.0.0.0.1, ne_eqb c.args.code 1 c.in_default.in_default-own.rest.0.0.0.0.0.0.0.1, ne_eqb c.args.code 2 c.in_default.in_default-own.rest.0.0.0.0.0.0.1, ne_eqb c.args.code 3 c.in_default.in_default-own.rest.0.0.0.0.0.1, ne_eqb c.args.code 4 c.in_default.in_default-own.rest.0.0.0.0.1, ne_eqb c.args.code 5 c.in_default.in_default-own.rest.0.0.0.1, ne_eqb c.args.code 6 c.in_default.in_default-own.rest.0.0.1, ne_eqb c.args.code 7 c.in_default.in_default-own.rest.0.1, ne_eqb c.args.code 8 c.in_default.in_default-own.rest.1)
+returns-in_default c = search (tests, rules)

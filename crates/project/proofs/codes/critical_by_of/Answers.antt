@@ -1,6 +1,6 @@
 -- `project::codes::critical_by_of` meets its contract.
 use borrow.Author.Rules.{rules}
-use borrow.Author.Tests.{ne_eqb}
+use Rattle.std.proofs.Common.{rules, tests}
 use mir.Facts.{to_z-of_z}
 use mir.Syntax.{w32}
 use mir.Val.{SFits}
@@ -15,4 +15,4 @@ returns-in-0 c =
 
 pub returns-in_default : goal.returns-in_default
 unfolding critical_by_of
-returns-in_default c = rw (ne_eqb c.args.code 0 c.in_default.in_default-own.rest.1)
+returns-in_default c = search (tests, rules)

@@ -1,5 +1,5 @@
 -- `project::codes::progress_mode_of` meets its contract.
-use borrow.Author.Tests.{ne_eqb}
+use Rattle.std.proofs.Common.{rules, tests}
 use Rattle.project.specs.Records.{progress_mode_of}
 use Rattle.project.proofs.codes.progress_mode_of.Goals as goal
 
@@ -9,4 +9,4 @@ returns-in-0 c = rw c.in-0.is
 
 pub returns-in_default : goal.returns-in_default
 unfolding progress_mode_of
-returns-in_default c = simp (ne_eqb c.args.code 0 c.in_default.in_default-own.rest.1)
+returns-in_default c = search (tests, rules)

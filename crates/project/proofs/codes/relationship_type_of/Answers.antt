@@ -1,5 +1,5 @@
 -- `project::codes::relationship_type_of` meets its contract.
-use borrow.Author.Tests.{ne_eqb}
+use Rattle.std.proofs.Common.{rules, tests}
 use Rattle.project.specs.Records.{relationship_type_of}
 use Rattle.project.proofs.codes.relationship_type_of.Goals as goal
 
@@ -17,4 +17,4 @@ returns-in-2 c = rw c.in-2.is
 
 pub returns-in_default : goal.returns-in_default
 unfolding relationship_type_of
-returns-in_default c = simp (ne_eqb c.args.code 0 c.in_default.in_default-own.rest.0.0.1, ne_eqb c.args.code 1 c.in_default.in_default-own.rest.0.1, ne_eqb c.args.code 2 c.in_default.in_default-own.rest.1)
+returns-in_default c = search (tests, rules)

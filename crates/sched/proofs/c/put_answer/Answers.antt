@@ -7,7 +7,7 @@ use Rattle.sched.proofs.c.put_answer.Goals as goal
 
 pub returns-in-Accepted : goal.returns-in-Accepted
 returns-in-Accepted c =
-    accepted_numbers c.in-Accepted.is (to_z-of_z {w = w64} (record { sfits = c.in-Accepted.known_told-1-own.given.0.1 }))
+    accepted_numbers c.in-Accepted.is (to_z-of_z {w = w64} (record { sfits = search rules }))
     (to_z-of_z {w = w64} (record { sfits = c.held.type_inv }) ∙ c.held.ensures) (to_z-of_z {w = w64} (record { sfits = c.held-in-Accepted.type_inv }) ∙ c.held-in-Accepted.ensures) (to_z-of_z {w = w64} (record { sfits = c.held-in-Accepted-2.type_inv }) ∙ c.held-in-Accepted-2.ensures) c.put_five.ensures
 
 pub returns-in-Refused : goal.returns-in-Refused
