@@ -3,6 +3,7 @@ use borrow.Author.Rules.{rules}
 use mathlib.Core.Path.{refl, sym, ap, ◌∙◌}
 use native.Mathlib.Omega.{arith}
 use Prim.Native.Nat.{ℕ, ◌<◌}
+use mir.Syntax.{w64}
 use mir.Facts.{to_z-of_z}
 use Rattle.worktime.specs.Reads.{at_or_refused}
 use Rattle.clock.specs.On.{worked_on}
@@ -42,7 +43,7 @@ returns-in-Minutes-between c =
     let w = worked_on x.week x.sheet.now x.at x.n in
     let i : x.i < p.activities = omega (arith, activities_are x.sheet.now x.contents, q.2) in
     let f =
-    rw (to_z-of_z (record { sfits = search rules }), to_z-of_z (record { sfits = search rules }))
+    rw (to_z-of_z {w = w64} {z = c.in-Minutes.slack} (record { sfits = search rules }), to_z-of_z {w = w64} {z = c.in-Minutes-between.total} (record { sfits = search rules }))
     at (c.free_by.ensures.0 p d)
     in (
       free_of_found q.0 x.i x.finish _ c.slack_of.ensures _ _ c.in-Minutes.is _ w (calendar_worked q.3) (c.get_act-ef.ensures.0 ∙ sym (ef_at p S x.i i)) _

@@ -55,7 +55,7 @@ loop-k-preserved c =
     let w = worked_on x.week x.sheet.now x.at x.n in
     let L = c.loop-k in
     let C = rw (to_z-of_z c.ranges.slack) at L.invariant in
-    let g = rw (to_z-of_z (record { sfits = search rules })) at c.min-least.ensures in
+    let g = rw (to_z-of_z {w = w64} {z = c.in-Minutes.gap} (record { sfits = search rules })) at c.min-least.ensures in
     rw (to_z-of_z c.ranges.slack, to_z-of_z (record { sfits = c.min-least.type_inv }), g)
     (slack_turn q.0 x.i x.slack C c.loop-k-test.true _ (sym (c.gap_at.ensures ∙ gap_own q.0 x.i L.k x.start x.finish w (calendar_worked q.2) q.3) ∙ c.in-Minutes.is) _ c.get_link-k.ensures.0)
 

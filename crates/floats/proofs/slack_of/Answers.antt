@@ -2,6 +2,7 @@
 use borrow.Author.Rules.{rules}
 use mathlib.Core.Path.{sym, ◌∙◌}
 use native.Mathlib.Omega.{arith}
+use mir.Syntax.{w64}
 use mir.Facts.{to_z-of_z}
 use Rattle.clock.specs.On.{worked_on}
 use Rattle.memory.specs.State.{state_of}
@@ -38,7 +39,7 @@ returns-in-Minutes c =
     let S = state_of x.contents.activities x.contents.links x.work.now in
     let w = worked_on x.week x.sheet.now x.at x.n in
     let l = ef_at p S x.i (omega (arith, activities_are x.sheet.now x.contents, q.2)) in
-    let e = rw (to_z-of_z (record { sfits = search rules })) at c.least_slack.ensures in
+    let e = rw (to_z-of_z {w = w64} {z = c.in-Minutes.slack} (record { sfits = search rules })) at c.least_slack.ensures in
     e ∙ slack_found q.0 x.i x.finish _ w (calendar_worked q.3) (c.get_act-ef.ensures.0 ∙ sym l) _ (sym c.between.ensures ∙ c.in-Minutes.is)
 
 pub returns-in-Refused : goal.returns-in-Refused

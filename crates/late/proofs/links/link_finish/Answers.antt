@@ -31,7 +31,7 @@ over_lag-requires c =
     let R = c.requires.0 in
     let τ = c.tie_at-tie.result in
     let h : up τ.lag + dn τ.lag < 2 ^ 63 = omega (arith, lag_in R _ c.requires.1 _ c.tie_at-tie.ensures) in
-    (R.read, R.located, rw (to_z-of_z (record { sfits = search rules })) h)
+    (R.read, R.located, rw (to_z-of_z {w = w64} {z = τ.lag} (record { sfits = search rules })) h)
 
 pub returns-in-At-finish_by : goal.returns-in-At-finish_by
 returns-in-At-finish_by c =
@@ -44,7 +44,7 @@ returns-in-At-finish_by c =
     let τ = c.tie_at-tie.result in
     let e = c.tie_at-tie.ensures in
     let A = times_are R _ c.requires.1 τ e last ∙ sym c.successor_times.ensures ∙ c.in-Dates.is in
-    let F = to_z-of_z {w = w64} (record { sfits = search rules }) in
+    let F = to_z-of_z {w = w64} {z = τ.lag} (record { sfits = search rules }) in
     let B = over_are R _ c.requires.1 τ e d m _ _ ∙ ap (λ (x : ℕ). over_lag p d m (as_tie τ) x) (sym c.target-x.ensures) ∙ sym (c.over_lag.ensures d m (as_tie τ) refl (sym F)) ∙ c.in-At.is in
     let C = by_are R _ c.requires.1 τ e (own p i) (d.left i) c.in-At.v ∙ own_by O τ.kind c.in-At.v ∙ sym c.finish_by.ensures ∙ c.in-At-finish_by.is in
     c.bounded.ensures ∙ sym (own_bounded O _) ∙ sym (link_at p d m i c.args.k _ _ A _ B _ C)
@@ -60,7 +60,7 @@ returns-in-Refused-finish_by c =
     let τ = c.tie_at-tie.result in
     let e = c.tie_at-tie.ensures in
     let A = times_are R _ c.requires.1 τ e last ∙ sym c.successor_times.ensures ∙ c.in-Dates.is in
-    let F = to_z-of_z {w = w64} (record { sfits = search rules }) in
+    let F = to_z-of_z {w = w64} {z = τ.lag} (record { sfits = search rules }) in
     let B = over_are R _ c.requires.1 τ e d m _ _ ∙ ap (λ (x : ℕ). over_lag p d m (as_tie τ) x) (sym c.target-x.ensures) ∙ sym (c.over_lag.ensures d m (as_tie τ) refl (sym F)) ∙ c.in-At.is in
     let C = by_are R _ c.requires.1 τ e (own p i) (d.left i) c.in-At.v ∙ own_by O τ.kind c.in-At.v ∙ sym c.finish_by.ensures ∙ c.in-Refused-finish_by.is in
     sym (link_finish_refused p d m i c.args.k _ _ A _ B _ C)
@@ -76,7 +76,7 @@ returns-in-Refused-over_lag c =
     let τ = c.tie_at-tie.result in
     let e = c.tie_at-tie.ensures in
     let A = times_are R _ c.requires.1 τ e last ∙ sym c.successor_times.ensures ∙ c.in-Dates.is in
-    let F = to_z-of_z {w = w64} (record { sfits = search rules }) in
+    let F = to_z-of_z {w = w64} {z = τ.lag} (record { sfits = search rules }) in
     let B = over_are R _ c.requires.1 τ e d m _ _ ∙ ap (λ (x : ℕ). over_lag p d m (as_tie τ) x) (sym c.target-x.ensures) ∙ sym (c.over_lag.ensures d m (as_tie τ) refl (sym F)) ∙ c.in-Refused-over_lag.is in
     sym (link_lag_refused p d m i c.args.k _ _ A _ B)
 
