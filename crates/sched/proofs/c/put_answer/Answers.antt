@@ -1,4 +1,5 @@
 -- `sched::c::put_answer` meets its contract.
+use borrow.Author.Rules.{rules}
 use mathlib.Core.Path.{◌∙◌}
 use mir.Facts.{to_z-of_z}
 use mir.Syntax.{w64}
@@ -7,7 +8,7 @@ use Rattle.sched.proofs.c.put_answer.Goals as goal
 
 pub returns-in-Accepted : goal.returns-in-Accepted
 returns-in-Accepted c =
-    accepted_numbers c.in-Accepted.is (to_z-of_z {w = w64} (record { sfits = search rules }))
+    accepted_numbers c.in-Accepted.is (to_z-of_z {w = w64} {z = c.in-Accepted.day} (record { sfits = search rules }))
     (to_z-of_z {w = w64} (record { sfits = c.held.type_inv }) ∙ c.held.ensures) (to_z-of_z {w = w64} (record { sfits = c.held-in-Accepted.type_inv }) ∙ c.held-in-Accepted.ensures) (to_z-of_z {w = w64} (record { sfits = c.held-in-Accepted-2.type_inv }) ∙ c.held-in-Accepted-2.ensures) c.put_five.ensures
 
 pub returns-in-Refused : goal.returns-in-Refused
