@@ -1,5 +1,6 @@
 -- A step of the backward pass: what it stores, what it keeps, and its ways by what is recorded.
 use Rattle.std.specs.Prelude.{◌≡◌, refl, ℕ, ◌<◌, pos}
+use Rattle.worktime.specs.declared.ClockError.{ClockError}
 use Rattle.std.proofs.Common.{sym, ◌∙◌, arith}
 use Rattle.std.proofs.Math.Path.{ap}
 use Rattle.memory.specs.State.{State, put_act, fill_act}
@@ -56,7 +57,7 @@ module _ (p : Plan) (d : Early) (last : ℕ) (l : Late) (i : ℕ) where
   back_completed s f e = ap (backward_by p d l last i) e
 
   -- neither completed nor refused
-  pub back_unfinished : (a : Actual) → a ≡ recorded p i → ((s f : ℕ) → a ≡ Completed s f → ⊥) → ((k : ℕ) → a ≡ Actual.Refused k → ⊥)
+  pub back_unfinished : (a : Actual) → a ≡ recorded p i → ((s f : ℕ) → a ≡ Completed s f → ⊥) → ((k : ClockError) → a ≡ Actual.Refused k → ⊥)
       → backward p d last l i ≡ unfinished_late p d l i last
   unfolding backward
   back_unfinished Unstarted e m n = ap (backward_by p d l last i) (sym e)

@@ -1,16 +1,13 @@
 -- The greatest early finish from the loop's number, and the end by the sheet.
 use Rattle.std.proofs.Math.Path.{◌≡◌, refl, ap}
 use Rattle.std.proofs.Common.{sym, ◌∙◌}
-use Rattle.std.specs.Prelude.{Bool, ◌&&◌, List}
+use Rattle.std.specs.Prelude.{Bool, ◌&&◌, List, Ok, Option, Some, None}
 use Rattle.std.proofs.Math.Bool.{true, false}
 use Prim.Native.Nat.{ℕ, zero, suc, ◌+◌, ◌-◌, ◌≤◌, ◌<◌, max}
 use native.Mathlib.Omega.{arith}
 use Rattle.std.proofs.Math.Numerals.{add-one}
-use Rattle.worktime.specs.declared.Walk.TheVariants.{At}
 use Rattle.worktime.specs.Reads.{on_true, on_false}
 use Rattle.date.specs.declared.Date.{Date}
-use Rattle.project.specs.declared.OptionalDate.{OptionalDate}
-use Rattle.project.specs.declared.OptionalDate.TheVariants.{On, Absent}
 use Rattle.project.specs.Records.{optional_date_at, project_at}
 use Rattle.placing.specs.Placing.{bounded, midnight_of}
 use Rattle.sheet.specs.declared.Contents.{Contents}
@@ -113,12 +110,12 @@ module _ (p : Plan) (d : Early) where
 
 -- ---- the end, by the must-finish day of the sheet
 module _ (s : List ℕ) (c : Contents) (d : Early) where
-  end_is : (x : OptionalDate) → optional_date_at s 9 ≡ x → end (plan_of s c) d ≡ end_by (plan_of s c) d x
+  end_is : (x : Option Date) → optional_date_at s 9 ≡ x → end (plan_of s c) d ≡ end_by (plan_of s c) d x
   unfolding end plan_of project_at
   end_is x e = ap (end_by (plan_of s c) d) e
 
-  pub end_on : (x : Date) (o m : ℕ) → optional_date_at s 9 ≡ On x → o ≡ origin (plan_of s c) → m ≡ midnight_of x → end (plan_of s c) d ≡ bounded o (m + 1440)
-  end_on x o m e q r = end_is (On x) e ∙ (λ z. bounded (sym q z) (sym r z + 1440))
+  pub end_on : (x : Date) (o m : ℕ) → optional_date_at s 9 ≡ Some x → o ≡ origin (plan_of s c) → m ≡ midnight_of x → end (plan_of s c) d ≡ bounded o (m + 1440)
+  end_on x o m e q r = end_is (Some x) e ∙ (λ z. bounded (sym q z) (sym r z + 1440))
 
-  pub end_absent : (g : ℕ) → optional_date_at s 9 ≡ Absent → g ≡ finish (plan_of s c) d → end (plan_of s c) d ≡ At g
-  end_absent g e q = end_is Absent e ∙ ap At (sym q)
+  pub end_absent : (g : ℕ) → optional_date_at s 9 ≡ None → g ≡ finish (plan_of s c) d → end (plan_of s c) d ≡ Ok g
+  end_absent g e q = end_is None e ∙ ap Ok (sym q)

@@ -1,11 +1,10 @@
 // The greatest early finish, the end that the plan is held to, and the backward pass: late starts and finishes.
 #![tactic(auto)]
 
-ghost use Rattle.std.specs.Prelude.{◌≡◌, reverse, ℕ, ◌^◌, ◌≤◌, ◌<◌, length};
+ghost use Rattle.std.specs.Prelude.{◌≡◌, reverse, ℕ, ◌^◌, ◌≤◌, ◌<◌, length, Ok};
 ghost use Rattle.memory.specs.State.{Room, state_of};
 ghost use Rattle.memory.specs.Fields.{early_start, early_finish};
 ghost use Rattle.topology.specs.Frame.{Frame};
-ghost use Rattle.worktime.specs.declared.Walk.TheVariants.{At};
 ghost use Rattle.sheet.specs.Known.{SheetRead};
 ghost use Rattle.order.specs.Plan.{plan_of};
 ghost use Rattle.order.specs.Ids.{summary};
@@ -19,12 +18,9 @@ ghost use Rattle.late.specs.Times.{unfinished_late};
 ghost use Rattle.backward.specs.Finish.{Marked, onward};
 ghost use Rattle.backward.specs.Stored.{stored};
 
-use dates::Step;
-use late::LateDates;
 use placing::Actual;
-use project::OptionalDate;
 use sheet::Contents;
-use worktime::Walk;
+use worktime::ClockError;
 
 // One more than the greatest early finish so far, on with activity `i`; a summary has none.
 fn finish_onward(sheet: &[u8], contents: Contents, work: &[i64], i: usize, top: u64) -> u64
@@ -61,16 +57,16 @@ pub fn greatest_finish(sheet: &[u8], contents: Contents, work: &[i64]) -> u64
 }
 
 // The end: the evening of the day that the project must finish by, or `greatest`, the greatest early finish.
-pub fn end_of(sheet: &[u8], contents: Contents, greatest: u64) -> Walk
+pub fn end_of(sheet: &[u8], contents: Contents, greatest: u64) -> Result<u64, ClockError>
     requires { SheetRead sheet.now contents × (greatest < 2 ^ 63) }
-    ensures { ((d : Early) → greatest ≡ finish (plan_of sheet.now contents) d → result ≡ end (plan_of sheet.now contents) d) × ((t : ℕ) → result ≡ At t → t < 2 ^ 63) }
+    ensures { ((d : Early) → greatest ≡ finish (plan_of sheet.now contents) d → result ≡ end (plan_of sheet.now contents) d) × ((t : ℕ) → result ≡ Ok t → t < 2 ^ 63) }
 {
     match project::fields::read_optional_date(sheet, 9) {
-        OptionalDate::On(day) => {
+        Some(day) => {
             let origin = dates::origin_of(sheet, contents);
             placing::bounded(origin, day.midnight() + 1440)
         }
-        OptionalDate::Absent => Walk::At(greatest),
+        None => Ok(greatest),
     }
 }
 
@@ -103,19 +99,20 @@ fn place_unfinished(
     last: u64,
     i: usize,
     actual: Actual,
-) -> Step
+) -> Result<(), ClockError>
     requires { Ready sheet.now contents places.now t work.old × (i < contents.activities) × (actual ≡ recorded (plan_of sheet.now contents) i) }
     ensures { (ended (late_in (plan_of sheet.now contents) (state_of contents.activities contents.links work.new) last) result ≡ unfinished_late (plan_of sheet.now contents) (early_in (plan_of sheet.now contents) (state_of contents.activities contents.links work.old)) (late_in (plan_of sheet.now contents) (state_of contents.activities contents.links work.old) last) i last) × Frame 10 12 0 0 (state_of contents.activities contents.links work.old) (state_of contents.activities contents.links work.new) × (length work.new ≡ length work.old) }
 {
-    match late::late_of(sheet, contents, places, t, work, i, actual, last) {
-        LateDates::Dates(start, finish) => {
-            store_late(work, contents.activities, contents.links, i, start, finish);
-            return Step::Done;
-        }
-        LateDates::Refused(k) => {
-            return Step::Refused(k);
-        }
-    }
+    let dates = late::late_of(sheet, contents, places, t, work, i, actual, last)?;
+    store_late(
+        work,
+        contents.activities,
+        contents.links,
+        i,
+        dates.start,
+        dates.finish,
+    );
+    Ok(())
 }
 
 // The late dates of activity `i`.
@@ -127,7 +124,7 @@ fn backward_one(
     work: &mut [i64],
     last: u64,
     i: usize,
-) -> Step
+) -> Result<(), ClockError>
     requires { Ready sheet.now contents places.now t work.old × Recorded (plan_of sheet.now contents) (state_of contents.activities contents.links work.old) × (i < contents.activities) }
     ensures { (ended (late_in (plan_of sheet.now contents) (state_of contents.activities contents.links work.new) last) result ≡ backward (plan_of sheet.now contents) (early_in (plan_of sheet.now contents) (state_of contents.activities contents.links work.old)) last (late_in (plan_of sheet.now contents) (state_of contents.activities contents.links work.old) last) i) × Frame 10 12 0 0 (state_of contents.activities contents.links work.old) (state_of contents.activities contents.links work.new) × (length work.new ≡ length work.old) }
 {
@@ -138,7 +135,7 @@ fn backward_one(
         return place_unfinished(sheet, contents, places, t, work, last, i, actual);
     };
     keep_early(work, a, l, i);
-    Step::Done
+    Ok(())
 }
 
 // The late dates of all activities, successors first.
@@ -149,7 +146,7 @@ fn backward_all(
     t: usize,
     work: &mut [i64],
     last: u64,
-) -> Step
+) -> Result<(), ClockError>
     requires { Ready sheet.now contents places.now t work.old × Recorded (plan_of sheet.now contents) (state_of contents.activities contents.links work.old) }
     ensures { (ended (late_in (plan_of sheet.now contents) (state_of contents.activities contents.links work.new) last) result ≡ through (backward (plan_of sheet.now contents) (early_in (plan_of sheet.now contents) (state_of contents.activities contents.links work.old)) last) (reverse (order (plan_of sheet.now contents))) (late_in (plan_of sheet.now contents) (state_of contents.activities contents.links work.old) last)) × Frame 10 12 0 0 (state_of contents.activities contents.links work.old) (state_of contents.activities contents.links work.new) × (length work.new ≡ length work.old) }
 {
@@ -158,15 +155,10 @@ fn backward_all(
     let mut q: usize = 0;
     while q < a {
         let i = memory::get_act(work, a, l, a - (q + 1), memory::fields::ORDER_AT) as usize;
-        match backward_one(sheet, contents, places, t, work, last, i) {
-            Step::Done => {}
-            Step::Refused(k) => {
-                return Step::Refused(k);
-            }
-        }
+        backward_one(sheet, contents, places, t, work, last, i)?;
         q += 1;
     }
-    Step::Done
+    Ok(())
 }
 
 // The backward pass from `last`, the end: the late dates of all activities.
@@ -177,7 +169,7 @@ pub fn backward_pass(
     t: usize,
     work: &mut [i64],
     last: u64,
-) -> Step
+) -> Result<(), ClockError>
     requires { Ready sheet.now contents places.now t work.old × Recorded (plan_of sheet.now contents) (state_of contents.activities contents.links work.old) × (last < 2 ^ 63) }
     ensures { (ended (late_in (plan_of sheet.now contents) (state_of contents.activities contents.links work.new) last) result ≡ through (backward (plan_of sheet.now contents) (early_in (plan_of sheet.now contents) (state_of contents.activities contents.links work.old)) last) (reverse (order (plan_of sheet.now contents))) (record { ls = λ i. last; lf = λ i. last })) × Frame 10 12 0 0 (state_of contents.activities contents.links work.old) (state_of contents.activities contents.links work.new) × (length work.new ≡ length work.old) }
 {

@@ -1,8 +1,8 @@
 -- A kept link's bound from what stands in the memory: the link itself, its predecessor's dates, and what is recorded of it.
-use Rattle.std.specs.Prelude.{◌≡◌, List, ℕ, ◌+◌, ◌^◌, ◌≤◌, ◌<◌, ℤ}
+use Rattle.std.specs.Prelude.{◌≡◌, List, ℕ, ◌+◌, ◌^◌, ◌≤◌, ◌<◌, ℤ, Result}
+use Rattle.worktime.specs.declared.ClockError.{ClockError}
 use Rattle.std.proofs.Common.{sym, ap, ap₂, ◌∙◌, arith}
 use Rattle.number.specs.Zed.{up, dn}
-use Rattle.worktime.specs.declared.Walk.{Walk}
 use Rattle.placing.specs.declared.Actual.{Actual}
 use Rattle.memory.specs.State.{State, state_of}
 use Rattle.memory.specs.Fields.{early_start, early_finish}
@@ -52,7 +52,7 @@ module _ {s : List ℕ} {c : Contents} {places : List ℕ} {t : ℕ} {xs : List 
     within : τ.from < (plan_of s c).activities
     within = omega (arith, from_in, activities_are s c)
 
-    pub link_bound_is : (a : Actual) (es₀ es ef : ℕ) (r : Walk) → a ≡ actual_in S τ.from → es₀ ≡ S.act early_start τ.from
+    pub link_bound_is : (a : Actual) (es₀ es ef : ℕ) (r : Result ℕ ClockError) → a ≡ actual_in S τ.from → es₀ ≡ S.act early_start τ.from
         → ((q : Plan) → es ≡ begun q a es₀) → ef ≡ S.act early_finish τ.from → r ≡ forward_bound p (as_tie τ) es ef
         → r ≡ link_bound p (early_in p S) k
     link_bound_is a es₀ es ef r f g h m q =

@@ -18,7 +18,7 @@ use calendar::Period;
 use dates::Tie;
 use project::{Activity, RelationshipType};
 use sheet::Contents;
-use worktime::Walk;
+use worktime::ClockError;
 
 // The end of the predecessor from which a link counts.
 pub fn source_of(kind: RelationshipType, es: u64, ef: u64) -> u64
@@ -42,23 +42,19 @@ pub fn start_for(
     left: u64,
     kind: RelationshipType,
     b: u64,
-) -> Walk
+) -> Result<u64, ClockError>
     requires { Valid week sheet.now at n }
     ensures { (p : Plan) (i : ℕ) → own p i ≡ worked_on week sheet.now at n → result ≡ start_for p i left kind b }
 {
     match kind {
-        RelationshipType::FinishToStart => {
-            return Walk::At(b);
-        }
-        RelationshipType::StartToStart => {
-            return Walk::At(b);
-        }
-        RelationshipType::FinishToFinish => {
-            return placing::start_for_finish(activity, week, sheet, at, n, left, b);
-        }
-        RelationshipType::StartToFinish => {
-            return placing::start_for_finish(activity, week, sheet, at, n, left, b);
-        }
+        RelationshipType::FinishToStart => Ok(b),
+        RelationshipType::StartToStart => Ok(b),
+        RelationshipType::FinishToFinish => placing::start_for_finish(
+            activity, week, sheet, at, n, left, b,
+        ),
+        RelationshipType::StartToFinish => placing::start_for_finish(
+            activity, week, sheet, at, n, left, b,
+        ),
     }
 }
 
@@ -70,21 +66,15 @@ pub fn forward_bound(
     tie: Tie,
     es: u64,
     ef: u64,
-) -> Walk
+) -> Result<u64, ClockError>
     requires { SheetRead sheet.now contents × Places sheet.now contents places.now × (dn tie.lag < 2 ^ 63) }
     ensures { result ≡ forward_bound (plan_of sheet.now contents) (as_tie tie) es ef }
 {
     let kind = tie.kind;
     let source = source_of(kind, es, ef);
-    match dates::shifted(sheet, contents, places, tie.calendar, source, tie.lag) {
-        Walk::At(t) => {
-            let origin = dates::origin_of(sheet, contents);
-            return placing::bounded(origin, t);
-        }
-        Walk::Refused(k) => {
-            return Walk::Refused(k);
-        }
-    }
+    let t = dates::shifted(sheet, contents, places, tie.calendar, source, tie.lag)?;
+    let origin = dates::origin_of(sheet, contents);
+    placing::bounded(origin, t)
 }
 
 // The bound of the kept link in row `k`: its predecessor's start as recorded once begun.
@@ -95,7 +85,7 @@ pub fn link_bound(
     t: usize,
     work: &[i64],
     k: usize,
-) -> Walk
+) -> Result<u64, ClockError>
     requires { Ready sheet.now contents places.now t work.now × Recorded (plan_of sheet.now contents) (state_of contents.activities contents.links work.now) × (k < t) }
     ensures { result ≡ link_bound (plan_of sheet.now contents) (early_in (plan_of sheet.now contents) (state_of contents.activities contents.links work.now)) k }
 {

@@ -1,5 +1,6 @@
 -- Where a walk back ends: within an E record, on a day without one, or before the years that may be read.
-use Rattle.std.specs.Prelude.{◌≡◌, refl, Bool, true, List, [], ℕ, ◌+◌, ◌-◌, ◌*◌, ◌/◌, ◌%◌, ◌≤◌, ◌<◌, get_or}
+use Rattle.std.specs.Prelude.{◌≡◌, refl, Bool, true, List, [], ℕ, ◌+◌, ◌-◌, ◌*◌, ◌/◌, ◌%◌, ◌≤◌, ◌<◌, get_or, Ok, Err}
+use Rattle.worktime.specs.declared.ClockError.TheVariants.{TooLong}
 use Rattle.std.proofs.Common.{sym, ap, ◌∙◌, ⊎_elim, arith, mul-le-mul_right}
 use Rattle.number.specs.Order.{lt_or_le}
 use Rattle.date.specs.Days.{weekday}
@@ -8,10 +9,8 @@ use Rattle.calendar.specs.declared.Period.{Period}
 use Rattle.calendar.specs.Hours.{rank, select}
 use Rattle.calendar.specs.Records.{exception_day, exception_period, hours_on, Valid}
 use Rattle.calendar.specs.DayLaws.{hours_week}
-use Rattle.worktime.specs.declared.Walk.{Walk}
-use Rattle.worktime.specs.declared.Walk.TheVariants.{At, Refused}
 use Rattle.worktime.specs.Worked.{count}
-use Rattle.worktime.specs.Walks.{too_long, first_minute, end_minute, retreat}
+use Rattle.worktime.specs.Walks.{first_minute, end_minute, retreat}
 use Rattle.worktime.specs.Count.{count_mono, count_lt, count_le, reach, start_le}
 use Rattle.worktime.proofs.Shift.{retreat_at, retreat_none}
 use Rattle.clock.specs.On.{worked_on}
@@ -42,25 +41,25 @@ module _ {week : List (List Period)} {s : List ℕ} {at n : ℕ} (valid : Valid 
         (rw e at m.opens, whole _ (record_work s at (j - 1)) left work start passed _ _ _ (rw e at m.less) (b.record_last p) fewer is short enough refl, omega arith, omega (arith, m.high))
 
     module _ (x : ℕ) (ex : x ≡ exception_day s at (j - 1)) where
-      pub record_refuses : x < first_day → Refused too_long ≡ retreat (worked_on week s at n) (d * 1440) work
+      pub record_refuses : x < first_day → Err TooLong ≡ retreat (worked_on week s at n) (d * 1440) work
       record_refuses l = let r = record_back in sym (retreat_early (worked_on week s at n) (d * 1440) work _ (omega arith) (omega (arith, r.3)) r.0 r.1)
 
       pub record_answers : (from len : ℕ) → from ≡ (exception_period s at (j - 1)).from → len ≡ record_work s at (j - 1) → first_day ≤ x
-          → At (x * 1440 + from + (len - (work - start))) ≡ retreat (worked_on week s at n) (d * 1440) work
+          → Ok (x * 1440 + from + (len - (work - start))) ≡ retreat (worked_on week s at n) (d * 1440) work
       record_answers from len ef el l =
           let r = record_back in
           rw (ex, ef, el) (sym (retreat_at (worked_on week s at n) (omega arith) (omega (arith, r.2)) early r.0 r.1))
 
   -- ---- on a day after it
   module _ (start : ℕ) (is : 0 < j → start ≡ passed + (over - regular ss (exception_day s at (j - 1) + 1))) (long : 0 < j → work ≤ start) where
-    refuses : (0 < j → (exception_day s at (j - 1) < first_day) × (exception_day s at (j - 1) < b.next)) → over < regular ss first_day + (work - passed) → Refused too_long ≡ retreat (worked_on week s at n) (d * 1440) work
+    refuses : (0 < j → (exception_day s at (j - 1) < first_day) × (exception_day s at (j - 1) < b.next)) → over < regular ss first_day + (work - passed) → Err TooLong ≡ retreat (worked_on week s at n) (d * 1440) work
     refuses after l =
         sym
         (retreat_none (worked_on week s at n) (d * 1440) work (omega arith)
         (⊎_elim (λ k. omega (arith, b.days b.next (omega arith) (λ p. (after p).1), b.is, count_mono (worked_on week s at n) {s = b.next * 1440} {t = first_minute} (omega arith)))
         (λ k. omega (arith, b.days first_day k (λ p. (after p).0))) (lt_or_le b.next first_day)))
 
-    pub over_refuses : over < work - passed → Refused too_long ≡ retreat (worked_on week s at n) (d * 1440) work
+    pub over_refuses : over < work - passed → Err TooLong ≡ retreat (worked_on week s at n) (d * 1440) work
     over_refuses l = refuses (λ p. absurd (omega (arith, is p, long p))) (omega arith)
 
     module _ (r : ℕ) (enough : work - passed ≤ over) (low : sums_before ss r ≤ over - (work - passed)) (high : over - (work - passed) < sums_with ss r) where
@@ -72,13 +71,13 @@ module _ {week : List (List Period)} {s : List ℕ} {at n : ℕ} (valid : Valid 
           let l : regular ss (exception_day s at (j - 1) + 1) ≤ over - (work - passed) = omega (arith, is p, long p) in
           (regular_lt_lt sums (omega (arith, l, day_high sums r (over - (work - passed)) high)), regular_lt_lt sums (omega (arith, l, before_next)))
 
-      pub day_refuses : r ≤ first_day → Refused too_long ≡ retreat (worked_on week s at n) (d * 1440) work
+      pub day_refuses : r ≤ first_day → Err TooLong ≡ retreat (worked_on week s at n) (d * 1440) work
       day_refuses l =
           refuses (λ p. let a = after_record p in (omega (arith, a), omega (arith, a)))
           (omega (arith, day_high sums r (over - (work - passed)) high, regular_le sums l))
 
       pub day_answers : first_day < r → (k m : ℕ) → k ≡ over - (work - passed) - (sums_before ss r) + 1 → m ≡ select (get_or week (r % 7) []) k
-          → At ((r - 1) * 1440 + m - 1) ≡ retreat (worked_on week s at n) (d * 1440) work
+          → Ok ((r - 1) * 1440 + m - 1) ≡ retreat (worked_on week s at n) (d * 1440) work
       day_answers l k m ek em =
           let o = behind_weekday sums j _ over (over - (work - passed)) r low high b (omega arith) (λ p. omega (arith, is p, long p)) (omega arith) in
           let f = hand_select (hours_on week s at n) (r - 1) (valid.ordered (r - 1)) _ (sym o.hours) k m (omega arith) (omega (arith, ek, day_some sums r, high, low)) em in

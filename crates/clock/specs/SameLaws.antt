@@ -1,11 +1,10 @@
 -- Walks that come to the same count are the same, from whichever times they go; and where they are refused.
-use Rattle.std.specs.Prelude.{◌≡◌, Bool, true, ℕ, ◌+◌, ◌-◌, ◌≤◌, ◌<◌}
+use Rattle.std.specs.Prelude.{◌≡◌, Bool, true, ℕ, ◌+◌, ◌-◌, ◌≤◌, ◌<◌, Err}
+use Rattle.worktime.specs.declared.ClockError.TheVariants.{TooLong}
 use Rattle.std.proofs.Common.{sym, ◌∙◌, ⊎_elim, arith}
 use Rattle.number.specs.Order.{lt_or_le}
-use Rattle.worktime.specs.declared.Walk.{Walk}
-use Rattle.worktime.specs.declared.Walk.TheVariants.{Refused}
 use Rattle.worktime.specs.Worked.{count}
-use Rattle.worktime.specs.Walks.{too_long, first_minute, end_minute, advance, retreat}
+use Rattle.worktime.specs.Walks.{first_minute, end_minute, advance, retreat}
 use Rattle.worktime.specs.Count.{count_worked, count_lt, count_le, closing_suc, reach, start_le}
 use Rattle.worktime.proofs.Shift.{advance_at, advance_none, retreat_at, retreat_none}
 
@@ -28,12 +27,12 @@ module _ (w : ℕ → Bool) where
       retreat_at w pm a lt r.2 (omega arith) ∙ sym (retreat_at w pn a lu r.2 (omega (arith, e)))) (lt_or_le (count w t) (count w first_minute + m))
 
   -- the minute is before the years that may be read
-  pub retreat_early : (t n u : ℕ) → 0 < n → u < first_minute → w u ≡ true → count w u + n ≡ count w t → retreat w t n ≡ Refused too_long
+  pub retreat_early : (t n u : ℕ) → 0 < n → u < first_minute → w u ≡ true → count w u + n ≡ count w t → retreat w t n ≡ Err TooLong
   retreat_early t n u p l h c = retreat_none w t n p (omega (arith, c, count_lt w h l))
 
   -- no more minutes are counted than pass
-  pub retreat_many : {t n : ℕ} → t < n → retreat w t n ≡ Refused too_long
+  pub retreat_many : {t n : ℕ} → t < n → retreat w t n ≡ Err TooLong
   retreat_many {t} {n} l = retreat_none w t n (omega arith) (omega (arith, count_le w t))
 
-  pub advance_many : (t : ℕ) {n : ℕ} → end_minute < n → advance w t n ≡ Refused too_long
+  pub advance_many : (t : ℕ) {n : ℕ} → end_minute < n → advance w t n ≡ Err TooLong
   advance_many t {n} l = advance_none w t n (omega arith) (omega (arith, count_le w end_minute))

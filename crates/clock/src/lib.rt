@@ -11,13 +11,10 @@ ghost use Rattle.worktime.specs.Worked.{count};
 ghost use Rattle.worktime.specs.Walks.{end_minute, next_start, previous_finish, next_finish, working_at, previous_start, start_by, advance, retreat, shift, between, day_work, worked_before};
 
 use calendar::{Found, Period};
-use worktime::{Walk, Work, Working};
+use worktime::ClockError;
 
 mod records;
 mod weeks;
-
-// Row 8 of 01's table: too long.
-pub const TOO_LONG: u64 = 8;
 
 const FIRST_DAY: u64 = 2143112061;
 
@@ -27,14 +24,20 @@ const LAST_DAY: u64 = 2150416544;
 const MANY: u64 = 6184752906240;
 
 // The least worked minute at or after `t`.
-pub fn next_start(week: [[Period; 8]; 7], sheet: &[u8], at: usize, n: usize, t: u64) -> Walk
+pub fn next_start(
+    week: [[Period; 8]; 7],
+    sheet: &[u8],
+    at: usize,
+    n: usize,
+    t: u64,
+) -> Result<u64, ClockError>
     requires { Valid week sheet.now at n }
     ensures { result ≡ next_start (worked_on week sheet.now at n) t }
 {
     let mut d = t / 1440;
     let mut m = t % 1440;
     if d < FIRST_DAY {
-        return Walk::Refused(TOO_LONG);
+        return Err(ClockError::TooLong);
     }
     let mut from = calendar::first_from(sheet, at, n, d);
     while d <= LAST_DAY {
@@ -42,26 +45,32 @@ pub fn next_start(week: [[Period; 8]; 7], sheet: &[u8], at: usize, n: usize, t: 
         let hours = calendar::hours_from(row, sheet, at, n, d, from);
         match calendar::day_next(hours, sheet, m) {
             Found::At(x) => {
-                return Walk::At(d * 1440 + x);
-            }
-            Found::Nothing => {}
+                return Ok(d * 1440 + x);
+            },
+            Found::Nothing => {},
         }
         from += hours.n;
         d += 1;
         m = 0;
     }
-    Walk::Refused(TOO_LONG)
+    Err(ClockError::TooLong)
 }
 
 // The greatest closing minute at or before `t`.
-pub fn previous_finish(week: [[Period; 8]; 7], sheet: &[u8], at: usize, n: usize, t: u64) -> Walk
+pub fn previous_finish(
+    week: [[Period; 8]; 7],
+    sheet: &[u8],
+    at: usize,
+    n: usize,
+    t: u64,
+) -> Result<u64, ClockError>
     requires { Valid week sheet.now at n }
     ensures { result ≡ previous_finish (worked_on week sheet.now at n) t }
 {
     let mut d = t / 1440;
     let mut m = t % 1440;
     if LAST_DAY < d {
-        return Walk::Refused(TOO_LONG);
+        return Err(ClockError::TooLong);
     }
     let mut to = calendar::first_from(sheet, at, n, d + 1);
     while FIRST_DAY <= d {
@@ -69,97 +78,107 @@ pub fn previous_finish(week: [[Period; 8]; 7], sheet: &[u8], at: usize, n: usize
         let hours = calendar::hours_to(row, sheet, at, n, d, to);
         let done = calendar::day_rank(hours, sheet, m);
         if 0 < done {
-            return Walk::At(d * 1440 + calendar::day_select(hours, sheet, done));
+            return Ok(d * 1440 + calendar::day_select(hours, sheet, done));
         }
         to -= hours.n;
         d -= 1;
         m = 1440;
     }
-    Walk::Refused(TOO_LONG)
+    Err(ClockError::TooLong)
 }
 
 // Whether `t` is a worked minute.
-pub fn working_at(week: [[Period; 8]; 7], sheet: &[u8], at: usize, n: usize, t: u64) -> Working
+pub fn working_at(
+    week: [[Period; 8]; 7],
+    sheet: &[u8],
+    at: usize,
+    n: usize,
+    t: u64,
+) -> Result<bool, ClockError>
     requires { Valid week sheet.now at n }
     ensures { result ≡ working_at (worked_on week sheet.now at n) t }
 {
     let d = t / 1440;
     let m = t % 1440;
     if d < FIRST_DAY {
-        return Working::Refused(TOO_LONG);
+        return Err(ClockError::TooLong);
     }
     if LAST_DAY < d {
-        return Working::Refused(TOO_LONG);
+        return Err(ClockError::TooLong);
     }
     let row = week[((d + 1) % 7) as usize];
     let hours = calendar::hours_on(row, sheet, at, n, d);
     match calendar::day_next(hours, sheet, m) {
         Found::At(x) => {
             if x == m {
-                return Working::Is(true);
+                return Ok(true);
             }
-            Working::Is(false)
+            Ok(false)
         }
-        Found::Nothing => Working::Is(false),
+        Found::Nothing => Ok(false),
     }
 }
 
 // `t` if it is closing, else the next start; `t`'s day is read, and the day of the minute before.
-pub fn next_finish(week: [[Period; 8]; 7], sheet: &[u8], at: usize, n: usize, t: u64) -> Walk
+pub fn next_finish(
+    week: [[Period; 8]; 7],
+    sheet: &[u8],
+    at: usize,
+    n: usize,
+    t: u64,
+) -> Result<u64, ClockError>
     requires { Valid week sheet.now at n }
     ensures { result ≡ next_finish (worked_on week sheet.now at n) t }
 {
     let d = t / 1440;
     if d < FIRST_DAY {
-        return Walk::Refused(TOO_LONG);
+        return Err(ClockError::TooLong);
     }
     if LAST_DAY < d {
-        return Walk::Refused(TOO_LONG);
+        return Err(ClockError::TooLong);
     }
-    match working_at(week, sheet, at, n, t - 1) {
-        Working::Is(closing) => {
-            if closing {
-                return Walk::At(t);
-            }
-            next_start(week, sheet, at, n, t)
-        }
-        Working::Refused(k) => Walk::Refused(k),
+    let closing = working_at(week, sheet, at, n, t - 1)?;
+    if closing {
+        return Ok(t);
     }
+    next_start(week, sheet, at, n, t)
 }
 
 // `t` if it is worked, else the next start: the same moment, since no work lies between.
-pub fn previous_start(week: [[Period; 8]; 7], sheet: &[u8], at: usize, n: usize, t: u64) -> Walk
+pub fn previous_start(
+    week: [[Period; 8]; 7],
+    sheet: &[u8],
+    at: usize,
+    n: usize,
+    t: u64,
+) -> Result<u64, ClockError>
     requires { Valid week sheet.now at n }
     ensures { result ≡ previous_start (worked_on week sheet.now at n) t }
 {
-    match working_at(week, sheet, at, n, t) {
-        Working::Is(worked) => {
-            if worked {
-                return Walk::At(t);
-            }
-            next_start(week, sheet, at, n, t)
-        }
-        Working::Refused(k) => Walk::Refused(k),
+    let worked = working_at(week, sheet, at, n, t)?;
+    if worked {
+        return Ok(t);
     }
+    next_start(week, sheet, at, n, t)
 }
 
 // `t` if it is worked, else the minute before the previous finish: for a date that a start must not pass.
-pub fn start_by(week: [[Period; 8]; 7], sheet: &[u8], at: usize, n: usize, t: u64) -> Walk
+pub fn start_by(
+    week: [[Period; 8]; 7],
+    sheet: &[u8],
+    at: usize,
+    n: usize,
+    t: u64,
+) -> Result<u64, ClockError>
     requires { Valid week sheet.now at n }
     ensures { result ≡ start_by (worked_on week sheet.now at n) t }
 {
-    match working_at(week, sheet, at, n, t) {
-        Working::Is(worked) => {
-            if worked {
-                return Walk::At(t);
-            }
-            match previous_finish(week, sheet, at, n, t) {
-                Walk::At(f) => Walk::At(f - 1),
-                Walk::Refused(k) => Walk::Refused(k),
-            }
-        }
-        Working::Refused(k) => Walk::Refused(k),
+    let worked = working_at(week, sheet, at, n, t)?;
+    if worked {
+        return Ok(t);
     }
+    let f = previous_finish(week, sheet, at, n, t)?;
+    Ok(f - 1)
 }
 
 // The closing minute with `work` worked minutes from the beginning of day `d` on; `from` is the first E record whose day is `d` or later.
@@ -171,7 +190,7 @@ fn advance_from(
     d: u64,
     from: usize,
     work: u64,
-) -> Walk
+) -> Result<u64, ClockError>
     requires { Valid week sheet.now at n × FirstFrom sheet.now at n d from × (first_day ≤ d) × (d < end_day) × (0 < work) × (work < 2 ^ 47) }
     ensures { result ≡ advance (worked_on week sheet.now at n) (d * 1440) work }
 {
@@ -182,43 +201,50 @@ fn advance_from(
         if stand.start < work {
             let day = calendar::exception_day(sheet, at, j);
             if LAST_DAY < day {
-                return Walk::Refused(TOO_LONG);
+                return Err(ClockError::TooLong);
             }
             let period = calendar::exception_period(sheet, at, j);
-            return Walk::At(day * 1440 + period.from as u64 + (work - stand.start));
+            return Ok(day * 1440 + period.from as u64 + (work - stand.start));
         }
     }
     if sums[7] == 0 {
-        return Walk::Refused(TOO_LONG);
+        return Err(ClockError::TooLong);
     }
     let p = stand.over + (work - stand.passed) - 1;
     let next = weeks::day_after(sums, p);
     if LAST_DAY + 1 < next {
-        return Walk::Refused(TOO_LONG);
+        return Err(ClockError::TooLong);
     }
     let k = (next % 7) as usize;
     let row = week[k];
     let before = sums[7] * (next / 7) + sums[k];
-    Walk::At((next - 1) * 1440 + calendar::row_select(row, p - before + 1))
+    Ok((next - 1) * 1440 + calendar::row_select(row, p - before + 1))
 }
 
 // The closing minute with `work` worked minutes from `t`, and `t` itself for none.
-pub fn advance(week: [[Period; 8]; 7], sheet: &[u8], at: usize, n: usize, t: u64, work: u64) -> Walk
+pub fn advance(
+    week: [[Period; 8]; 7],
+    sheet: &[u8],
+    at: usize,
+    n: usize,
+    t: u64,
+    work: u64,
+) -> Result<u64, ClockError>
     requires { Valid week sheet.now at n }
     ensures { result ≡ advance (worked_on week sheet.now at n) t work }
 {
     if work == 0 {
-        return Walk::At(t);
+        return Ok(t);
     }
     let d = t / 1440;
     if d < FIRST_DAY {
-        return Walk::Refused(TOO_LONG);
+        return Err(ClockError::TooLong);
     }
     if LAST_DAY < d {
-        return Walk::Refused(TOO_LONG);
+        return Err(ClockError::TooLong);
     }
     if MANY < work {
-        return Walk::Refused(TOO_LONG);
+        return Err(ClockError::TooLong);
     }
     let from = calendar::first_from(sheet, at, n, d);
     let row = week[((d + 1) % 7) as usize];
@@ -236,7 +262,7 @@ fn retreat_from(
     d: u64,
     from: usize,
     work: u64,
-) -> Walk
+) -> Result<u64, ClockError>
     requires { Valid week sheet.now at n × FirstFrom sheet.now at n d from × (first_day ≤ d) × (d < end_day) × (0 < work) × (work < 2 ^ 47) }
     ensures { result ≡ retreat (worked_on week sheet.now at n) (d * 1440) work }
 {
@@ -247,58 +273,72 @@ fn retreat_from(
         if stand.start < work {
             let day = calendar::exception_day(sheet, at, j - 1);
             if day < FIRST_DAY {
-                return Walk::Refused(TOO_LONG);
+                return Err(ClockError::TooLong);
             }
             let period = calendar::exception_period(sheet, at, j - 1);
             let left = calendar::exception_work(sheet, at, j - 1) - (work - stand.start);
-            return Walk::At(day * 1440 + period.from as u64 + left);
+            return Ok(day * 1440 + period.from as u64 + left);
         }
     }
     let rest = work - stand.passed;
     if stand.over < rest {
-        return Walk::Refused(TOO_LONG);
+        return Err(ClockError::TooLong);
     }
     let p = stand.over - rest;
     let next = weeks::day_after(sums, p);
     if next <= FIRST_DAY {
-        return Walk::Refused(TOO_LONG);
+        return Err(ClockError::TooLong);
     }
     let k = (next % 7) as usize;
     let row = week[k];
     let before = sums[7] * (next / 7) + sums[k];
-    Walk::At((next - 1) * 1440 + calendar::row_select(row, p - before + 1) - 1)
+    Ok((next - 1) * 1440 + calendar::row_select(row, p - before + 1) - 1)
 }
 
 // The worked minute with `work` worked minutes from it up to `t`, and `t` itself for none.
-pub fn retreat(week: [[Period; 8]; 7], sheet: &[u8], at: usize, n: usize, t: u64, work: u64) -> Walk
+pub fn retreat(
+    week: [[Period; 8]; 7],
+    sheet: &[u8],
+    at: usize,
+    n: usize,
+    t: u64,
+    work: u64,
+) -> Result<u64, ClockError>
     requires { Valid week sheet.now at n }
     ensures { result ≡ retreat (worked_on week sheet.now at n) t work }
 {
     if work == 0 {
-        return Walk::At(t);
+        return Ok(t);
     }
     let d = t / 1440;
     if d < FIRST_DAY {
-        return Walk::Refused(TOO_LONG);
+        return Err(ClockError::TooLong);
     }
     if LAST_DAY < d {
-        return Walk::Refused(TOO_LONG);
+        return Err(ClockError::TooLong);
     }
     if MANY < work {
-        return Walk::Refused(TOO_LONG);
+        return Err(ClockError::TooLong);
     }
     let from = calendar::first_from(sheet, at, n, d);
     let row = week[((d + 1) % 7) as usize];
     let hours = calendar::hours_from(row, sheet, at, n, d, from);
     let done = calendar::day_rank(hours, sheet, t % 1440);
     if work <= done {
-        return Walk::At(d * 1440 + calendar::day_select(hours, sheet, done - work + 1) - 1);
+        return Ok(d * 1440 + calendar::day_select(hours, sheet, done - work + 1) - 1);
     }
     retreat_from(week, sheet, at, n, d, from, work - done)
 }
 
 // `t` moved by `lag` worked minutes: forward for a lag, back for a lead.
-pub fn shift(week: [[Period; 8]; 7], sheet: &[u8], at: usize, n: usize, t: u64, lag: i64) -> Walk
+pub fn shift(
+    week: [[Period; 8]; 7],
+    sheet: &[u8],
+    at: usize,
+    n: usize,
+    t: u64,
+    lag: i64,
+) -> Result<u64, ClockError>
     requires { Valid week sheet.now at n × (dn lag < 2 ^ 63) }
     ensures { result ≡ shift (worked_on week sheet.now at n) t lag }
 {
@@ -310,37 +350,49 @@ pub fn shift(week: [[Period; 8]; 7], sheet: &[u8], at: usize, n: usize, t: u64, 
 }
 
 // The minutes worked on day `d`.
-pub fn day_work(week: [[Period; 8]; 7], sheet: &[u8], at: usize, n: usize, d: u64) -> Work
+pub fn day_work(
+    week: [[Period; 8]; 7],
+    sheet: &[u8],
+    at: usize,
+    n: usize,
+    d: u64,
+) -> Result<i64, ClockError>
     requires { Valid week sheet.now at n }
     ensures { result ≡ day_work (worked_on week sheet.now at n) d }
 {
     if d < FIRST_DAY {
-        return Work::Refused(TOO_LONG);
+        return Err(ClockError::TooLong);
     }
     if LAST_DAY < d {
-        return Work::Refused(TOO_LONG);
+        return Err(ClockError::TooLong);
     }
     let row = week[((d + 1) % 7) as usize];
     let hours = calendar::hours_on(row, sheet, at, n, d);
-    Work::Minutes(calendar::day_rank(hours, sheet, 1440) as i64)
+    Ok(calendar::day_rank(hours, sheet, 1440) as i64)
 }
 
 // The minutes worked on `t`'s day before `t`.
-pub fn worked_before(week: [[Period; 8]; 7], sheet: &[u8], at: usize, n: usize, t: u64) -> Work
+pub fn worked_before(
+    week: [[Period; 8]; 7],
+    sheet: &[u8],
+    at: usize,
+    n: usize,
+    t: u64,
+) -> Result<i64, ClockError>
     requires { Valid week sheet.now at n }
     ensures { result ≡ worked_before (worked_on week sheet.now at n) t }
 {
     let d = t / 1440;
     let m = t % 1440;
     if d < FIRST_DAY {
-        return Work::Refused(TOO_LONG);
+        return Err(ClockError::TooLong);
     }
     if LAST_DAY < d {
-        return Work::Refused(TOO_LONG);
+        return Err(ClockError::TooLong);
     }
     let row = week[((d + 1) % 7) as usize];
     let hours = calendar::hours_on(row, sheet, at, n, d);
-    Work::Minutes(calendar::day_rank(hours, sheet, m) as i64)
+    Ok(calendar::day_rank(hours, sheet, m) as i64)
 }
 
 // The minutes of days in a row, and the first E record whose day is after them.
@@ -413,18 +465,25 @@ fn work_to(week: [[Period; 8]; 7], sheet: &[u8], at: usize, n: usize, a: u64, b:
 }
 
 // The minutes worked from `a` to `b`: negative where `b` comes first.
-pub fn between(week: [[Period; 8]; 7], sheet: &[u8], at: usize, n: usize, a: u64, b: u64) -> Work
+pub fn between(
+    week: [[Period; 8]; 7],
+    sheet: &[u8],
+    at: usize,
+    n: usize,
+    a: u64,
+    b: u64,
+) -> Result<i64, ClockError>
     requires { Valid week sheet.now at n }
     ensures { result ≡ between (worked_on week sheet.now at n) a b }
 {
     if date::in_years(a / 1440) {
         if date::in_years(b / 1440) {
             if a <= b {
-                return Work::Minutes(work_to(week, sheet, at, n, a, b) as i64);
+                return Ok(work_to(week, sheet, at, n, a, b) as i64);
             }
-            return Work::Minutes(number::sign::difference(work_to(week, sheet, at, n, b, a), 0));
+            return Ok(number::sign::difference(work_to(week, sheet, at, n, b, a), 0));
         }
-        return Work::Refused(TOO_LONG);
+        return Err(ClockError::TooLong);
     }
-    Work::Refused(TOO_LONG)
+    Err(ClockError::TooLong)
 }

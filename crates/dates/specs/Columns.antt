@@ -1,12 +1,11 @@
 -- The dates that stand in the lent memory, as the passes' definitions have them: functions of the activity.
-use Rattle.std.specs.Prelude.{Bool, true, false, ℕ, ltb}
+use Rattle.std.specs.Prelude.{Bool, true, false, ℕ, ltb, Result, Ok, Err}
+use Rattle.worktime.specs.declared.ClockError.{ClockError}
 use Rattle.memory.specs.State.{State}
 use Rattle.memory.specs.Fields.{late_start, late_finish, early_start, early_finish, work_left, free_float, longest_path}
 use Rattle.order.specs.Plan.{Plan}
 use Rattle.passes.specs.Plan.{origin}
 use Rattle.passes.specs.Dates.{Early, Late, Pass, leaves, refused}
-use Rattle.dates.specs.declared.Step.{Step}
-use Rattle.dates.specs.declared.Step.TheVariants.{Done}
 
 -- field f of the first n activities, and `other` past them
 abbrev pub column : ℕ → (ℕ → ℕ) → State → ℕ → ℕ → ℕ
@@ -41,6 +40,6 @@ module _ (p : Plan) (S : State) where
   path_in other = flags p.activities other S longest_path
 
 -- what a pass's code leaves and answers, as its definition has it
-abbrev pub ended : {A : Type 0} → A → Step → Pass A
-ended x Done = leaves x
-ended x (Step.Refused k) = refused k
+abbrev pub ended : {A : Type 0} → A → Result Unit ClockError → Pass A
+ended x (Ok tt) = leaves x
+ended x (Err k) = refused k

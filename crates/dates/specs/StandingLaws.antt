@@ -1,5 +1,6 @@
 -- What stands for the passes stays under their frames; what is recorded is no refusal; the chains list the links of the definitions.
 use Rattle.std.specs.Prelude.{◌≡◌, refl, Bool, true, false, ℕ, ◌-◌, ◌≤◌, ◌<◌, eqb, length}
+use Rattle.worktime.specs.declared.ClockError.{ClockError}
 use Rattle.std.proofs.Math.Path.{sym, ap}
 use Rattle.std.proofs.Common.{◌∙◌}
 use native.Mathlib.Omega.{arith}
@@ -55,7 +56,7 @@ module _ {lo hi : ℕ} {S T : State} (F : Frame lo hi 0 0 S T) where
     }
 
 -- what the memory records is never a refusal
-pub never_refused : (how start finish k : ℕ) → actual_of how start finish ≡ Actual.Refused k → ⊥
+pub never_refused : (how start finish : ℕ) (k : ClockError) → actual_of how start finish ≡ Actual.Refused k → ⊥
 unfolding actual_of
 never_refused how start finish k e = by (eqb how 0) (eqb how 1) e
   where

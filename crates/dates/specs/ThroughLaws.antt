@@ -1,18 +1,17 @@
 -- A pass over a row of activities as a loop takes it: what is left of it from place q on is what there was at the start.
-use Rattle.std.specs.Prelude.{◌≡◌, refl, ℕ, zero, suc, ◌+◌, ◌-◌, ◌≤◌, ◌<◌, length, get_or, drop}
+use Rattle.std.specs.Prelude.{◌≡◌, refl, ℕ, zero, suc, ◌+◌, ◌-◌, ◌≤◌, ◌<◌, length, get_or, drop, Result, Ok, Err}
+use Rattle.worktime.specs.declared.ClockError.{ClockError}
 use Rattle.std.proofs.Common.{sym, ◌∙◌, arith}
 use Rattle.std.proofs.Math.Path.{ap}
 use mathlib.Core.List.{List, [], ◌∷◌}
 use Rattle.passes.specs.Dates.{Pass, leaves, refused, after, through}
-use Rattle.dates.specs.declared.Step.{Step}
-use Rattle.dates.specs.declared.Step.TheVariants.{Done}
 use Rattle.dates.specs.Columns.{ended}
 
 -- ---- `ended` by its answer
-pub ended_done : {A : Type 0} (x : A) (r : Step) → r ≡ Done → ended x r ≡ leaves x
+pub ended_done : {A : Type 0} (x : A) (r : Result Unit ClockError) → r ≡ (Ok tt) → ended x r ≡ leaves x
 ended_done x r e = rw e
 
-pub ended_refused : {A : Type 0} (x : A) (r : Step) (k : ℕ) → r ≡ Step.Refused k → ended x r ≡ refused k
+pub ended_refused : {A : Type 0} (x : A) (r : Result Unit ClockError) (k : ClockError) → r ≡ Err k → ended x r ≡ refused k
 ended_refused x r k e = rw e
 
 drop_next : (rows : List ℕ) (q : ℕ) → q < length rows → drop q rows ≡ get_or rows q 0 ∷ drop (q + 1) rows
@@ -43,17 +42,17 @@ module _ {A : Type 0} (step : A → ℕ → Pass A) (rows : List ℕ) (x₀ : A)
     unfolding through
     next l = ap (λ (is : List ℕ). through step is x) (sym (drop_next rows q l)) ∙ T.left
 
-    module _ (i : ℕ) (at : i ≡ get_or rows q 0) (l : q < length rows) (y : A) (r : Step) (e : ended y r ≡ step x i) where
+    module _ (i : ℕ) (at : i ≡ get_or rows q 0) (l : q < length rows) (y : A) (r : Result Unit ClockError) (e : ended y r ≡ step x i) where
       on : after (ended y r) (through step (drop (q + 1) rows)) ≡ whole
       on = ap (λ (z : Pass A). after z (through step (drop (q + 1) rows))) (e ∙ ap (step x) at) ∙ next l
 
-      pub through_turn : r ≡ Done → Through y (q + 1)
-      through_turn d = record { within = omega arith; left = ap (λ (z : Step). after (ended y z) (through step (drop (q + 1) rows))) (sym d) ∙ on }
+      pub through_turn : r ≡ (Ok tt) → Through y (q + 1)
+      through_turn d = record { within = omega arith; left = ap (λ (z : Result Unit ClockError). after (ended y z) (through step (drop (q + 1) rows))) (sym d) ∙ on }
 
       -- whatever stands in the memory then
-      pub through_stop : (z : A) (k : ℕ) → r ≡ Step.Refused k → ended z (Step.Refused k) ≡ whole
-      through_stop z k d = ap (λ (w : Step). after (ended y w) (through step (drop (q + 1) rows))) (sym d) ∙ on
+      pub through_stop : (z : A) (k : ClockError) → r ≡ Err k → ended z (Err k) ≡ whole
+      through_stop z k d = ap (λ (w : Result Unit ClockError). after (ended y w) (through step (drop (q + 1) rows))) (sym d) ∙ on
 
-    pub through_end : length rows ≤ q → ended x Done ≡ whole
+    pub through_end : length rows ≤ q → ended x (Ok tt) ≡ whole
     unfolding through
     through_end l = ap (λ (is : List ℕ). through step is x) (sym (drop_past rows q l)) ∙ T.left

@@ -13,9 +13,9 @@ ghost use Rattle.calendars.specs.Calendars.{Places};
 ghost use Rattle.dates.specs.Standing.{as_tie, tie_in, actual_in};
 
 use placing::Actual;
-use project::{Activity, OptionalDate, RelationshipType};
+use project::{Activity, RelationshipType};
 use sheet::Contents;
-use worktime::Walk;
+use worktime::ClockError;
 
 // A kept link: the activities at its ends, its type, and its lag in minutes of a calendar.
 #[derive(Clone, Copy)]
@@ -25,13 +25,6 @@ pub struct Tie {
     pub kind: RelationshipType,
     pub lag: i64,
     pub calendar: usize,
-}
-
-// How a pass ends: all of it is done, or a walk was refused.
-#[derive(Clone, Copy)]
-pub enum Step {
-    Done,
-    Refused(u64),
 }
 
 // The link in row `t`.
@@ -108,26 +101,31 @@ pub fn floor_of(sheet: &[u8], contents: Contents) -> u64
 {
     let start = origin_of(sheet, contents);
     match project::fields::read_optional_date(sheet, 5) {
-        OptionalDate::On(d) => {
+        Some(d) => {
             let t = d.midnight();
             if start < t {
                 return t;
             }
-            return start;
+            start
         }
-        OptionalDate::Absent => {
-            return start;
-        }
+        None => start,
     }
 }
 
 // `t` moved by a lag that counts on calendar `k`.
-pub fn shifted(sheet: &[u8], contents: Contents, places: &[u64], k: usize, t: u64, lag: i64) -> Walk
+pub fn shifted(
+    sheet: &[u8],
+    contents: Contents,
+    places: &[u64],
+    k: usize,
+    t: u64,
+    lag: i64,
+) -> Result<u64, ClockError>
     requires { SheetRead sheet.now contents × Places sheet.now contents places.now × (dn lag < 2 ^ 63) }
     ensures { result ≡ shift (worked ((plan_of sheet.now contents).hours k)) t lag }
 {
     if lag == 0 {
-        return Walk::At(t);
+        return Ok(t);
     }
     let week = calendars::week_of(sheet, contents, places, k);
     let e = calendars::exceptions_of(sheet, contents, places, k);

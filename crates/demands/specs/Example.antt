@@ -1,10 +1,8 @@
 -- 01's example at the level of the plan: what the definitions of the passes give it, by evaluation.
-use Rattle.std.specs.Prelude.{◌≡◌, refl, List, [], ◌∷◌, ℕ, zero, suc, ◌+◌, ◌%◌, pos, negsuc, replicate, get_or}
+use Rattle.std.specs.Prelude.{◌≡◌, refl, List, [], ◌∷◌, ℕ, zero, suc, ◌+◌, ◌%◌, pos, negsuc, replicate, get_or, None}
 use Rattle.calendar.specs.declared.Period.{Period}
 use Rattle.calendar.specs.Hours.{none}
 use Rattle.project.specs.declared.ActivityKind.TheVariants.{Task}
-use Rattle.project.specs.declared.OptionalDate.TheVariants.{Absent}
-use Rattle.project.specs.declared.Remaining.{Remaining}
 use Rattle.project.specs.declared.Constraint.TheVariants.{Unconstrained}
 use Rattle.project.specs.declared.RelationshipType.TheVariants.{FinishToStart}
 use Rattle.project.specs.declared.LagKind.TheVariants.{WorkingDays}
@@ -57,13 +55,13 @@ task id minutes = record {
   calendar = 0;
   parent = 0;
   minutes = pos minutes;
-  actual_start = Absent;
-  actual_finish = Absent;
-  remaining = Remaining.Absent;
-  expected_finish = Absent;
+  actual_start = None;
+  actual_finish = None;
+  remaining = None;
+  expected_finish = None;
   constraint = Unconstrained;
   secondary_constraint = Unconstrained;
-  levelled = Absent;
+  levelled = None;
 }
 
 unfoldable pub tasks : ℕ → Activity
@@ -74,8 +72,8 @@ unfoldable pub example : Plan
 example = record {
   project = record {
     start = record { 0 = pos 19723 };
-    data_date = Absent;
-    must_finish_by = Absent;
+    data_date = None;
+    must_finish_by = None;
     lag_calendar = Predecessor;
     float_kind = Finish;
     progress_mode = RetainedLogic;

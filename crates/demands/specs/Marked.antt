@@ -1,14 +1,11 @@
 -- 01's thirteen marked instances: one table, proved by one evaluation of the definitions. "that week": it begins on Monday, day 19723.
-use Rattle.std.specs.Prelude.{◌≡◌, refl, List, [], ◌∷◌, map, ℕ, zero, suc, ℤ, pos, negsuc}
+use Rattle.std.specs.Prelude.{◌≡◌, refl, List, [], ◌∷◌, map, ℕ, zero, suc, ℤ, pos, negsuc, Result, Ok}
+use Rattle.worktime.specs.declared.ClockError.{ClockError}
 use Rattle.number.specs.Sign.{clamp_z, percent_of, whole_days}
 use Rattle.date.specs.Years.{in_years}
 use Rattle.calendar.specs.Hours.{held, worked, works}
 use Rattle.calendar.specs.Records.{hours_on, exceptions_on, weekly_hours}
 use Rattle.clock.specs.Instances.{day, week, w, at}
-use Rattle.worktime.specs.declared.Walk.{Walk}
-use Rattle.worktime.specs.declared.Walk.TheVariants.{At}
-use Rattle.worktime.specs.declared.Work.{Work}
-use Rattle.worktime.specs.declared.Work.TheVariants.{Minutes}
 use Rattle.worktime.specs.Worked.{closing}
 use Rattle.worktime.specs.Walks.{reads, next_start, least, previous_finish, greatest, next_finish, start_by, advance, forward, retreat, backward, spanned, work_from, between}
 use Rattle.project.specs.declared.RelationshipType.TheVariants.{FinishToStart}
@@ -27,8 +24,8 @@ use Rattle.demands.specs.Example.{workday, example_week, task, tasks, example}
 
 -- what an instance is about
 pub data Value : Type 0 where
-  walk : Walk → Value
-  work : Work → Value
+  walk : Result ℕ ClockError → Value
+  work : Result ℤ ClockError → Value
   whole : ℤ → Value
   ids : List ℕ → Value
 
@@ -63,16 +60,16 @@ is x y = record { given = x; said = y }
 
 unfoldable pub marked : List Instance
 marked =
-    is (walk (next_start w (at 4 960))) (walk (At (at 7 480)))
-    ∷ is (walk (next_start w (at 0 959))) (walk (At (at 0 959)))
-    ∷ is (walk (previous_finish w (at 7 480))) (walk (At (at 4 960)))
-    ∷ is (walk (advance w (at 4 960) 1)) (walk (At (at 7 481)))
-    ∷ is (walk (advance w (at 5 0) 0)) (walk (At (at 5 0)))
-    ∷ is (walk (retreat w (at 7 480) 1)) (walk (At (at 4 959)))
-    ∷ is (work (between w (at 1 480) (at 0 480))) (work (Minutes (negsuc 479)))
-    ∷ is (walk (start_by w (at 5 720))) (walk (At (at 4 959)))
-    ∷ is (walk (next_finish w (at 4 960))) (walk (At (at 4 960)))
-    ∷ is (walk (start_for_finish w 480 (at 5 720))) (walk (At (at 4 480)))
+    is (walk (next_start w (at 4 960))) (walk (Ok (at 7 480)))
+    ∷ is (walk (next_start w (at 0 959))) (walk (Ok (at 0 959)))
+    ∷ is (walk (previous_finish w (at 7 480))) (walk (Ok (at 4 960)))
+    ∷ is (walk (advance w (at 4 960) 1)) (walk (Ok (at 7 481)))
+    ∷ is (walk (advance w (at 5 0) 0)) (walk (Ok (at 5 0)))
+    ∷ is (walk (retreat w (at 7 480) 1)) (walk (Ok (at 4 959)))
+    ∷ is (work (between w (at 1 480) (at 0 480))) (work (Ok (negsuc 479)))
+    ∷ is (walk (start_by w (at 5 720))) (walk (Ok (at 4 959)))
+    ∷ is (walk (next_finish w (at 4 960))) (walk (Ok (at 4 960)))
+    ∷ is (walk (start_for_finish w 480 (at 5 720))) (walk (Ok (at 4 480)))
     ∷ is (whole (lag_minutes (Percent (negsuc 4999)) 480 (pos 961))) (whole (negsuc 479))
     ∷ is (whole (whole_days (negsuc 469) 480)) (whole (pos 0))
     ∷ is (ids (checked looping).loop) (ids (2 ∷ 1 ∷ 2 ∷ []))

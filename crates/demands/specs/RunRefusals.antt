@@ -1,29 +1,22 @@
 -- Every refusal of the run and of the results is row 8, pass by pass.
-use Rattle.std.specs.Prelude.{◌≡◌, refl, Bool, ◌&&◌, eqb, ℤ, neg_ℤ}
+use Rattle.std.specs.Prelude.{◌≡◌, refl, Bool, ◌&&◌, eqb, ℤ, neg_ℤ, Result, Ok, Err, Option, Some, None}
+use Rattle.worktime.specs.declared.ClockError.{ClockError}
+use Rattle.date.specs.declared.Date.{Date}
 use Rattle.std.proofs.Math.Bool.{true, false, not}
 use mathlib.Core.List.{List, [], ◌∷◌, reverse}
 use Prim.Native.Nat.{ℕ, zero, suc, ◌+◌, ◌-◌, ◌/◌, max, min}
 use Rattle.std.proofs.Math.Dec.{ltb, leb}
 use Rattle.number.specs.Zed.{up, dn}
 use Rattle.number.specs.Sign.{min_z}
-use Rattle.worktime.specs.declared.Walk.{Walk}
-use Rattle.worktime.specs.declared.Walk.TheVariants.{At, Refused}
-use Rattle.worktime.specs.declared.Work.{Work}
-use Rattle.worktime.specs.declared.Work.TheVariants.{Minutes}
 use Rattle.worktime.specs.Walks.{next_start, previous_finish, advance, retreat, shift, between}
 use Rattle.project.specs.declared.Constraint.{Constraint}
 use Rattle.project.specs.declared.Constraint.TheVariants.{Unconstrained, StartOnOrAfter, StartOnOrBefore, FinishOnOrAfter, FinishOnOrBefore, StartOn, FinishOn, MandatoryStart, MandatoryFinish, AsLateAsPossible}
-use Rattle.project.specs.declared.OptionalDate.{OptionalDate}
-use Rattle.project.specs.declared.OptionalDate.TheVariants.{On, Absent}
-use Rattle.project.specs.declared.Remaining.{Remaining}
 use Rattle.project.specs.declared.RelationshipType.{RelationshipType}
 use Rattle.project.specs.declared.RelationshipType.TheVariants.{FinishToStart, StartToStart, FinishToFinish, StartToFinish}
 use Rattle.project.specs.declared.End.TheVariants.{Start}
 use Rattle.project.specs.Status.{on_start, bounds_start}
 use Rattle.placing.specs.declared.Actual.{Actual}
 use Rattle.placing.specs.declared.Actual.TheVariants.{Unstarted, Begun, Completed}
-use Rattle.placing.specs.declared.Moment.{Moment}
-use Rattle.placing.specs.declared.Moment.TheVariants.{Nowhere}
 use Rattle.placing.specs.Placing.{midnight_of, via, bounded, place_start, finish_of, start_for_finish, place_finish, latest_same, start_of, finish_for_start, finish_for_start_by, constraint_time, actual}
 use Rattle.order.specs.Plan.{Plan}
 use Rattle.order.specs.Ids.{summary}
@@ -50,23 +43,23 @@ pub record PassEight {A : Type 0} (x : Pass A) : Type 0 where
 leaves_eight : {A : Type 0} {x : A} → PassEight (leaves x)
 leaves_eight = record { is = refl }
 
-refused_eight : {A : Type 0} {k : ℕ} → k ≡ 8 → PassEight {A = A} (refused k)
+refused_eight : {A : Type 0} {k : ClockError} → k ≡ 8 → PassEight {A = A} (refused k)
 refused_eight h = record { is = h }
 
-then_pass : {A : Type 0} (w : Walk) → WalkEight w → (go : ℕ → Pass A) → ((t : ℕ) → PassEight (go t)) → PassEight (via refused w go)
+then_pass : {A : Type 0} (w : Result ℕ ClockError) → WalkEight w → (go : ℕ → Pass A) → ((t : ℕ) → PassEight (go t)) → PassEight (via refused w go)
 then_pass {A} = follows (PassEight {A = A}) refused (refused_eight refl)
 
 after_pass : {A B : Type 0} (x : Pass A) → PassEight x → (go : A → Pass B) → ((y : A) → PassEight (go y)) → PassEight (after x go)
 after_pass (leaves y) h go k = k y
 after_pass (refused n) h go k = refused_eight h.is
 
-counted_walk : (x : Work) → WorkEight x → (go : ℕ → Walk) → ((t : ℕ) → WalkEight (go t)) → WalkEight (fwd.counted Refused x go)
-counted_walk (Minutes z) h go k = k (up z)
-counted_walk (Work.Refused n) h go k = h
+counted_walk : (x : Result ℤ ClockError) → WorkEight x → (go : ℕ → Result ℕ ClockError) → ((t : ℕ) → WalkEight (go t)) → WalkEight (fwd.counted Err x go)
+counted_walk (Ok z) h go k = k (up z)
+counted_walk (Err n) h go k = h
 
-measured_pass : {A : Type 0} (x : Work) → WorkEight x → (go : ℤ → Pass A) → ((z : ℤ) → PassEight (go z)) → PassEight (flo.measured refused x go)
-measured_pass (Minutes z) h go k = k z
-measured_pass (Work.Refused n) h go k = refused_eight h
+measured_pass : {A : Type 0} (x : Result ℤ ClockError) → WorkEight x → (go : ℤ → Pass A) → ((z : ℤ) → PassEight (go z)) → PassEight (flo.measured refused x go)
+measured_pass (Ok z) h go k = k z
+measured_pass (Err n) h go k = refused_eight h
 
 through_eight : {A : Type 0} (step : A → ℕ → Pass A) → ((x : A) (i : ℕ) → PassEight (step x i)) → (rows : List ℕ) (x : A) → PassEight (through step rows x)
 unfolding through
@@ -81,14 +74,14 @@ module _ (p : Plan) where
       either ActualEight (summary p i) Unstarted made tt (actual_eight_lem (own p i) (p.activity i).actual_start (p.activity i).actual_finish)
 
   -- ---- work left
-  since_eight : (i s : ℕ) (d : OptionalDate) → WalkEight (fwd.since_start p i s d)
-  since_eight i s Absent = tt
-  since_eight i s (On d) =
-      counted_walk (between (own p i) s (max (midnight_of d) s)) (between_eight (own p i) s (max (midnight_of d) s)) (λ done. At (full p i - done)) (λ t. tt)
+  since_eight : (i s : ℕ) (d : Option Date) → WalkEight (fwd.since_start p i s d)
+  since_eight i s None = tt
+  since_eight i s (Some d) =
+      counted_walk (between (own p i) s (max (midnight_of d) s)) (between_eight (own p i) s (max (midnight_of d) s)) (λ done. Ok (full p i - done)) (λ t. tt)
 
-  still_eight : (i s : ℕ) (x : Remaining) → WalkEight (fwd.still_left p i s x)
-  still_eight i s (Remaining.Minutes m) = tt
-  still_eight i s Remaining.Absent = since_eight i s p.project.data_date
+  still_eight : (i s : ℕ) (x : Option ℤ) → WalkEight (fwd.still_left p i s x)
+  still_eight i s (Some m) = tt
+  still_eight i s None = since_eight i s p.project.data_date
 
   left_by_eight : (i : ℕ) (x : Actual) → ActualEight x → WalkEight (fwd.left_by p i x)
   left_by_eight i Unstarted h = tt
@@ -136,43 +129,43 @@ module _ (p : Plan) where
     raised_eight i (t ∷ ts) start =
         then_walk (fwd.link_start p d i t) (link_start_eight i t) (λ s. fwd.raised p d i ts (max start s)) (λ s. raised_eight i ts (max start s))
 
-    for_finish : (i t : ℕ) (go : ℕ → Walk) → ((s : ℕ) → WalkEight (go s)) → WalkEight (via Refused (start_for_finish (own p i) (d.left i) t) go)
+    for_finish : (i t : ℕ) (go : ℕ → Result ℕ ClockError) → ((s : ℕ) → WalkEight (go s)) → WalkEight (via Err (start_for_finish (own p i) (d.left i) t) go)
     for_finish i t = then_walk (start_for_finish (own p i) (d.left i) t) (start_for_finish_eight (own p i) (d.left i) t)
 
     at_early_eight : (i : ℕ) (c : Constraint) (t start : ℕ) → WalkEight (fwd.at_early p d i c t start)
     at_early_eight i Unconstrained t start = tt
     at_early_eight i (StartOnOrAfter x) t start = tt
     at_early_eight i (StartOnOrBefore x) t start = tt
-    at_early_eight i (FinishOnOrAfter x) t start = for_finish i t (λ s. At (max start s)) (λ s. tt)
+    at_early_eight i (FinishOnOrAfter x) t start = for_finish i t (λ s. Ok (max start s)) (λ s. tt)
     at_early_eight i (FinishOnOrBefore x) t start = tt
     at_early_eight i (StartOn x) t start = tt
-    at_early_eight i (FinishOn x) t start = for_finish i t (λ s. At (max start s)) (λ s. tt)
+    at_early_eight i (FinishOn x) t start = for_finish i t (λ s. Ok (max start s)) (λ s. tt)
     at_early_eight i (MandatoryStart x) t start = tt
-    at_early_eight i (MandatoryFinish x) t start = for_finish i t (λ s. At (max s (floor p))) (λ s. tt)
+    at_early_eight i (MandatoryFinish x) t start = for_finish i t (λ s. Ok (max s (floor p))) (λ s. tt)
     at_early_eight i AsLateAsPossible t start = tt
 
-    on_time_eight : (m : Moment) → MomentEight m → (none : Walk) → WalkEight none → (go : ℕ → Walk) → ((t : ℕ) → WalkEight (go t)) → WalkEight (fwd.on_time p d m none go)
-    on_time_eight (Moment.At t) h none n go k = then_walk (bounded (origin p) t) (bounded_eight (origin p) t) go k
-    on_time_eight Nowhere h none n go k = n
-    on_time_eight (Moment.Refused r) h none n go k = h
+    on_time_eight : (m : Result (Option ℕ) ClockError) → MomentEight m → (none : Result ℕ ClockError) → WalkEight none → (go : ℕ → Result ℕ ClockError) → ((t : ℕ) → WalkEight (go t)) → WalkEight (fwd.on_time p d m none go)
+    on_time_eight (Ok (Some t)) h none n go k = then_walk (bounded (origin p) t) (bounded_eight (origin p) t) go k
+    on_time_eight (Ok None) h none n go k = n
+    on_time_eight (Err r) h none n go k = h
 
     constrained_eight : (i : ℕ) (c : Constraint) (start : ℕ) → WalkEight (fwd.constrained p d i c start)
     unfolding fwd.constrained
     constrained_eight i c start =
-        on_time_eight (constraint_time (own p i) (on_start c)) (constraint_eight (own p i) (on_start c)) (At start) tt (λ t. fwd.at_early p d i c t start)
+        on_time_eight (constraint_time (own p i) (on_start c)) (constraint_eight (own p i) (on_start c)) (Ok start) tt (λ t. fwd.at_early p d i c t start)
         (λ t. at_early_eight i c t start)
 
-    levelled_eight : (i : ℕ) (x : OptionalDate) (start : ℕ) → WalkEight (fwd.levelled p d i x start)
-    levelled_eight i Absent start = tt
-    levelled_eight i (On x) start =
-        on_time_eight (constraint_time (own p i) (Start x)) (constraint_eight (own p i) (Start x)) (At start) tt (λ t. At (max start t)) (λ t. tt)
+    levelled_eight : (i : ℕ) (x : Option Date) (start : ℕ) → WalkEight (fwd.levelled p d i x start)
+    levelled_eight i None start = tt
+    levelled_eight i (Some x) start =
+        on_time_eight (constraint_time (own p i) (Start x)) (constraint_eight (own p i) (Start x)) (Ok start) tt (λ t. Ok (max start t)) (λ t. tt)
 
     held_eight : (i start : ℕ) → WalkEight (fwd.held p d i start)
     unfolding fwd.held
     held_eight i start =
-        let last : ℕ → Walk = fwd.levelled p d i (p.activity i).levelled in
-        let second : ℕ → Walk = λ s. via Refused (fwd.constrained p d i (p.activity i).secondary_constraint s) last in
-        either WalkEight (summary p i) (At start) (via Refused (fwd.constrained p d i (p.activity i).constraint start) second) tt
+        let last : ℕ → Result ℕ ClockError = fwd.levelled p d i (p.activity i).levelled in
+        let second : ℕ → Result ℕ ClockError = λ s. via Err (fwd.constrained p d i (p.activity i).secondary_constraint s) last in
+        either WalkEight (summary p i) (Ok start) (via Err (fwd.constrained p d i (p.activity i).constraint start) second) tt
         (then_walk (fwd.constrained p d i (p.activity i).constraint start) (constrained_eight i (p.activity i).constraint start) second
         (λ s.
         then_walk (fwd.constrained p d i (p.activity i).secondary_constraint s) (constrained_eight i (p.activity i).secondary_constraint s) last
@@ -184,21 +177,21 @@ module _ (p : Plan) where
     start_by_eight i (Completed s f) h start = tt
     start_by_eight i (Actual.Refused k) h start = h
 
-    work_to_eight : (i s : ℕ) (x : OptionalDate) → WalkEight (fwd.work_to p d i s x)
-    work_to_eight i s Absent = tt
-    work_to_eight i s (On x) =
+    work_to_eight : (i s : ℕ) (x : Option Date) → WalkEight (fwd.work_to p d i s x)
+    work_to_eight i s None = tt
+    work_to_eight i s (Some x) =
         let t : ℕ = evening (midnight_of x) in
-        let count : ℕ → Walk = λ b. fwd.counted Refused (between (own p i) s (max b s)) At in
-        then_walk (previous_finish (own p i) t) (previous_finish_eight (own p i) t) (λ e. via Refused (bounded (origin p) e) count)
+        let count : ℕ → Result ℕ ClockError = λ b. fwd.counted Err (between (own p i) s (max b s)) Ok in
+        then_walk (previous_finish (own p i) t) (previous_finish_eight (own p i) t) (λ e. via Err (bounded (origin p) e) count)
         (λ e.
         then_walk (bounded (origin p) e) (bounded_eight (origin p) e) count
-        (λ b. counted_walk (between (own p i) s (max b s)) (between_eight (own p i) s (max b s)) At (λ t. tt)))
+        (λ b. counted_walk (between (own p i) s (max b s)) (between_eight (own p i) s (max b s)) Ok (λ t. tt)))
 
     minutes_eight : (i s : ℕ) → WalkEight (fwd.minutes_from p d i s)
     unfolding fwd.minutes_from
     minutes_eight i s =
-        let x : OptionalDate = fwd.expected_on p d i (kind_of p i) in
-        either WalkEight (summary p i) (At (d.left i)) (fwd.work_to p d i s x) tt (work_to_eight i s x)
+        let x : Option Date = fwd.expected_on p d i (kind_of p i) in
+        either WalkEight (summary p i) (Ok (d.left i)) (fwd.work_to p d i s x) tt (work_to_eight i s x)
 
     bounded_pass : {A : Type 0} (t : ℕ) (go : ℕ → Pass A) → ((s : ℕ) → PassEight (go s)) → PassEight (via refused (bounded (origin p) t) go)
     bounded_pass t = then_pass (bounded (origin p) t) (bounded_eight (origin p) t)
@@ -232,9 +225,9 @@ module _ (p : Plan) where
   forward_pass_eight left = through_eight (fwd.forward p) forward_eight (order p) (early₀ p left)
 
   -- ---- the end and the backward pass
-  end_by_eight : (d : Early) (x : OptionalDate) → WalkEight (bwd.end_by p d x)
-  end_by_eight d (On x) = bounded_eight (origin p) (evening (midnight_of x))
-  end_by_eight d Absent = tt
+  end_by_eight : (d : Early) (x : Option Date) → WalkEight (bwd.end_by p d x)
+  end_by_eight d (Some x) = bounded_eight (origin p) (evening (midnight_of x))
+  end_by_eight d None = tt
 
   end_eight : (d : Early) → WalkEight (bwd.end p d)
   unfolding bwd.end
@@ -245,8 +238,8 @@ module _ (p : Plan) where
     unfolding bwd.over_lag
     over_lag_eight t x =
         then_walk (shift (lag_own p t) x (neg_ℤ t.lag)) (shift_eight (lag_own p t) x (neg_ℤ t.lag))
-        (λ v. elim (eqb (up t.lag + dn t.lag) 0) [ true ↦ At v | false ↦ next_start (lag_own p t) v ])
-        (λ v. either WalkEight (eqb (up t.lag + dn t.lag) 0) (At v) (next_start (lag_own p t) v) tt (next_start_eight (lag_own p t) v))
+        (λ v. elim (eqb (up t.lag + dn t.lag) 0) [ true ↦ Ok v | false ↦ next_start (lag_own p t) v ])
+        (λ v. either WalkEight (eqb (up t.lag + dn t.lag) 0) (Ok v) (next_start (lag_own p t) v) tt (next_start_eight (lag_own p t) v))
 
     finish_for_eight : (i : ℕ) (t : Tie) (kind : RelationshipType) (ls lf : ℕ) → WalkEight (bwd.finish_for p d l i t kind ls lf)
     finish_for_eight i t FinishToStart ls lf = over_lag_eight t ls
@@ -277,11 +270,11 @@ module _ (p : Plan) where
     at_late_eight i Unconstrained t latest = tt
     at_late_eight i (StartOnOrAfter x) t latest = tt
     at_late_eight i (StartOnOrBefore x) t latest =
-        then_walk (finish_for_start_by (own p i) (d.left i) t) (finish_for_start_by_eight (own p i) (d.left i) t) (λ f. At (min latest f)) (λ f. tt)
+        then_walk (finish_for_start_by (own p i) (d.left i) t) (finish_for_start_by_eight (own p i) (d.left i) t) (λ f. Ok (min latest f)) (λ f. tt)
     at_late_eight i (FinishOnOrAfter x) t latest = tt
     at_late_eight i (FinishOnOrBefore x) t latest = tt
     at_late_eight i (StartOn x) t latest =
-        then_walk (finish_for_start_by (own p i) (d.left i) t) (finish_for_start_by_eight (own p i) (d.left i) t) (λ f. At (min latest f)) (λ f. tt)
+        then_walk (finish_for_start_by (own p i) (d.left i) t) (finish_for_start_by_eight (own p i) (d.left i) t) (λ f. Ok (min latest f)) (λ f. tt)
     at_late_eight i (FinishOn x) t latest = tt
     at_late_eight i (MandatoryStart x) t latest = finish_for_start_by_eight (own p i) (d.left i) t
     at_late_eight i (MandatoryFinish x) t latest = tt
@@ -290,12 +283,12 @@ module _ (p : Plan) where
     limited_eight : (i : ℕ) (c : Constraint) (latest : ℕ) → WalkEight (bwd.limited p d l i c latest)
     unfolding bwd.limited
     limited_eight i c latest =
-        on_time_eight d (constraint_time (own p i) (on_start c)) (constraint_eight (own p i) (on_start c)) (At latest) tt (λ t. bwd.at_late p d l i c t latest)
+        on_time_eight d (constraint_time (own p i) (on_start c)) (constraint_eight (own p i) (on_start c)) (Ok latest) tt (λ t. bwd.at_late p d l i c t latest)
         (λ t. at_late_eight i c t latest)
 
     limited_by_eight : (i : ℕ) (x : Actual) → ActualEight x → (c : Constraint) (latest : ℕ) → WalkEight (bwd.limited_by p d l i x c latest)
     limited_by_eight i Unstarted h c latest = limited_eight i c latest
-    limited_by_eight i (Begun s) h c latest = either WalkEight (bounds_start c) (At latest) (bwd.limited p d l i c latest) tt (limited_eight i c latest)
+    limited_by_eight i (Begun s) h c latest = either WalkEight (bounds_start c) (Ok latest) (bwd.limited p d l i c latest) tt (limited_eight i c latest)
     limited_by_eight i (Completed s f) h c latest = tt
     limited_by_eight i (Actual.Refused k) h c latest = h
 
@@ -303,8 +296,8 @@ module _ (p : Plan) where
     unfolding bwd.held_late
     held_late_eight i latest =
         let x : Actual = recorded p i in
-        let second : ℕ → Walk = bwd.limited_by p d l i x (p.activity i).secondary_constraint in
-        either WalkEight (summary p i) (At latest) (via Refused (bwd.limited_by p d l i x (p.activity i).constraint latest) second) tt
+        let second : ℕ → Result ℕ ClockError = bwd.limited_by p d l i x (p.activity i).secondary_constraint in
+        either WalkEight (summary p i) (Ok latest) (via Err (bwd.limited_by p d l i x (p.activity i).constraint latest) second) tt
         (then_walk (bwd.limited_by p d l i x (p.activity i).constraint latest) (limited_by_eight i x (recorded_eight i) (p.activity i).constraint latest)
         second (limited_by_eight i x (recorded_eight i) (p.activity i).secondary_constraint))
 
@@ -312,11 +305,11 @@ module _ (p : Plan) where
     unfolding bwd.lifted
     lifted_eight i latest f = if (ltb f (d.ef i) && leb (d.ef i) latest)
       where
-        if : (b : Bool) → WalkEight (elim b [ false ↦ At f | true ↦ via Refused (latest_same (own p i) f) (λ s. elim (leb (d.ef i) s) [ true ↦ At (d.ef i) | false ↦ At f ]) ])
+        if : (b : Bool) → WalkEight (elim b [ false ↦ Ok f | true ↦ via Err (latest_same (own p i) f) (λ s. elim (leb (d.ef i) s) [ true ↦ Ok (d.ef i) | false ↦ Ok f ]) ])
         if false = tt
         if true =
-            then_walk (latest_same (own p i) f) (next_start_eight (own p i) f) (λ s. elim (leb (d.ef i) s) [ true ↦ At (d.ef i) | false ↦ At f ])
-            (λ s. either WalkEight (leb (d.ef i) s) (At (d.ef i)) (At f) tt tt)
+            then_walk (latest_same (own p i) f) (next_start_eight (own p i) f) (λ s. elim (leb (d.ef i) s) [ true ↦ Ok (d.ef i) | false ↦ Ok f ])
+            (λ s. either WalkEight (leb (d.ef i) s) (Ok (d.ef i)) (Ok f) tt tt)
 
     placed_late_eight : (i latest : ℕ) → PassEight (bwd.placed_late p d l i latest)
     unfolding bwd.placed_late
@@ -365,13 +358,13 @@ module _ (p : Plan) where
     held_start_eight : (i n : ℕ) → WalkEight (flo.held_start p d i n)
     unfolding flo.held_start
     held_start_eight i n =
-        let back : Walk = via Refused (advance (own p i) (d.ef i) n) (λ f. retreat (own p i) f (d.left i)) in
-        let last : ℕ → Walk = λ moved. elim (eqb (d.left i) 0) [ true ↦ At moved | false ↦ via Refused (advance (own p i) (d.ef i) n) (λ f. retreat (own p i) f (d.left i)) ] in
-        then_walk (advance (own p i) (d.es i) n) (advance_eight (own p i) (d.es i) n) (λ t. via Refused (place_start (own p i) (kind_of p i) t) last)
+        let back : Result ℕ ClockError = via Err (advance (own p i) (d.ef i) n) (λ f. retreat (own p i) f (d.left i)) in
+        let last : ℕ → Result ℕ ClockError = λ moved. elim (eqb (d.left i) 0) [ true ↦ Ok moved | false ↦ via Err (advance (own p i) (d.ef i) n) (λ f. retreat (own p i) f (d.left i)) ] in
+        then_walk (advance (own p i) (d.es i) n) (advance_eight (own p i) (d.es i) n) (λ t. via Err (place_start (own p i) (kind_of p i) t) last)
         (λ t.
         then_walk (place_start (own p i) (kind_of p i) t) (place_start_eight (own p i) (kind_of p i) t) last
         (λ moved.
-        either WalkEight (eqb (d.left i) 0) (At moved) back tt
+        either WalkEight (eqb (d.left i) 0) (Ok moved) back tt
         (then_walk (advance (own p i) (d.ef i) n) (advance_eight (own p i) (d.ef i) n) (λ f. retreat (own p i) f (d.left i))
         (λ f. retreat_eight (own p i) f (d.left i)))))
 

@@ -1,10 +1,9 @@
 -- One law for each way out of the functions of one activity's early dates.
-use Rattle.std.specs.Prelude.{◌≡◌, Bool, true, false}
+use Rattle.std.specs.Prelude.{◌≡◌, Bool, true, false, Result, Ok, Err, Option, Some, None}
+use Rattle.worktime.specs.declared.ClockError.{ClockError}
 use Rattle.std.proofs.Common.{sym, ap₂, ◌∙◌, arith}
 use Rattle.std.proofs.Math.Path.{ap}
 use Prim.Native.Nat.{ℕ, ◌+◌, ◌^◌, ◌<◌, max}
-use Rattle.worktime.specs.declared.Walk.{Walk}
-use Rattle.worktime.specs.declared.Walk.TheVariants.{At, Refused}
 use Rattle.worktime.specs.Walks.{previous_finish, between}
 use Rattle.worktime.specs.Reads.{on_true, on_false}
 use Rattle.date.specs.declared.Date.{Date}
@@ -13,15 +12,11 @@ use Rattle.project.specs.declared.ActivityKind.{ActivityKind}
 use Rattle.project.specs.declared.ActivityKind.TheVariants.{Task, StartMilestone, FinishMilestone}
 use Rattle.project.specs.declared.Constraint.{Constraint}
 use Rattle.project.specs.declared.Constraint.TheVariants.{Unconstrained, StartOnOrAfter, StartOnOrBefore, FinishOnOrAfter, FinishOnOrBefore, StartOn, FinishOn, MandatoryStart, MandatoryFinish, AsLateAsPossible}
-use Rattle.project.specs.declared.OptionalDate.{OptionalDate}
-use Rattle.project.specs.declared.OptionalDate.TheVariants.{On, Absent}
 use Rattle.project.specs.declared.ProgressMode.{ProgressMode}
 use Rattle.project.specs.declared.ProgressMode.TheVariants.{RetainedLogic, ProgressOverride}
 use Rattle.project.specs.Status.{on_start}
 use Rattle.placing.specs.declared.Actual.{Actual}
 use Rattle.placing.specs.declared.Actual.TheVariants.{Unstarted, Begun, Completed}
-use Rattle.placing.specs.declared.Moment.{Moment}
-use Rattle.placing.specs.declared.Moment.TheVariants.{Nowhere}
 use Rattle.placing.specs.Placing.{via, bounded, midnight_of, place_start, finish_of, start_for_finish, constraint_time}
 use Rattle.order.specs.Plan.{Plan}
 use Rattle.order.specs.Ids.{summary}
@@ -33,191 +28,191 @@ use Rattle.early.specs.declared.Placement.{Placement}
 use Rattle.early.specs.InHand.{IsTimes, InHand, finished_as, after_start, Fits}
 
 -- ---- a walk x, which is the definition's y: it answers, or is refused
-module _ {A : Type 0} (f go : ℕ → A) {x y : Walk} (e : x ≡ y) where
-  pub goes_on_lem : {u : ℕ} → x ≡ At u → via f y go ≡ go u
-  goes_on_lem a = ap (λ (z : Walk). via f z go) (sym e ∙ a)
+module _ {A : Type 0} (f : ClockError → A) (go : ℕ → A) {x y : Result ℕ ClockError} (e : x ≡ y) where
+  pub goes_on_lem : {u : ℕ} → x ≡ Ok u → via f y go ≡ go u
+  goes_on_lem a = ap (λ (z : Result ℕ ClockError). via f z go) (sym e ∙ a)
 
-  pub stops : {k : ℕ} → x ≡ Refused k → via f y go ≡ f k
-  stops a = ap (λ (z : Walk). via f z go) (sym e ∙ a)
+  pub stops : {k : ClockError} → x ≡ Err k → via f y go ≡ f k
+  stops a = ap (λ (z : Result ℕ ClockError). via f z go) (sym e ∙ a)
 
 max_swap : (a b : ℕ) → max a b ≡ max b a
 max_swap a b = omega arith
 
 -- ---- work under way
 module _ {p : Plan} {times : Times} (T : IsTimes p times) (d : Early) (s start : ℕ) where
-  abbrev goes_on : OptionalDate → ProgressMode → ℕ
+  abbrev goes_on : Option Date → ProgressMode → ℕ
   goes_on day mode = resumed p d s day mode start
 
-  pub resumed_recorded : times.data_date ≡ Absent → goes_on p.project.data_date p.project.progress_mode ≡ s
-  resumed_recorded e = ap (λ (x : OptionalDate). goes_on x p.project.progress_mode) (sym T.data_is ∙ e)
+  pub resumed_recorded : times.data_date ≡ None → goes_on p.project.data_date p.project.progress_mode ≡ s
+  resumed_recorded e = ap (λ (x : Option Date). goes_on x p.project.progress_mode) (sym T.data_is ∙ e)
 
-  pub resumed_retained : (x : _) → times.data_date ≡ On x → times.progress_mode ≡ RetainedLogic
+  pub resumed_retained : (x : _) → times.data_date ≡ Some x → times.progress_mode ≡ RetainedLogic
       → goes_on p.project.data_date p.project.progress_mode ≡ start
   resumed_retained x e f = ap₂ goes_on (sym T.data_is ∙ e) (sym T.mode_is ∙ f)
 
-  pub resumed_override : (x : _) → times.data_date ≡ On x → times.progress_mode ≡ ProgressOverride
+  pub resumed_override : (x : _) → times.data_date ≡ Some x → times.progress_mode ≡ ProgressOverride
       → goes_on p.project.data_date p.project.progress_mode ≡ times.floor
   resumed_override x e f = ap₂ goes_on (sym T.data_is ∙ e) (sym T.mode_is ∙ f) ∙ sym T.floor_is
 
 module _ {p : Plan} {d : Early} {i : ℕ} {activity : Activity} {w : ℕ → Bool} {left : ℕ} (H : InHand p d i activity w left) where
   -- ---- the start by a constraint's time
   module _ (c : Constraint) (t start : ℕ) where
-    pub early_unconstrained : c ≡ Unconstrained → at_early p d i c t start ≡ At start
+    pub early_unconstrained : c ≡ Unconstrained → at_early p d i c t start ≡ Ok start
     early_unconstrained e = rw e
 
-    pub early_late : c ≡ AsLateAsPossible → at_early p d i c t start ≡ At start
+    pub early_late : c ≡ AsLateAsPossible → at_early p d i c t start ≡ Ok start
     early_late e = rw e
 
     module _ (x : Date) where
-      pub early_start_before : c ≡ StartOnOrBefore x → at_early p d i c t start ≡ At start
+      pub early_start_before : c ≡ StartOnOrBefore x → at_early p d i c t start ≡ Ok start
       early_start_before e = rw e
 
-      pub early_finish_before : c ≡ FinishOnOrBefore x → at_early p d i c t start ≡ At start
+      pub early_finish_before : c ≡ FinishOnOrBefore x → at_early p d i c t start ≡ Ok start
       early_finish_before e = rw e
 
-      pub early_start_after : c ≡ StartOnOrAfter x → at_early p d i c t start ≡ At (max start t)
+      pub early_start_after : c ≡ StartOnOrAfter x → at_early p d i c t start ≡ Ok (max start t)
       early_start_after e = rw e
 
-      pub early_start_on : c ≡ StartOn x → at_early p d i c t start ≡ At (max start t)
+      pub early_start_on : c ≡ StartOn x → at_early p d i c t start ≡ Ok (max start t)
       early_start_on e = rw e
 
-      pub early_mandatory_start : (f : ℕ) → f ≡ floor p → c ≡ MandatoryStart x → at_early p d i c t start ≡ At (max t f)
+      pub early_mandatory_start : (f : ℕ) → f ≡ floor p → c ≡ MandatoryStart x → at_early p d i c t start ≡ Ok (max t f)
       early_mandatory_start f q e = rw (e, q)
 
-      module _ {walk : Walk} (a : walk ≡ start_for_finish w left t) where
+      module _ {walk : Result ℕ ClockError} (a : walk ≡ start_for_finish w left t) where
         start_is : walk ≡ start_for_finish (own p i) (d.left i) t
         start_is = a ∙ ap₂ (λ (v : ℕ → Bool) (m : ℕ). start_for_finish v m t) (sym H.own_is) H.left_is
 
-        pub early_finish_after : c ≡ FinishOnOrAfter x → at_early p d i c t start ≡ via Refused walk (λ s. At (max start s))
+        pub early_finish_after : c ≡ FinishOnOrAfter x → at_early p d i c t start ≡ via Err walk (λ s. Ok (max start s))
         early_finish_after e =
-            ap (λ (k : Constraint). at_early p d i k t start) e ∙ ap (λ (y : Walk). via Refused y (λ s. At (max start s))) (sym start_is)
+            ap (λ (k : Constraint). at_early p d i k t start) e ∙ ap (λ (y : Result ℕ ClockError). via Err y (λ s. Ok (max start s))) (sym start_is)
 
-        pub early_finish_on : c ≡ FinishOn x → at_early p d i c t start ≡ via Refused walk (λ s. At (max start s))
+        pub early_finish_on : c ≡ FinishOn x → at_early p d i c t start ≡ via Err walk (λ s. Ok (max start s))
         early_finish_on e =
-            ap (λ (k : Constraint). at_early p d i k t start) e ∙ ap (λ (y : Walk). via Refused y (λ s. At (max start s))) (sym start_is)
+            ap (λ (k : Constraint). at_early p d i k t start) e ∙ ap (λ (y : Result ℕ ClockError). via Err y (λ s. Ok (max start s))) (sym start_is)
 
-        pub early_mandatory_finish : (f : ℕ) → f ≡ floor p → c ≡ MandatoryFinish x → at_early p d i c t start ≡ via Refused walk (λ s. At (max f s))
+        pub early_mandatory_finish : (f : ℕ) → f ≡ floor p → c ≡ MandatoryFinish x → at_early p d i c t start ≡ via Err walk (λ s. Ok (max f s))
         early_mandatory_finish f q e =
-            ap (λ (k : Constraint). at_early p d i k t start) e ∙ ap (λ (y : Walk). via Refused y (λ s. At (max s (floor p)))) (sym start_is)
-            ∙ (λ z. via Refused walk (λ s. At (max_swap s (floor p) z))) ∙ ap (λ (v : ℕ). via Refused walk (λ s. At (max v s))) (sym q)
+            ap (λ (k : Constraint). at_early p d i k t start) e ∙ ap (λ (y : Result ℕ ClockError). via Err y (λ s. Ok (max s (floor p)))) (sym start_is)
+            ∙ (λ z. via Err walk (λ s. Ok (max_swap s (floor p) z))) ∙ ap (λ (v : ℕ). via Err walk (λ s. Ok (max v s))) (sym q)
 
   -- ---- the start by a constraint
-  module _ (c : Constraint) (start : ℕ) {m : Moment} (e : m ≡ constraint_time w (on_start c)) where
-    by_time : constrained p d i c start ≡ on_time p d m (At start) (λ t. at_early p d i c t start)
+  module _ (c : Constraint) (start : ℕ) {m : Result (Option ℕ) ClockError} (e : m ≡ constraint_time w (on_start c)) where
+    by_time : constrained p d i c start ≡ on_time p d m (Ok start) (λ t. at_early p d i c t start)
     unfolding constrained
     by_time =
-        ap (λ (v : ℕ → Bool). on_time p d (constraint_time v (on_start c)) (At start) (λ t. at_early p d i c t start)) H.own_is
-        ∙ ap (λ (y : Moment). on_time p d y (At start) (λ t. at_early p d i c t start)) (sym e)
+        ap (λ (v : ℕ → Bool). on_time p d (constraint_time v (on_start c)) (Ok start) (λ t. at_early p d i c t start)) H.own_is
+        ∙ ap (λ (y : Result (Option ℕ) ClockError). on_time p d y (Ok start) (λ t. at_early p d i c t start)) (sym e)
 
-    pub constrained_nowhere : m ≡ Nowhere → constrained p d i c start ≡ At start
-    constrained_nowhere a = by_time ∙ ap (λ (y : Moment). on_time p d y (At start) (λ t. at_early p d i c t start)) a
+    pub constrained_nowhere : m ≡ (Ok None) → constrained p d i c start ≡ Ok start
+    constrained_nowhere a = by_time ∙ ap (λ (y : Result (Option ℕ) ClockError). on_time p d y (Ok start) (λ t. at_early p d i c t start)) a
 
-    pub constrained_refused : (k : ℕ) → m ≡ Moment.Refused k → constrained p d i c start ≡ Refused k
-    constrained_refused k a = by_time ∙ ap (λ (y : Moment). on_time p d y (At start) (λ t. at_early p d i c t start)) a
+    pub constrained_refused : (k : ClockError) → m ≡ Err k → constrained p d i c start ≡ Err k
+    constrained_refused k a = by_time ∙ ap (λ (y : Result (Option ℕ) ClockError). on_time p d y (Ok start) (λ t. at_early p d i c t start)) a
 
-    module _ (x o : ℕ) {y : Walk} (a : m ≡ Moment.At x) (q : o ≡ origin p) (b : y ≡ bounded o x) where
-      at_time : constrained p d i c start ≡ via Refused (bounded o x) (λ t. at_early p d i c t start)
+    module _ (x o : ℕ) {y : Result ℕ ClockError} (a : m ≡ (Ok (Some x))) (q : o ≡ origin p) (b : y ≡ bounded o x) where
+      at_time : constrained p d i c start ≡ via Err (bounded o x) (λ t. at_early p d i c t start)
       at_time =
-          by_time ∙ ap (λ (z : Moment). on_time p d z (At start) (λ t. at_early p d i c t start)) a
-          ∙ ap (λ (v : ℕ). via Refused (bounded v x) (λ t. at_early p d i c t start)) (sym q)
+          by_time ∙ ap (λ (z : Result (Option ℕ) ClockError). on_time p d z (Ok start) (λ t. at_early p d i c t start)) a
+          ∙ ap (λ (v : ℕ). via Err (bounded v x) (λ t. at_early p d i c t start)) (sym q)
 
-      pub constrained_at : (t : ℕ) → y ≡ At t → constrained p d i c start ≡ at_early p d i c t start
-      constrained_at t f = at_time ∙ goes_on_lem Refused (λ t. at_early p d i c t start) b f
+      pub constrained_at : (t : ℕ) → y ≡ Ok t → constrained p d i c start ≡ at_early p d i c t start
+      constrained_at t f = at_time ∙ goes_on_lem Err (λ t. at_early p d i c t start) b f
 
-      pub constrained_far : (k : ℕ) → y ≡ Refused k → constrained p d i c start ≡ Refused k
-      constrained_far k f = at_time ∙ stops Refused (λ t. at_early p d i c t start) b f
+      pub constrained_far : (k : ClockError) → y ≡ Err k → constrained p d i c start ≡ Err k
+      constrained_far k f = at_time ∙ stops Err (λ t. at_early p d i c t start) b f
 
   -- ---- the levelled start
-  pub levelled_on : (start : ℕ) (x : Date) → activity.levelled ≡ On x → levelled p d i activity.levelled start ≡ constrained p d i (StartOnOrAfter x) start
+  pub levelled_on : (start : ℕ) (x : Date) → activity.levelled ≡ Some x → levelled p d i activity.levelled start ≡ constrained p d i (StartOnOrAfter x) start
   unfolding constrained on_start
-  levelled_on start x e = ap (λ (y : OptionalDate). levelled p d i y start) e
+  levelled_on start x e = ap (λ (y : Option Date). levelled p d i y start) e
 
-  pub levelled_absent : (start : ℕ) → activity.levelled ≡ Absent → levelled p d i activity.levelled start ≡ At start
-  levelled_absent start e = ap (λ (y : OptionalDate). levelled p d i y start) e
+  pub levelled_absent : (start : ℕ) → activity.levelled ≡ None → levelled p d i activity.levelled start ≡ Ok start
+  levelled_absent start e = ap (λ (y : Option Date). levelled p d i y start) e
 
   -- ---- both constraints and the levelled start
   module _ (start : ℕ) {b : Bool} (q : b ≡ summary p i) where
-    pub held_summary : b ≡ true → held p d i start ≡ At start
+    pub held_summary : b ≡ true → held p d i start ≡ Ok start
     unfolding held
-    held_summary e = on_true (summary p i) (At start) _ (sym q ∙ e)
+    held_summary e = on_true (summary p i) (Ok start) _ (sym q ∙ e)
 
-    module _ (e : b ≡ false) {x : Walk} (f : x ≡ constrained p d i activity.constraint start) where
-      in_turn : held p d i start ≡ via Refused (constrained p d i activity.constraint start)
-          (λ s. via Refused (constrained p d i activity.secondary_constraint s) (levelled p d i activity.levelled))
+    module _ (e : b ≡ false) {x : Result ℕ ClockError} (f : x ≡ constrained p d i activity.constraint start) where
+      in_turn : held p d i start ≡ via Err (constrained p d i activity.constraint start)
+          (λ s. via Err (constrained p d i activity.secondary_constraint s) (levelled p d i activity.levelled))
       unfolding held
       in_turn =
-          on_false (summary p i) (At start) _ (sym q ∙ e) ∙
+          on_false (summary p i) (Ok start) _ (sym q ∙ e) ∙
           ap
-          (λ (a : Activity). via Refused (constrained p d i a.constraint start)
-          (λ s. via Refused (constrained p d i a.secondary_constraint s) (levelled p d i a.levelled))) (sym H.activity_is)
+          (λ (a : Activity). via Err (constrained p d i a.constraint start)
+          (λ s. via Err (constrained p d i a.secondary_constraint s) (levelled p d i a.levelled))) (sym H.activity_is)
 
-      pub held_first_refused : (k : ℕ) → x ≡ Refused k → held p d i start ≡ Refused k
-      held_first_refused k a = in_turn ∙ stops Refused _ f a
+      pub held_first_refused : (k : ClockError) → x ≡ Err k → held p d i start ≡ Err k
+      held_first_refused k a = in_turn ∙ stops Err _ f a
 
-      module _ (s : ℕ) (a : x ≡ At s) {y : Walk} (g : y ≡ constrained p d i activity.secondary_constraint s) where
-        pub held_second_refused : (k : ℕ) → y ≡ Refused k → held p d i start ≡ Refused k
-        held_second_refused k c = in_turn ∙ goes_on_lem Refused _ f a ∙ stops Refused _ g c
+      module _ (s : ℕ) (a : x ≡ Ok s) {y : Result ℕ ClockError} (g : y ≡ constrained p d i activity.secondary_constraint s) where
+        pub held_second_refused : (k : ClockError) → y ≡ Err k → held p d i start ≡ Err k
+        held_second_refused k c = in_turn ∙ goes_on_lem Err _ f a ∙ stops Err _ g c
 
-        pub held_both : (u : ℕ) → y ≡ At u → held p d i start ≡ levelled p d i activity.levelled u
-        held_both u c = in_turn ∙ goes_on_lem Refused _ f a ∙ goes_on_lem Refused _ g c
+        pub held_both : (u : ℕ) → y ≡ Ok u → held p d i start ≡ levelled p d i activity.levelled u
+        held_both u c = in_turn ∙ goes_on_lem Err _ f a ∙ goes_on_lem Err _ g c
 
   -- ---- the start by what is recorded
   module _ (a : Actual) (start : ℕ) where
     pub start_unstarted : a ≡ Unstarted → start_by p d i a start ≡ held p d i start
     start_unstarted e = rw e
 
-    pub start_begun : (s : ℕ) → a ≡ Begun s → start_by p d i a start ≡ At (resumed p d s p.project.data_date p.project.progress_mode start)
+    pub start_begun : (s : ℕ) → a ≡ Begun s → start_by p d i a start ≡ Ok (resumed p d s p.project.data_date p.project.progress_mode start)
     start_begun s e = rw e
 
-    pub start_completed : (s f : ℕ) → a ≡ Completed s f → start_by p d i a start ≡ At start
+    pub start_completed : (s f : ℕ) → a ≡ Completed s f → start_by p d i a start ≡ Ok start
     start_completed s f e = rw e
 
-    pub start_refused : (k : ℕ) → a ≡ Actual.Refused k → start_by p d i a start ≡ Refused k
+    pub start_refused : (k : ClockError) → a ≡ Actual.Refused k → start_by p d i a start ≡ Err k
     start_refused k e = rw e
 
   -- ---- the work to an expected finish
-  module _ (s : ℕ) (day : OptionalDate) where
-    pub work_unexpected : day ≡ Absent → work_to p d i s day ≡ At left
-    work_unexpected e = ap (work_to p d i s) e ∙ ap At (sym H.left_is)
+  module _ (s : ℕ) (day : Option Date) where
+    pub work_unexpected : day ≡ None → work_to p d i s day ≡ Ok left
+    work_unexpected e = ap (work_to p d i s) e ∙ ap Ok (sym H.left_is)
 
-    module _ (x : Date) (e : day ≡ On x) (start : ℕ) (h : start ≡ midnight_of x) {y : Walk} (f' : y ≡ previous_finish w (start + 1440)) where
+    module _ (x : Date) (e : day ≡ Some x) (start : ℕ) (h : start ≡ midnight_of x) {y : Result ℕ ClockError} (f' : y ≡ previous_finish w (start + 1440)) where
       f : y ≡ previous_finish w (midnight_of x + 1440)
       f = f' ∙ ap (λ (v : ℕ). previous_finish w (v + 1440)) h
 
-      to_evening : work_to p d i s day ≡ via Refused (previous_finish w (midnight_of x + 1440))
-          (λ u. via Refused (bounded (origin p) u) (λ b. counted Refused (between w s (max b s)) At))
+      to_evening : work_to p d i s day ≡ via Err (previous_finish w (midnight_of x + 1440))
+          (λ u. via Err (bounded (origin p) u) (λ b. counted Err (between w s (max b s)) Ok))
       to_evening =
           ap (work_to p d i s) e ∙
           ap
-          (λ (v : ℕ → Bool). via Refused (previous_finish v (midnight_of x + 1440))
-          (λ u. via Refused (bounded (origin p) u) (λ b. counted Refused (between v s (max b s)) At))) H.own_is
+          (λ (v : ℕ → Bool). via Err (previous_finish v (midnight_of x + 1440))
+          (λ u. via Err (bounded (origin p) u) (λ b. counted Err (between v s (max b s)) Ok))) H.own_is
 
-      pub work_refused : (k : ℕ) → y ≡ Refused k → work_to p d i s day ≡ Refused k
-      work_refused k a = to_evening ∙ stops Refused _ f a
+      pub work_refused : (k : ClockError) → y ≡ Err k → work_to p d i s day ≡ Err k
+      work_refused k a = to_evening ∙ stops Err _ f a
 
-      module _ (u o : ℕ) (a : y ≡ At u) (q : o ≡ origin p) {z : Walk} (g : z ≡ bounded o u) where
+      module _ (u o : ℕ) (a : y ≡ Ok u) (q : o ≡ origin p) {z : Result ℕ ClockError} (g : z ≡ bounded o u) where
         is_bounded : z ≡ bounded (origin p) u
         is_bounded = g ∙ ap (λ (v : ℕ). bounded v u) q
 
-        pub work_far : (k : ℕ) → z ≡ Refused k → work_to p d i s day ≡ Refused k
-        work_far k c = to_evening ∙ goes_on_lem Refused _ f a ∙ stops Refused _ is_bounded c
+        pub work_far : (k : ClockError) → z ≡ Err k → work_to p d i s day ≡ Err k
+        work_far k c = to_evening ∙ goes_on_lem Err _ f a ∙ stops Err _ is_bounded c
 
-        pub work_counted : (b l : ℕ) → z ≡ At b → l ≡ max b s → work_to p d i s day ≡ counted Refused (between w s l) At
+        pub work_counted : (b l : ℕ) → z ≡ Ok b → l ≡ max b s → work_to p d i s day ≡ counted Err (between w s l) Ok
         work_counted b l c j =
-            to_evening ∙ goes_on_lem Refused _ f a ∙ goes_on_lem Refused _ is_bounded c
-            ∙ ap (λ (v : ℕ). counted Refused (between w s v) At) (sym j)
+            to_evening ∙ goes_on_lem Err _ f a ∙ goes_on_lem Err _ is_bounded c
+            ∙ ap (λ (v : ℕ). counted Err (between w s v) Ok) (sym j)
 
   -- ---- the minutes
   module _ (s : ℕ) {b : Bool} (q : b ≡ summary p i) where
-    pub minutes_summary : b ≡ true → minutes_from p d i s ≡ At left
+    pub minutes_summary : b ≡ true → minutes_from p d i s ≡ Ok left
     unfolding minutes_from
-    minutes_summary e = on_true (summary p i) (At (d.left i)) _ (sym q ∙ e) ∙ ap At (sym H.left_is)
+    minutes_summary e = on_true (summary p i) (Ok (d.left i)) _ (sym q ∙ e) ∙ ap Ok (sym H.left_is)
 
     module _ (e : b ≡ false) where
       by_kind : minutes_from p d i s ≡ work_to p d i s (expected_on p d i activity.kind)
       unfolding minutes_from
       by_kind =
-          on_false (summary p i) (At (d.left i)) _ (sym q ∙ e)
+          on_false (summary p i) (Ok (d.left i)) _ (sym q ∙ e)
           ∙ ap (λ (a : Activity). work_to p d i s (expected_on p d i a.kind)) (sym H.activity_is)
 
       pub minutes_task : activity.kind ≡ Task → minutes_from p d i s ≡ work_to p d i s activity.expected_finish
@@ -225,14 +220,14 @@ module _ {p : Plan} {d : Early} {i : ℕ} {activity : Activity} {w : ℕ → Boo
           by_kind ∙ ap (λ (a : ActivityKind). work_to p d i s (expected_on p d i a)) k
           ∙ ap (λ (a : Activity). work_to p d i s a.expected_finish) (sym H.activity_is)
 
-      pub minutes_start : activity.kind ≡ StartMilestone → minutes_from p d i s ≡ At left
-      minutes_start k = by_kind ∙ ap (λ (a : ActivityKind). work_to p d i s (expected_on p d i a)) k ∙ ap At (sym H.left_is)
+      pub minutes_start : activity.kind ≡ StartMilestone → minutes_from p d i s ≡ Ok left
+      minutes_start k = by_kind ∙ ap (λ (a : ActivityKind). work_to p d i s (expected_on p d i a)) k ∙ ap Ok (sym H.left_is)
 
-      pub minutes_finish : activity.kind ≡ FinishMilestone → minutes_from p d i s ≡ At left
-      minutes_finish k = by_kind ∙ ap (λ (a : ActivityKind). work_to p d i s (expected_on p d i a)) k ∙ ap At (sym H.left_is)
+      pub minutes_finish : activity.kind ≡ FinishMilestone → minutes_from p d i s ≡ Ok left
+      minutes_finish k = by_kind ∙ ap (λ (a : ActivityKind). work_to p d i s (expected_on p d i a)) k ∙ ap Ok (sym H.left_is)
 
   -- ---- the placing
-  module _ (start : ℕ) {x : Walk} (f : x ≡ place_start w activity.kind start) where
+  module _ (start : ℕ) {x : Result ℕ ClockError} (f : x ≡ place_start w activity.kind start) where
     from_start : placed p d i start ≡ via refused (place_start w activity.kind start)
         (λ t. via refused (bounded (origin p) t) (λ s. via refused (minutes_from p d i s) (finished_as p d i w s)))
     unfolding placed
@@ -244,59 +239,60 @@ module _ {p : Plan} {d : Early} {i : ℕ} {activity : Activity} {w : ℕ → Boo
         (λ (a : Activity). via refused (place_start w a.kind start)
         (λ t. via refused (bounded (origin p) t) (λ s. via refused (minutes_from p d i s) (finished_as p d i w s)))) (sym H.activity_is)
 
-    pub placed_refused : (k : ℕ) → x ≡ Refused k → placed p d i start ≡ refused k
+    pub placed_refused : (k : ClockError) → x ≡ Err k → placed p d i start ≡ refused k
     placed_refused k a = from_start ∙ stops refused _ f a
 
-    module _ (t o : ℕ) (a : x ≡ At t) (q : o ≡ origin p) {y : Walk} (g : y ≡ bounded o t) where
+    module _ (t o : ℕ) (a : x ≡ Ok t) (q : o ≡ origin p) {y : Result ℕ ClockError} (g : y ≡ bounded o t) where
       start_bounded : y ≡ bounded (origin p) t
       start_bounded = g ∙ ap (λ (v : ℕ). bounded v t) q
 
-      pub placed_far : (k : ℕ) → y ≡ Refused k → placed p d i start ≡ refused k
+      pub placed_far : (k : ClockError) → y ≡ Err k → placed p d i start ≡ refused k
       placed_far k c = from_start ∙ goes_on_lem refused _ f a ∙ stops refused _ start_bounded c
 
-      module _ (s : ℕ) (c : y ≡ At s) {z : Walk} (h : z ≡ minutes_from p d i s) where
-        pub placed_uncounted : (k : ℕ) → z ≡ Refused k → placed p d i start ≡ refused k
+      module _ (s : ℕ) (c : y ≡ Ok s) {z : Result ℕ ClockError} (h : z ≡ minutes_from p d i s) where
+        pub placed_uncounted : (k : ClockError) → z ≡ Err k → placed p d i start ≡ refused k
         placed_uncounted k m = from_start ∙ goes_on_lem refused _ f a ∙ goes_on_lem refused _ start_bounded c ∙ stops refused _ h m
 
-        pub placed_from : (m : ℕ) → z ≡ At m → placed p d i start ≡ finished_as p d i w s m
+        pub placed_from : (m : ℕ) → z ≡ Ok m → placed p d i start ≡ finished_as p d i w s m
         placed_from m n = from_start ∙ goes_on_lem refused _ f a ∙ goes_on_lem refused _ start_bounded c ∙ goes_on_lem refused _ h n
 
 -- ---- the finish
-module _ (p : Plan) (d : Early) (i : ℕ) (w : ℕ → Bool) (s m : ℕ) {x : Walk} (f : x ≡ finish_of w m s) where
-  pub finished_refused : (k : ℕ) → x ≡ Refused k → finished_as p d i w s m ≡ refused k
+module _ (p : Plan) (d : Early) (i : ℕ) (w : ℕ → Bool) (s m : ℕ) {x : Result ℕ ClockError} (f : x ≡ finish_of w m s) where
+  pub finished_refused : (k : ClockError) → x ≡ Err k → finished_as p d i w s m ≡ refused k
   finished_refused k a = stops refused _ f a
 
-  module _ (g o : ℕ) (a : x ≡ At g) (q : o ≡ origin p) {y : Walk} (h : y ≡ bounded o g) where
+  module _ (g o : ℕ) (a : x ≡ Ok g) (q : o ≡ origin p) {y : Result ℕ ClockError} (h : y ≡ bounded o g) where
     finish_bounded : y ≡ bounded (origin p) g
     finish_bounded = h ∙ ap (λ (v : ℕ). bounded v g) q
 
-    pub finished_far : (k : ℕ) → y ≡ Refused k → finished_as p d i w s m ≡ refused k
+    pub finished_far : (k : ClockError) → y ≡ Err k → finished_as p d i w s m ≡ refused k
     finished_far k c = goes_on_lem refused _ f a ∙ stops refused _ finish_bounded c
 
-    pub finished_at : (e : ℕ) → y ≡ At e → finished_as p d i w s m ≡ leaves (early p d i s e m)
+    pub finished_at : (e : ℕ) → y ≡ Ok e → finished_as p d i w s m ≡ leaves (early p d i s e m)
     finished_at e c = goes_on_lem refused _ f a ∙ goes_on_lem refused _ finish_bounded c
 
 -- ---- links met, then the start by what is recorded
-module _ (p : Plan) (d : Early) (i : ℕ) (a : Actual) (start : ℕ) {x : Walk} (f : x ≡ start_by p d i a start) where
-  pub after_refused : (k : ℕ) → x ≡ Refused k → after_start p d i a start ≡ refused k
+module _ (p : Plan) (d : Early) (i : ℕ) (a : Actual) (start : ℕ) {x : Result ℕ ClockError} (f : x ≡ start_by p d i a start) where
+  pub after_refused : (k : ClockError) → x ≡ Err k → after_start p d i a start ≡ refused k
   after_refused k e = stops refused (placed p d i) f e
 
-  pub after_start_lem : (u : ℕ) → x ≡ At u → after_start p d i a start ≡ placed p d i u
+  pub after_start_lem : (u : ℕ) → x ≡ Ok u → after_start p d i a start ≡ placed p d i u
   after_start_lem u e = goes_on_lem refused (placed p d i) f e
 
 -- ---- what fits
-pub refused_fits : (k : ℕ) → Fits (Placement.Refused k)
+pub refused_fits : (k : ClockError) → Fits (Err k)
 refused_fits k s f m e = let z : ◌≡◌ {A = ℕ} 0 1 = cc in absurd (omega arith)
 
-pub at_fits : (s f m : ℕ) → s < 2 ^ 63 → f < 2 ^ 63 → m < 2 ^ 63 → Fits (Placement.At s f m)
+pub at_fits : (s f m : ℕ) → s < 2 ^ 63 → f < 2 ^ 63 → m < 2 ^ 63 → Fits (Ok (record { start = s; finish = f; left = m }))
 at_fits s f m a b c s' f' m' e =
-    let x : s ≡ s' = cc in
-    let y : f ≡ f' = cc in
-    let z : m ≡ m' = cc in
+    let q : ◌≡◌ {A = Placement} (record { start = s; finish = f; left = m }) (record { start = s'; finish = f'; left = m' }) = cc in
+    let x : s ≡ s' = ap (λ (y : Placement). y.start) q in
+    let y : f ≡ f' = ap (λ (y : Placement). y.finish) q in
+    let z : m ≡ m' = ap (λ (y : Placement). y.left) q in
     (omega arith, omega arith, omega arith)
 
-pub refused_below : (k : ℕ) → (m : ℕ) → Refused k ≡ At m → m < 2 ^ 63
+pub refused_below : (k : ClockError) → (m : ℕ) → ◌≡◌ {A = Result ℕ ClockError} (Err k) (Ok m) → m < 2 ^ 63
 refused_below k m e = let z : ◌≡◌ {A = ℕ} 0 1 = cc in absurd (omega arith)
 
-pub at_below : (n : ℕ) → n < 2 ^ 63 → (m : ℕ) → At n ≡ At m → m < 2 ^ 63
+pub at_below : (n : ℕ) → n < 2 ^ 63 → (m : ℕ) → ◌≡◌ {A = Result ℕ ClockError} (Ok n) (Ok m) → m < 2 ^ 63
 at_below n l m e = let z : n ≡ m = cc in omega arith

@@ -1,5 +1,6 @@
 -- What the functions of one activity have in hand, and what they answer as the definition has it.
-use Rattle.std.specs.Prelude.{◌≡◌, Bool, ℕ, ◌^◌, ◌<◌}
+use Rattle.std.specs.Prelude.{◌≡◌, Bool, ℕ, ◌^◌, ◌<◌, Result, Ok, Err}
+use Rattle.worktime.specs.declared.ClockError.{ClockError}
 use Rattle.project.specs.declared.Activity.{Activity}
 use Rattle.placing.specs.declared.Actual.{Actual}
 use Rattle.placing.specs.Placing.{via, bounded, finish_of}
@@ -24,9 +25,9 @@ pub record InHand (p : Plan) (d : Early) (i : ℕ) (activity : Activity) (w : �
   pub left_is : left ≡ d.left i
 
 module _ (p : Plan) (d : Early) (i : ℕ) where
-  abbrev pub placed_as : Placement → Pass Early
-  placed_as (Placement.At s f m) = leaves (early p d i s f m)
-  placed_as (Placement.Refused k) = refused k
+  abbrev pub placed_as : Result Placement ClockError → Pass Early
+  placed_as (Ok x) = leaves (early p d i x.start x.finish x.left)
+  placed_as (Err k) = refused k
 
   -- the end of `placed`, once the start and the minutes are known
   abbrev pub finished_as : (ℕ → Bool) → ℕ → ℕ → Pass Early
@@ -37,5 +38,5 @@ module _ (p : Plan) (d : Early) (i : ℕ) where
   after_start a r = via refused (start_by p d i a r) (placed p d i)
 
 -- the dates and minutes fit cells of the memory
-abbrev pub Fits : Placement → Type 0
-Fits x = (s f m : ℕ) → x ≡ Placement.At s f m → (s < 2 ^ 63) × (f < 2 ^ 63) × (m < 2 ^ 63)
+abbrev pub Fits : Result Placement ClockError → Type 0
+Fits x = (s f m : ℕ) → x ≡ Ok (record { start = s; finish = f; left = m }) → (s < 2 ^ 63) × (f < 2 ^ 63) × (m < 2 ^ 63)

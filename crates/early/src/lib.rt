@@ -2,10 +2,9 @@
 // Each function has the activity, its own calendar, its minutes of work left, and the times of the project.
 #![tactic(auto)]
 
-ghost use Rattle.std.specs.Prelude.{◌≡◌, ℕ, ◌^◌, ◌<◌, max};
+ghost use Rattle.std.specs.Prelude.{◌≡◌, ℕ, ◌^◌, ◌<◌, max, Ok, Err};
 ghost use Rattle.calendar.specs.Records.{Valid};
 ghost use Rattle.clock.specs.On.{worked_on};
-ghost use Rattle.worktime.specs.declared.Walk.TheVariants.{At, Refused};
 ghost use Rattle.placing.specs.Placing.{via};
 ghost use Rattle.sheet.specs.Known.{SheetRead};
 ghost use Rattle.order.specs.Plan.{Plan, plan_of};
@@ -15,25 +14,27 @@ ghost use Rattle.passes.specs.Forward.{counted, at_early, constrained, levelled,
 ghost use Rattle.early.specs.InHand.{IsTimes, InHand, placed_as, finished_as, after_start, Fits};
 
 use calendar::Period;
-use placing::{Actual, Moment};
-use project::{Activity, ActivityKind, Constraint, OptionalDate, ProgressMode};
+use date::Date;
+use placing::Actual;
+use project::{Activity, ActivityKind, Constraint, ProgressMode};
 use sheet::Contents;
-use worktime::{Walk, Work};
+use worktime::ClockError;
 
 // What the pass reads of the project.
 #[derive(Clone, Copy)]
 pub struct Times {
     pub origin: u64,
     pub floor: u64,
-    pub data_date: OptionalDate,
+    pub data_date: Option<Date>,
     pub progress_mode: ProgressMode,
 }
 
-// An activity's early start, early finish and minutes of work left, or the refusal of a walk.
+// Where an activity is placed: its early start and early finish, and its minutes of work left.
 #[derive(Clone, Copy)]
-pub enum Placement {
-    At(u64, u64, u64),
-    Refused(u64),
+pub struct Placement {
+    pub start: u64,
+    pub finish: u64,
+    pub left: u64,
 }
 
 // The later of two times.
@@ -47,17 +48,11 @@ fn later(a: u64, b: u64) -> u64
 }
 
 // A walk's answer, but not before `least`.
-fn raised_to(walk: Walk, least: u64) -> Walk
-    ensures { result ≡ via Refused walk (λ s. At (max least s)) }
+fn raised_to(walk: Result<u64, ClockError>, least: u64) -> Result<u64, ClockError>
+    ensures { result ≡ via Err walk (λ s. Ok (max least s)) }
 {
-    match walk {
-        Walk::At(s) => {
-            return Walk::At(later(least, s));
-        }
-        Walk::Refused(k) => {
-            return Walk::Refused(k);
-        }
-    }
+    let s = walk?;
+    Ok(later(least, s))
 }
 
 // ---- constraints of work that has not begun
@@ -74,44 +69,30 @@ fn at_early(
     constraint: Constraint,
     t: u64,
     start: u64,
-) -> Walk
+) -> Result<u64, ClockError>
     requires { Valid week sheet.now at n }
     ensures { (p : Plan) (d : Early) (i : ℕ) → InHand p d i activity (worked_on week sheet.now at n) left → IsTimes p times → result ≡ at_early p d i constraint t start }
 {
     match constraint {
-        Constraint::Unconstrained => {
-            return Walk::At(start);
-        }
-        Constraint::StartOnOrAfter(_) => {
-            return Walk::At(later(start, t));
-        }
-        Constraint::StartOnOrBefore(_) => {
-            return Walk::At(start);
-        }
+        Constraint::Unconstrained => Ok(start),
+        Constraint::StartOnOrAfter(_) => Ok(later(start, t)),
+        Constraint::StartOnOrBefore(_) => Ok(start),
         Constraint::FinishOnOrAfter(_) => {
             let walk = placing::start_for_finish(activity, week, sheet, at, n, left, t);
-            return raised_to(walk, start);
+            raised_to(walk, start)
         }
-        Constraint::FinishOnOrBefore(_) => {
-            return Walk::At(start);
-        }
-        Constraint::StartOn(_) => {
-            return Walk::At(later(start, t));
-        }
+        Constraint::FinishOnOrBefore(_) => Ok(start),
+        Constraint::StartOn(_) => Ok(later(start, t)),
         Constraint::FinishOn(_) => {
             let walk = placing::start_for_finish(activity, week, sheet, at, n, left, t);
-            return raised_to(walk, start);
+            raised_to(walk, start)
         }
-        Constraint::MandatoryStart(_) => {
-            return Walk::At(later(t, times.floor));
-        }
+        Constraint::MandatoryStart(_) => Ok(later(t, times.floor)),
         Constraint::MandatoryFinish(_) => {
             let walk = placing::start_for_finish(activity, week, sheet, at, n, left, t);
-            return raised_to(walk, times.floor);
+            raised_to(walk, times.floor)
         }
-        Constraint::AsLateAsPossible => {
-            return Walk::At(start);
-        }
+        Constraint::AsLateAsPossible => Ok(start),
     }
 }
 
@@ -126,27 +107,18 @@ fn constrained(
     times: Times,
     constraint: Constraint,
     start: u64,
-) -> Walk
+) -> Result<u64, ClockError>
     requires { Valid week sheet.now at n }
     ensures { (p : Plan) (d : Early) (i : ℕ) → InHand p d i activity (worked_on week sheet.now at n) left → IsTimes p times → result ≡ constrained p d i constraint start }
 {
-    match placing::dates::constraint_time(activity, week, sheet, at, n, constraint) {
-        Moment::At(x) => match placing::bounded(times.origin, x) {
-            Walk::At(t) => {
-                return at_early(
-                    activity, week, sheet, at, n, left, times, constraint, t, start,
-                );
-            }
-            Walk::Refused(k) => {
-                return Walk::Refused(k);
-            }
-        },
-        Moment::Nowhere => {
-            return Walk::At(start);
+    match placing::dates::constraint_time(activity, week, sheet, at, n, constraint)? {
+        Some(x) => {
+            let t = placing::bounded(times.origin, x)?;
+            at_early(
+                activity, week, sheet, at, n, left, times, constraint, t, start,
+            )
         }
-        Moment::Refused(k) => {
-            return Walk::Refused(k);
-        }
+        None => Ok(start),
     }
 }
 
@@ -160,19 +132,17 @@ fn levelled(
     left: u64,
     times: Times,
     start: u64,
-) -> Walk
+) -> Result<u64, ClockError>
     requires { Valid week sheet.now at n }
     ensures { (p : Plan) (d : Early) (i : ℕ) → InHand p d i activity (worked_on week sheet.now at n) left → IsTimes p times → result ≡ levelled p d i activity.levelled start }
 {
     let day = activity.levelled;
     match day {
-        OptionalDate::On(x) => {
+        Some(x) => {
             let constraint = Constraint::StartOnOrAfter(x);
-            return constrained(activity, week, sheet, at, n, left, times, constraint, start);
+            constrained(activity, week, sheet, at, n, left, times, constraint, start)
         }
-        OptionalDate::Absent => {
-            return Walk::At(start);
-        }
+        None => Ok(start),
     }
 }
 
@@ -187,30 +157,18 @@ fn held(
     times: Times,
     is_summary: bool,
     start: u64,
-) -> Walk
+) -> Result<u64, ClockError>
     requires { Valid week sheet.now at n }
     ensures { (p : Plan) (d : Early) (i : ℕ) → InHand p d i activity (worked_on week sheet.now at n) left → IsTimes p times → is_summary ≡ summary p i → result ≡ held p d i start }
 {
     if is_summary {
-        return Walk::At(start);
+        return Ok(start);
     }
     let first = activity.constraint;
-    match constrained(activity, week, sheet, at, n, left, times, first, start) {
-        Walk::At(s) => {
-            let second = activity.secondary_constraint;
-            match constrained(activity, week, sheet, at, n, left, times, second, s) {
-                Walk::At(u) => {
-                    return levelled(activity, week, sheet, at, n, left, times, u);
-                }
-                Walk::Refused(k) => {
-                    return Walk::Refused(k);
-                }
-            }
-        }
-        Walk::Refused(k) => {
-            return Walk::Refused(k);
-        }
-    }
+    let s = constrained(activity, week, sheet, at, n, left, times, first, start)?;
+    let second = activity.secondary_constraint;
+    let u = constrained(activity, week, sheet, at, n, left, times, second, s)?;
+    levelled(activity, week, sheet, at, n, left, times, u)
 }
 
 // ---- work under way
@@ -222,17 +180,11 @@ fn resumed(times: Times, s: u64, start: u64) -> u64
     let day = times.data_date;
     let mode = times.progress_mode;
     match day {
-        OptionalDate::On(_) => match mode {
-            ProgressMode::RetainedLogic => {
-                return start;
-            }
-            ProgressMode::ProgressOverride => {
-                return times.floor;
-            }
+        Some(_) => match mode {
+            ProgressMode::RetainedLogic => start,
+            ProgressMode::ProgressOverride => times.floor,
         },
-        OptionalDate::Absent => {
-            return s;
-        }
+        None => s,
     }
 }
 
@@ -248,40 +200,26 @@ fn start_by(
     is_summary: bool,
     recorded: Actual,
     start: u64,
-) -> Walk
+) -> Result<u64, ClockError>
     requires { Valid week sheet.now at n }
     ensures { (p : Plan) (d : Early) (i : ℕ) → InHand p d i activity (worked_on week sheet.now at n) left → IsTimes p times → is_summary ≡ summary p i → result ≡ start_by p d i recorded start }
 {
     match recorded {
-        Actual::Unstarted => {
-            return held(activity, week, sheet, at, n, left, times, is_summary, start);
-        }
-        Actual::Begun(s) => {
-            return Walk::At(resumed(times, s, start));
-        }
-        Actual::Completed(_, _) => {
-            return Walk::At(start);
-        }
-        Actual::Refused(k) => {
-            return Walk::Refused(k);
-        }
+        Actual::Unstarted => held(activity, week, sheet, at, n, left, times, is_summary, start),
+        Actual::Begun(s) => Ok(resumed(times, s, start)),
+        Actual::Completed(_, _) => Ok(start),
+        Actual::Refused(k) => Err(k),
     }
 }
 
 // ---- the minutes by an expected finish
 
 // Minutes of work counted, none where the second time is the earlier.
-fn counted(work: Work) -> Walk
-    ensures { (result ≡ counted Refused work At) × ((m : ℕ) → result ≡ At m → m < 2 ^ 63) }
+fn counted(work: Result<i64, ClockError>) -> Result<u64, ClockError>
+    ensures { (result ≡ counted Err work Ok) × ((m : ℕ) → result ≡ Ok m → m < 2 ^ 63) }
 {
-    match work {
-        Work::Minutes(z) => {
-            return Walk::At(number::sign::upward(z));
-        }
-        Work::Refused(k) => {
-            return Walk::Refused(k);
-        }
-    }
+    let z = work?;
+    Ok(number::sign::upward(z))
 }
 
 // The work from `s` to the evening of an expected finish.
@@ -294,35 +232,19 @@ fn work_to(
     left: u64,
     times: Times,
     s: u64,
-    expected: OptionalDate,
-) -> Walk
+    expected: Option<Date>,
+) -> Result<u64, ClockError>
     requires { Valid week sheet.now at n × (left < 2 ^ 63) }
-    ensures { ((p : Plan) (d : Early) (i : ℕ) → InHand p d i activity (worked_on week sheet.now at n) left → IsTimes p times → result ≡ work_to p d i s expected) × ((m : ℕ) → result ≡ At m → m < 2 ^ 63) }
+    ensures { ((p : Plan) (d : Early) (i : ℕ) → InHand p d i activity (worked_on week sheet.now at n) left → IsTimes p times → result ≡ work_to p d i s expected) × ((m : ℕ) → result ≡ Ok m → m < 2 ^ 63) }
 {
     match expected {
-        OptionalDate::On(x) => match clock::previous_finish(
-            week,
-            sheet,
-            at,
-            n,
-            x.midnight() + 1440,
-        ) {
-            Walk::At(e) => match placing::bounded(times.origin, e) {
-                Walk::At(b) => {
-                    let work = clock::between(week, sheet, at, n, s, later(b, s));
-                    return counted(work);
-                }
-                Walk::Refused(k) => {
-                    return Walk::Refused(k);
-                }
-            },
-            Walk::Refused(k) => {
-                return Walk::Refused(k);
-            }
-        },
-        OptionalDate::Absent => {
-            return Walk::At(left);
+        Some(x) => {
+            let e = clock::previous_finish(week, sheet, at, n, x.midnight() + 1440)?;
+            let b = placing::bounded(times.origin, e)?;
+            let work = clock::between(week, sheet, at, n, s, later(b, s));
+            counted(work)
         }
+        None => Ok(left),
     }
 }
 
@@ -337,25 +259,21 @@ fn minutes_from(
     times: Times,
     is_summary: bool,
     s: u64,
-) -> Walk
+) -> Result<u64, ClockError>
     requires { Valid week sheet.now at n × (left < 2 ^ 63) }
-    ensures { ((p : Plan) (d : Early) (i : ℕ) → InHand p d i activity (worked_on week sheet.now at n) left → IsTimes p times → is_summary ≡ summary p i → result ≡ minutes_from p d i s) × ((m : ℕ) → result ≡ At m → m < 2 ^ 63) }
+    ensures { ((p : Plan) (d : Early) (i : ℕ) → InHand p d i activity (worked_on week sheet.now at n) left → IsTimes p times → is_summary ≡ summary p i → result ≡ minutes_from p d i s) × ((m : ℕ) → result ≡ Ok m → m < 2 ^ 63) }
 {
     if is_summary {
-        return Walk::At(left);
+        return Ok(left);
     }
     let kind = activity.kind;
     match kind {
         ActivityKind::Task => {
             let expected = activity.expected_finish;
-            return work_to(activity, week, sheet, at, n, left, times, s, expected);
+            work_to(activity, week, sheet, at, n, left, times, s, expected)
         }
-        ActivityKind::StartMilestone => {
-            return Walk::At(left);
-        }
-        ActivityKind::FinishMilestone => {
-            return Walk::At(left);
-        }
+        ActivityKind::StartMilestone => Ok(left),
+        ActivityKind::FinishMilestone => Ok(left),
     }
 }
 
@@ -371,23 +289,17 @@ fn finished(
     times: Times,
     s: u64,
     m: u64,
-) -> Placement
+) -> Result<Placement, ClockError>
     requires { Valid week sheet.now at n × (s < 2 ^ 63) × (m < 2 ^ 63) × (times.origin < 2 ^ 43) }
     ensures { ((p : Plan) (d : Early) (i : ℕ) → IsTimes p times → placed_as p d i result ≡ finished_as p d i (worked_on week sheet.now at n) s m) × Fits result }
 {
-    match placing::finish_of(activity, week, sheet, at, n, m, s) {
-        Walk::At(g) => match placing::bounded(times.origin, g) {
-            Walk::At(f) => {
-                return Placement::At(s, f, m);
-            }
-            Walk::Refused(k) => {
-                return Placement::Refused(k);
-            }
-        },
-        Walk::Refused(k) => {
-            return Placement::Refused(k);
-        }
-    }
+    let g = placing::finish_of(activity, week, sheet, at, n, m, s)?;
+    let f = placing::bounded(times.origin, g)?;
+    Ok(Placement {
+        start: s,
+        finish: f,
+        left: m,
+    })
 }
 
 // The activity at the first place from `start` on.
@@ -401,30 +313,14 @@ fn placed(
     times: Times,
     is_summary: bool,
     start: u64,
-) -> Placement
+) -> Result<Placement, ClockError>
     requires { Valid week sheet.now at n × (left < 2 ^ 63) × (times.origin < 2 ^ 43) }
     ensures { ((p : Plan) (d : Early) (i : ℕ) → InHand p d i activity (worked_on week sheet.now at n) left → IsTimes p times → is_summary ≡ summary p i → placed_as p d i result ≡ placed p d i start) × Fits result }
 {
-    match placing::place_start(activity, week, sheet, at, n, start) {
-        Walk::At(t) => match placing::bounded(times.origin, t) {
-            Walk::At(s) => match minutes_from(
-                activity, week, sheet, at, n, left, times, is_summary, s,
-            ) {
-                Walk::At(m) => {
-                    return finished(activity, week, sheet, at, n, times, s, m);
-                }
-                Walk::Refused(k) => {
-                    return Placement::Refused(k);
-                }
-            },
-            Walk::Refused(k) => {
-                return Placement::Refused(k);
-            }
-        },
-        Walk::Refused(k) => {
-            return Placement::Refused(k);
-        }
-    }
+    let t = placing::place_start(activity, week, sheet, at, n, start)?;
+    let s = placing::bounded(times.origin, t)?;
+    let m = minutes_from(activity, week, sheet, at, n, left, times, is_summary, s)?;
+    finished(activity, week, sheet, at, n, times, s, m)
 }
 
 // The early dates of an activity whose links leave it `start`: completed work apart.
@@ -439,20 +335,14 @@ pub fn place(
     is_summary: bool,
     recorded: Actual,
     start: u64,
-) -> Placement
+) -> Result<Placement, ClockError>
     requires { Valid week sheet.now at n × (left < 2 ^ 63) × (times.origin < 2 ^ 43) }
     ensures { ((p : Plan) (d : Early) (i : ℕ) → InHand p d i activity (worked_on week sheet.now at n) left → IsTimes p times → is_summary ≡ summary p i → placed_as p d i result ≡ after_start p d i recorded start) × Fits result }
 {
-    match start_by(
+    let u = start_by(
         activity, week, sheet, at, n, left, times, is_summary, recorded, start,
-    ) {
-        Walk::At(u) => {
-            return placed(activity, week, sheet, at, n, left, times, is_summary, u);
-        }
-        Walk::Refused(k) => {
-            return Placement::Refused(k);
-        }
-    }
+    )?;
+    placed(activity, week, sheet, at, n, left, times, is_summary, u)
 }
 
 // The times of the project.

@@ -1,8 +1,10 @@
 -- The dates of a held late move lie in the years that may be read, so that the memory holds them.
-use Rattle.std.specs.Prelude.{◌≡◌, Bool, ℕ, ◌≤◌, ◌<◌}
-use Rattle.std.proofs.Common.{sym, ◌∙◌, ⊎_elim, arith}
+use Rattle.std.specs.Prelude.{◌≡◌, Bool, ℕ, ◌≤◌, ◌<◌, Result, Ok, Err}
+use Rattle.floats.specs.declared.Moved.{Moved}
+use Rattle.floats.specs.Slack.{moved_to}
+use Rattle.worktime.specs.declared.ClockError.{ClockError}
+use Rattle.std.proofs.Common.{sym, ap, ◌∙◌, ⊎_elim, arith}
 use Rattle.number.specs.Order.{eq_or_ne, lt_or_le}
-use Rattle.worktime.specs.declared.Walk.TheVariants.{At}
 use Rattle.worktime.specs.Count.{count_mono}
 use Rattle.worktime.specs.Reads.{at_or_refused}
 use Rattle.worktime.specs.Walks.{end_minute, advance, retreat}
@@ -10,24 +12,22 @@ use Rattle.worktime.proofs.Shift.{retreat_sound}
 use Rattle.project.specs.declared.ActivityKind.{ActivityKind}
 use Rattle.placing.specs.Placing.{place_start, finish_of}
 use Rattle.placing.proofs.PlacingSound.{same_time, walk_ways, place_start_sound, finish_of_bound}
-use Rattle.floats.specs.declared.Moved.{Moved}
-use Rattle.floats.specs.declared.Moved.TheVariants.{To}
 use Rattle.floats.specs.Slack.{start_moved, dates_moved}
 use Rattle.floats.specs.SlackLaws.{start_moved_refuses, start_moved_unplaced, start_moved_none, start_moved_far, start_moved_back, dates_moved_refuses, dates_moved_far, dates_moved_to}
 
-moved_or_refused : {x : Moved} {s f k : ℕ} → x ≡ To s f → x ≡ Moved.Refused k → ⊥
+moved_or_refused : {x : Result Moved ClockError} {s f : ℕ} {k : ClockError} → x ≡ moved_to s f → x ≡ Err k → ⊥
 moved_or_refused p q = let z : ◌≡◌ {A = ℕ} 0 1 = cc in omega arith
 
 module _ (w : ℕ → Bool) where
   -- going back ends no later
-  retreat_bound : (t n u : ℕ) → 0 < n → retreat w t n ≡ At u → u ≤ end_minute
+  retreat_bound : (t n u : ℕ) → 0 < n → retreat w t n ≡ Ok u → u ≤ end_minute
   retreat_bound t n u l e =
       let r = retreat_sound w e in
       ⊎_elim (λ (h : t < u). absurd (omega (arith, r.0.total, count_mono w {s = t} {t = u} (omega arith))))
       (λ (h : u ≤ t). omega (arith, r.1 l)) (lt_or_le t u)
 
   module _ (kind : ActivityKind) (es ef left n : ℕ) where
-    start_bound : (s : ℕ) → start_moved w kind es ef left n ≡ At s → s ≤ end_minute
+    start_bound : (s : ℕ) → start_moved w kind es ef left n ≡ Ok s → s ≤ end_minute
     start_bound s e =
         ⊎_elim
         (λ a.
@@ -48,15 +48,16 @@ module _ (w : ℕ → Bool) where
         (λ a. absurd (at_or_refused e (start_moved_refuses w kind es ef left n a.0 a.1)))
         (walk_ways (advance w es n))
 
-    pub moved_bound : (s f : ℕ) → dates_moved w kind es ef left n ≡ To s f → (s ≤ end_minute) × (f ≤ end_minute)
+    pub moved_bound : (s f : ℕ) → dates_moved w kind es ef left n ≡ moved_to s f → (s ≤ end_minute) × (f ≤ end_minute)
     moved_bound s f e =
         ⊎_elim
         (λ a.
         ⊎_elim
         (λ b.
         let g = dates_moved_to w kind es ef left n a.0 a.1 b.0 b.1 in
-        let p : a.0 ≡ s = cc in
-        let q : b.0 ≡ f = cc in
+        let r : ◌≡◌ {A = Moved} (record { start = a.0; finish = b.0 }) (record { start = s; finish = f }) = cc in
+        let p : a.0 ≡ s = ap (λ (z : Moved). z.start) r in
+        let q : b.0 ≡ f = ap (λ (z : Moved). z.finish) r in
         let x = start_bound a.0 a.1 in
         let y = finish_of_bound w left a.0 b.0 x b.1 in
         (omega arith, omega arith))

@@ -1,12 +1,9 @@
 -- The slack before the successors of an activity, from what stands in the memory: one link's part, and the walk along the links out of it.
-use Rattle.std.specs.Prelude.{◌≡◌, refl, Bool, List, ℕ, ◌≤◌, ◌<◌, ℤ}
+use Rattle.std.specs.Prelude.{◌≡◌, refl, Bool, List, ℕ, ◌≤◌, ◌<◌, ℤ, Result, Ok, Err}
+use Rattle.worktime.specs.declared.ClockError.{ClockError}
 use Rattle.std.proofs.Math.Path.{sym, ap}
 use Rattle.std.proofs.Common.{◌∙◌, arith}
 use Rattle.number.specs.Sign.{min_z}
-use Rattle.worktime.specs.declared.Walk.{Walk}
-use Rattle.worktime.specs.declared.Walk.TheVariants.{At, Refused}
-use Rattle.worktime.specs.declared.Work.{Work}
-use Rattle.worktime.specs.declared.Work.TheVariants.{Minutes}
 use Rattle.worktime.specs.Walks.{between}
 use Rattle.project.specs.declared.RelationshipType.{RelationshipType}
 use Rattle.project.specs.declared.RelationshipType.TheVariants.{FinishToStart, StartToStart, FinishToFinish, StartToFinish}
@@ -53,7 +50,7 @@ module _ {s : List ℕ} {c : Contents} {places : List ℕ} {t : ℕ} {xs : List 
 
   -- ---- one link: w is the minutes that count
   module _ (k : ℕ) (l : k < t) (τ : Tie) (e : as_tie τ ≡ tie_in S k) (w : ℕ → Bool) (start finish : ℕ) where
-    abbrev gap_to : Work
+    abbrev gap_to : Result ℤ ClockError
     gap_to = gap_by p w (tie p k) start finish (d.es (tie p k).to) (d.ef (tie p k).to)
 
     by_tie : gap_by p w (as_tie τ) start finish (S.act early_start τ.to) (S.act early_finish τ.to) ≡ gap_to
@@ -62,17 +59,17 @@ module _ {s : List ℕ} {c : Contents} {places : List ℕ} {t : ℕ} {xs : List 
         sym (λ z. gap_by p w (as_tie τ) start finish (es_at p S τ.to b z) (ef_at p S τ.to b z))
         ∙ ap (λ (x : ties.Tie). gap_by p w x start finish (d.es x.to) (d.ef x.to)) (tie_is R k l τ e)
 
-    module _ (x : Walk) (f : x ≡ forward_bound p (as_tie τ) start finish) where
-      pub gap_refused : (j : ℕ) → x ≡ Refused j → Work.Refused j ≡ gap_to
+    module _ (x : Result ℕ ClockError) (f : x ≡ forward_bound p (as_tie τ) start finish) where
+      pub gap_refused : (j : ClockError) → x ≡ Err j → Err j ≡ gap_to
       unfolding gap_by
-      gap_refused j a = sym (via_refused Work.Refused (forward_bound p (as_tie τ) start finish) _ j (sym f ∙ a)) ∙ by_tie
+      gap_refused j a = sym (via_refused Err (forward_bound p (as_tie τ) start finish) _ j (sym f ∙ a)) ∙ by_tie
 
-      pub gap_between : (b r u : ℕ) → x ≡ At b → r ≡ target_of p τ.kind early_start early_finish → u ≡ S.act r τ.to → between w b u ≡ gap_to
+      pub gap_between : (b r u : ℕ) → x ≡ Ok b → r ≡ target_of p τ.kind early_start early_finish → u ≡ S.act r τ.to → between w b u ≡ gap_to
       unfolding gap_by
       gap_between b r u a h g =
           ap (between w b) (g ∙ ap (λ (y : ℕ). S.act y τ.to) h ∙ target_read p S τ.kind τ.to)
           ∙ sym
-          (via_at Work.Refused (forward_bound p (as_tie τ) start finish)
+          (via_at Err (forward_bound p (as_tie τ) start finish)
           (λ b. between w b (target_of p τ.kind (S.act early_start τ.to) (S.act early_finish τ.to))) b (sym f ∙ a))
           ∙ by_tie
 
@@ -92,77 +89,77 @@ module _ {s : List ℕ} {c : Contents} {places : List ℕ} {t : ℕ} {xs : List 
   -- ---- the walk along the links out of i: link k is next, and `least` is the least so far
   module _ (i : ℕ) (slack : ℤ) where
     abbrev pub Slack : ℤ → ℕ → Type 0
-    Slack least k = Cursor (slack_step p d i) Minutes (S.link from_field) t i slack least k
+    Slack least k = Cursor (slack_step p d i) Ok (S.link from_field) t i slack least k
 
     pub slack_start : (k : ℕ) → i < c.activities → k ≡ S.act first_out i → Slack slack k
     slack_start k b e =
-        cursor_start (slack_step p d i) Minutes (S.link from_field) t i slack
+        cursor_start (slack_step p d i) Ok (S.link from_field) t i slack
         (rw e (R.standing.chains_out.heads i (omega (arith, activities_are s c))))
 
     pub slack_later : (k m : ℕ) → k < t → m ≡ S.link next_out k → k < m
     slack_later k m b e = omega (arith, (R.standing.chains_out.nexts k (omega arith) b).low)
 
-    all : gather (slack_step p d i) Minutes (after (S.link from_field) t i 0) slack ≡ least_slack p d i (ties_out p i) slack
-    all = ap (λ (ks : List ℕ). gather (slack_step p d i) Minutes ks slack) (out_is p R.standing i)
+    all : gather (slack_step p d i) Ok (after (S.link from_field) t i 0) slack ≡ least_slack p d i (ties_out p i) slack
+    all = ap (λ (ks : List ℕ). gather (slack_step p d i) Ok ks slack) (out_is p R.standing i)
 
     module _ {least : ℤ} {k : ℕ} (C : Slack least k) where
-      pub slack_turn : k < t → (g : ℤ) → gap_of p d i k ≡ Minutes g → (m : ℕ) → m ≡ S.link next_out k → Slack (min_z least g) m
+      pub slack_turn : k < t → (g : ℤ) → gap_of p d i k ≡ Ok g → (m : ℕ) → m ≡ S.link next_out k → Slack (min_z least g) m
       slack_turn b g a m e =
-          cursor_turn (slack_step p d i) Minutes (S.link from_field) t i slack C (min_z least g) b
+          cursor_turn (slack_step p d i) Ok (S.link from_field) t i slack C (min_z least g) b
           (rw e (R.standing.chains_out.nexts k (omega arith) b))
-          (λ f. measured_at Work.Refused (gap_of p d i k) (λ z. f (min_z least z)) g a)
+          (λ f. measured_at Err (gap_of p d i k) (λ z. f (min_z least z)) g a)
 
-      pub slack_stop : k < t → (j : ℕ) → gap_of p d i k ≡ Work.Refused j → Work.Refused j ≡ least_slack p d i (ties_out p i) slack
+      pub slack_stop : k < t → (j : ClockError) → gap_of p d i k ≡ Err j → Err j ≡ least_slack p d i (ties_out p i) slack
       slack_stop b j a =
-          cursor_stop (slack_step p d i) Minutes (S.link from_field) t i slack C (Work.Refused j) b
-          (λ f. measured_refused Work.Refused (gap_of p d i k) (λ z. f (min_z least z)) j a)
+          cursor_stop (slack_step p d i) Ok (S.link from_field) t i slack C (Err j) b
+          (λ f. measured_refused Err (gap_of p d i k) (λ z. f (min_z least z)) j a)
           ∙ all
 
-      pub slack_end : t ≤ k → Minutes least ≡ least_slack p d i (ties_out p i) slack
-      slack_end b = cursor_end (slack_step p d i) Minutes (S.link from_field) t i slack C b ∙ all
+      pub slack_end : t ≤ k → Ok least ≡ least_slack p d i (ties_out p i) slack
+      slack_end b = cursor_end (slack_step p d i) Ok (S.link from_field) t i slack C b ∙ all
 
   -- ---- the ways of the slack of i, and of its free float
   module _ (i finish ef : ℕ) (w : ℕ → Bool) (o : w ≡ own p i) (h : ef ≡ d.ef i) where
-    abbrev first : Work
+    abbrev first : Result ℤ ClockError
     first = between (own p i) (d.ef i) finish
 
     first_is : between w ef finish ≡ first
     first_is = λ z. between (o z) (h z) finish
 
-    pub slack_found : (slack : ℤ) → between w ef finish ≡ Minutes slack → least_slack p d i (ties_out p i) slack ≡ slack_of p d finish i
+    pub slack_found : (slack : ℤ) → between w ef finish ≡ Ok slack → least_slack p d i (ties_out p i) slack ≡ slack_of p d finish i
     unfolding slack_of
-    slack_found slack a = sym (measured_at Work.Refused first (least_slack p d i (ties_out p i)) slack (sym first_is ∙ a))
+    slack_found slack a = sym (measured_at Err first (least_slack p d i (ties_out p i)) slack (sym first_is ∙ a))
 
-    pub slack_refused : (j : ℕ) → between w ef finish ≡ Work.Refused j → Work.Refused j ≡ slack_of p d finish i
+    pub slack_refused : (j : ClockError) → between w ef finish ≡ Err j → Err j ≡ slack_of p d finish i
     unfolding slack_of
-    slack_refused j a = sym (measured_refused Work.Refused first (least_slack p d i (ties_out p i)) j (sym first_is ∙ a))
+    slack_refused j a = sym (measured_refused Err first (least_slack p d i (ties_out p i)) j (sym first_is ∙ a))
 
-  module _ (i finish : ℕ) (x : Work) (g : x ≡ slack_of p d finish i) (lf : ℕ) where
-    abbrev rest : ℤ → Walk
-    rest least = measured Refused (between (own p i) (d.ef i) lf) (λ total. At (free_by p d (recorded p i) least total))
+  module _ (i finish : ℕ) (x : Result ℤ ClockError) (g : x ≡ slack_of p d finish i) (lf : ℕ) where
+    abbrev rest : ℤ → Result ℕ ClockError
+    rest least = measured Err (between (own p i) (d.ef i) lf) (λ total. Ok (free_by p d (recorded p i) least total))
 
-    pub free_of_refused : (j : ℕ) → x ≡ Work.Refused j → Refused j ≡ free_of p d finish lf i
+    pub free_of_refused : (j : ClockError) → x ≡ Err j → Err j ≡ free_of p d finish lf i
     unfolding free_of
-    free_of_refused j a = sym (measured_refused Refused (slack_of p d finish i) rest j (sym g ∙ a))
+    free_of_refused j a = sym (measured_refused Err (slack_of p d finish i) rest j (sym g ∙ a))
 
-    module _ (slack : ℤ) (a : x ≡ Minutes slack) (ef : ℕ) (w : ℕ → Bool) (o : w ≡ own p i) (h : ef ≡ d.ef i) where
+    module _ (slack : ℤ) (a : x ≡ Ok slack) (ef : ℕ) (w : ℕ → Bool) (o : w ≡ own p i) (h : ef ≡ d.ef i) where
       to_late : between w ef lf ≡ between (own p i) (d.ef i) lf
       to_late = λ z. between (o z) (h z) lf
 
       with_slack : rest slack ≡ free_of p d finish lf i
       unfolding free_of
-      with_slack = sym (measured_at Refused (slack_of p d finish i) rest slack (sym g ∙ a))
+      with_slack = sym (measured_at Err (slack_of p d finish i) rest slack (sym g ∙ a))
 
-      pub free_of_late : (j : ℕ) → between w ef lf ≡ Work.Refused j → Refused j ≡ free_of p d finish lf i
+      pub free_of_late : (j : ClockError) → between w ef lf ≡ Err j → Err j ≡ free_of p d finish lf i
       free_of_late j b =
           sym
-          (measured_refused Refused (between (own p i) (d.ef i) lf) (λ total. At (free_by p d (recorded p i) slack total)) j (sym to_late ∙ b))
+          (measured_refused Err (between (own p i) (d.ef i) lf) (λ total. Ok (free_by p d (recorded p i) slack total)) j (sym to_late ∙ b))
           ∙ with_slack
 
-      pub free_of_found : (total : ℤ) → between w ef lf ≡ Minutes total → (actual : Actual) → actual ≡ recorded p i → (n : ℕ)
-          → n ≡ free_by p d actual slack total → At n ≡ free_of p d finish lf i
+      pub free_of_found : (total : ℤ) → between w ef lf ≡ Ok total → (actual : Actual) → actual ≡ recorded p i → (n : ℕ)
+          → n ≡ free_by p d actual slack total → Ok n ≡ free_of p d finish lf i
       free_of_found total b actual r n q =
-          ap At (q ∙ ap (λ (y : Actual). free_by p d y slack total) r)
+          ap Ok (q ∙ ap (λ (y : Actual). free_by p d y slack total) r)
           ∙ sym
-          (measured_at Refused (between (own p i) (d.ef i) lf) (λ total. At (free_by p d (recorded p i) slack total)) total (sym to_late ∙ b))
+          (measured_at Err (between (own p i) (d.ef i) lf) (λ total. Ok (free_by p d (recorded p i) slack total)) total (sym to_late ∙ b))
           ∙ with_slack

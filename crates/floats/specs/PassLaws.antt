@@ -1,5 +1,6 @@
 -- The activity that a step takes, and what the step leaves for the next.
-use Rattle.std.specs.Prelude.{◌≡◌, refl, List, ℕ}
+use Rattle.std.specs.Prelude.{◌≡◌, refl, List, ℕ, Result}
+use Rattle.worktime.specs.declared.ClockError.{ClockError}
 use Rattle.std.proofs.Common.{sym, ap, ◌∙◌}
 use Rattle.memory.specs.State.{State, fill_act}
 use Rattle.memory.specs.Fields as fields
@@ -11,7 +12,6 @@ use Rattle.order.specs.Plan.{Plan, plan_of, week_of_calendar, exception_place, e
 use Rattle.order.specs.Ties.{calendar_of}
 use Rattle.passes.specs.Dates.{Late, Freed, through}
 use Rattle.passes.specs.Floats.{free_float}
-use Rattle.dates.specs.declared.Step.{Step}
 use Rattle.dates.specs.Columns.{early_in, late_in, ended}
 use Rattle.dates.specs.KeptLaws.{late_kept}
 use Rattle.bounds.specs.ReadyLaws.{activities_are}
@@ -30,7 +30,7 @@ own_is s c i activity week at n e w x y =
     }
 
 -- one step, with the late dates as they were before the pass
-pub step_kept : {S T : State} → Frame 12 16 0 0 S T → (p : Plan) (finish i : ℕ) (y : Freed) (r : Step)
+pub step_kept : {S T : State} → Frame 12 16 0 0 S T → (p : Plan) (finish i : ℕ) (y : Freed) (r : Result Unit ClockError)
     → ((e : ℕ) → ended y r ≡ free_float p finish (late_in p T e) (freed_in p T) i)
     → (e : ℕ) → ended y r ≡ free_float p finish (late_in p S e) (freed_in p T) i
 step_kept {S} {T} F p finish i y r h e = h e ∙ ap (λ (l : Late). free_float p finish l (freed_in p T) i) (late_kept F p refl refl e)

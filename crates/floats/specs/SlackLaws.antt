@@ -1,13 +1,11 @@
 -- The plain forms are the definition's: free float in two stages, and the way laws of each.
-use Rattle.std.specs.Prelude.{◌≡◌, Bool, true, false, ℕ, eqb, ℤ}
+use Rattle.std.specs.Prelude.{◌≡◌, Bool, true, false, ℕ, eqb, ℤ, Result, Ok, Err}
+use Rattle.floats.specs.Slack.{moved_to}
+use Rattle.worktime.specs.declared.ClockError.{ClockError}
 use Rattle.std.proofs.Math.Path.{refl, sym}
 use Rattle.std.proofs.Common.{ap, ◌∙◌, eq-eqb, ne_eqb}
 use mathlib.Core.List.{List, [], ◌∷◌}
 use Rattle.number.specs.Sign.{min_z}
-use Rattle.worktime.specs.declared.Walk.{Walk}
-use Rattle.worktime.specs.declared.Walk.TheVariants.{At, Refused}
-use Rattle.worktime.specs.declared.Work.{Work}
-use Rattle.worktime.specs.declared.Work.TheVariants.{Minutes}
 use Rattle.worktime.specs.Walks.{advance, retreat, between}
 use Rattle.worktime.specs.Reads.{on_true, on_false}
 use Rattle.project.specs.declared.ActivityKind.{ActivityKind}
@@ -23,38 +21,36 @@ use Rattle.passes.specs.Plan.{own, tie, ties_out, kind_of, recorded, begun}
 use Rattle.passes.specs.Dates.{Early, Late, Freed, Pass, leaves, refused, put}
 use Rattle.passes.specs.Forward.{forward_bound, early}
 use Rattle.passes.specs.Floats.{measured, is_late, gap, slack_by, not_begun, holds_late, held_start, held_move, free_by, freed, free_float}
-use Rattle.floats.specs.declared.Moved.{Moved}
-use Rattle.floats.specs.declared.Moved.TheVariants.{To}
 use Rattle.floats.specs.Slack.{marked_late, start_moved, dates_moved, on_moved, gap_by, gap_of, least_slack, slack_of, free_of}
 
 -- ---- what follows a count
-module _ {A : Type 0} (refusal : ℕ → A) (x : Work) (go : ℤ → A) where
-  pub measured_at : (z : ℤ) → x ≡ Minutes z → measured refusal x go ≡ go z
+module _ {A : Type 0} (refusal : ClockError → A) (x : Result ℤ ClockError) (go : ℤ → A) where
+  pub measured_at : (z : ℤ) → x ≡ Ok z → measured refusal x go ≡ go z
   measured_at z e = rw e
 
-  pub measured_refused : (k : ℕ) → x ≡ Work.Refused k → measured refusal x go ≡ refusal k
+  pub measured_refused : (k : ClockError) → x ≡ Err k → measured refusal x go ≡ refusal k
   measured_refused k e = rw e
 
 -- one count after another, and a count after a walk
-measured_measured : {A : Type 0} (refusal : ℕ → A) (x : Work) (f : ℤ → Work) (go : ℤ → A)
-    → measured refusal (measured Work.Refused x f) go ≡ measured refusal x (λ z. measured refusal (f z) go)
-measured_measured refusal (Minutes z) f go = refl
-measured_measured refusal (Work.Refused k) f go = refl
+measured_measured : {A : Type 0} (refusal : ClockError → A) (x : Result ℤ ClockError) (f : ℤ → Result ℤ ClockError) (go : ℤ → A)
+    → measured refusal (measured Err x f) go ≡ measured refusal x (λ z. measured refusal (f z) go)
+measured_measured refusal (Ok z) f go = refl
+measured_measured refusal (Err k) f go = refl
 
-measured_via : {A : Type 0} (refusal : ℕ → A) (x : Walk) (f : ℕ → Work) (go : ℤ → A)
-    → measured refusal (via Work.Refused x f) go ≡ via refusal x (λ b. measured refusal (f b) go)
-measured_via refusal (At t) f go = refl
-measured_via refusal (Refused k) f go = refl
+measured_via : {A : Type 0} (refusal : ClockError → A) (x : Result ℕ ClockError) (f : ℕ → Result ℤ ClockError) (go : ℤ → A)
+    → measured refusal (via Err x f) go ≡ via refusal x (λ b. measured refusal (f b) go)
+measured_via refusal (Ok t) f go = refl
+measured_via refusal (Err k) f go = refl
 
-via_measured : {A : Type 0} (refusal : ℕ → A) (x : Work) (f : ℤ → Walk) (go : ℕ → A)
-    → via refusal (measured Refused x f) go ≡ measured refusal x (λ z. via refusal (f z) go)
-via_measured refusal (Minutes z) f go = refl
-via_measured refusal (Work.Refused k) f go = refl
+via_measured : {A : Type 0} (refusal : ClockError → A) (x : Result ℤ ClockError) (f : ℤ → Result ℕ ClockError) (go : ℕ → A)
+    → via refusal (measured Err x f) go ≡ measured refusal x (λ z. via refusal (f z) go)
+via_measured refusal (Ok z) f go = refl
+via_measured refusal (Err k) f go = refl
 
 -- what follows is the same for each count
-measured_same : {A : Type 0} (refusal : ℕ → A) (x : Work) (f g : ℤ → A) → ((z : ℤ) → f z ≡ g z) → measured refusal x f ≡ measured refusal x g
-measured_same refusal (Minutes z) f g h = h z
-measured_same refusal (Work.Refused k) f g h = refl
+measured_same : {A : Type 0} (refusal : ClockError → A) (x : Result ℤ ClockError) (f g : ℤ → A) → ((z : ℤ) → f z ≡ g z) → measured refusal x f ≡ measured refusal x g
+measured_same refusal (Ok z) f g h = h z
+measured_same refusal (Err k) f g h = refl
 
 module _ (p : Plan) (d : Early) where
   -- ---- the definition's continuations as plain values
@@ -83,14 +79,14 @@ module _ (p : Plan) (d : Early) where
   unfolding holds_late marked_late
   holds_late_else i e = rw e
 
-moved_via : {A : Type 0} (refusal : ℕ → A) (x : Walk) (f : ℕ → Walk) (go : ℕ → ℕ → A)
-    → on_moved refusal (via Moved.Refused x (λ s. via Moved.Refused (f s) (λ u. To s u))) go ≡ via refusal x (λ s. via refusal (f s) (λ u. go s u))
-moved_via refusal (At s) f go = inner (f s)
+moved_via : {A : Type 0} (refusal : ClockError → A) (x : Result ℕ ClockError) (f : ℕ → Result ℕ ClockError) (go : ℕ → ℕ → A)
+    → on_moved refusal (via Err x (λ s. via Err (f s) (λ u. moved_to s u))) go ≡ via refusal x (λ s. via refusal (f s) (λ u. go s u))
+moved_via refusal (Ok s) f go = inner (f s)
   where
-    inner : (y : Walk) → on_moved refusal (via Moved.Refused y (λ u. To s u)) go ≡ via refusal y (λ u. go s u)
-    inner (At u) = refl
-    inner (Refused k) = refl
-moved_via refusal (Refused k) f go = refl
+    inner : (y : Result ℕ ClockError) → on_moved refusal (via Err y (λ u. moved_to s u)) go ≡ via refusal y (λ u. go s u)
+    inner (Ok u) = refl
+    inner (Err k) = refl
+moved_via refusal (Err k) f go = refl
 
 pub held_move_is : (p : Plan) (d : Early) (i n : ℕ) (free : ℕ → ℕ)
     → held_move p d i n free
@@ -99,7 +95,7 @@ pub held_move_is : (p : Plan) (d : Early) (i n : ℕ) (free : ℕ → ℕ)
 unfolding held_move dates_moved
 held_move_is p d i n free =
     let go : ℕ → ℕ → Pass Freed = λ s f. leaves (record { early = early p d i s f (d.left i); free = put free i 0 }) in
-    ap (λ (x : Walk). via refused x (λ s. via refused (finish_of (own p i) (d.left i) s) (λ f. go s f))) (held_start_is p d i n)
+    ap (λ (x : Result ℕ ClockError). via refused x (λ s. via refused (finish_of (own p i) (d.left i) s) (λ f. go s f))) (held_start_is p d i n)
     ∙ sym (moved_via refused (start_moved (own p i) (kind_of p i) (d.es i) (d.ef i) (d.left i) n) (finish_of (own p i) (d.left i)) go)
 
 -- free float in two stages: what is found, and what becomes of it
@@ -114,8 +110,8 @@ free_is p finish l x i =
     let end : ℤ → Pass Freed = λ least. measured refused total (λ z. last (free_by p d (recorded p i) least z)) in
     measured_same refused (between w (d.ef i) finish) _ _ (λ slack. slack_is p d i (ties_out p i) slack end)
     ∙ sym (measured_measured refused (between w (d.ef i) finish) (least_slack p d i (ties_out p i)) end)
-    ∙ measured_same refused (slack_of p d finish i) _ _ (λ least. sym (via_measured refused total (λ z. At (free_by p d (recorded p i) least z)) last))
-    ∙ sym (via_measured refused (slack_of p d finish i) (λ least. measured Refused total (λ z. At (free_by p d (recorded p i) least z))) last)
+    ∙ measured_same refused (slack_of p d finish i) _ _ (λ least. sym (via_measured refused total (λ z. Ok (free_by p d (recorded p i) least z)) last))
+    ∙ sym (via_measured refused (slack_of p d finish i) (λ least. measured Err total (λ z. Ok (free_by p d (recorded p i) least z))) last)
 
 -- ---- the mark, by its ways
 module _ (p : Plan) (d : Early) (actual : Actual) (first second : Constraint) where
@@ -133,43 +129,43 @@ module _ (p : Plan) (d : Early) (actual : Actual) (first second : Constraint) wh
 
 -- ---- the moved start and dates, by their ways
 module _ (w : ℕ → Bool) (kind : ActivityKind) (es ef left n : ℕ) where
-  abbrev placed_on : ℕ → Walk
-  placed_on moved = elim (eqb left 0) [ true ↦ At moved | false ↦ via Refused (advance w ef n) (λ f. retreat w f left) ]
+  abbrev placed_on : ℕ → Result ℕ ClockError
+  placed_on moved = elim (eqb left 0) [ true ↦ Ok moved | false ↦ via Err (advance w ef n) (λ f. retreat w f left) ]
 
-  pub start_moved_refuses : (k : ℕ) → advance w es n ≡ Refused k → start_moved w kind es ef left n ≡ Refused k
+  pub start_moved_refuses : (k : ClockError) → advance w es n ≡ Err k → start_moved w kind es ef left n ≡ Err k
   unfolding start_moved
-  start_moved_refuses k a = via_refused Refused (advance w es n) (λ t. via Refused (place_start w kind t) placed_on) k a
+  start_moved_refuses k a = via_refused Err (advance w es n) (λ t. via Err (place_start w kind t) placed_on) k a
 
-  module _ (t : ℕ) (a : advance w es n ≡ At t) where
-    first : start_moved w kind es ef left n ≡ via Refused (place_start w kind t) placed_on
+  module _ (t : ℕ) (a : advance w es n ≡ Ok t) where
+    first : start_moved w kind es ef left n ≡ via Err (place_start w kind t) placed_on
     unfolding start_moved
-    first = via_at Refused (advance w es n) (λ t. via Refused (place_start w kind t) placed_on) t a
+    first = via_at Err (advance w es n) (λ t. via Err (place_start w kind t) placed_on) t a
 
-    pub start_moved_unplaced : (k : ℕ) → place_start w kind t ≡ Refused k → start_moved w kind es ef left n ≡ Refused k
-    start_moved_unplaced k b = first ∙ via_refused Refused (place_start w kind t) placed_on k b
+    pub start_moved_unplaced : (k : ClockError) → place_start w kind t ≡ Err k → start_moved w kind es ef left n ≡ Err k
+    start_moved_unplaced k b = first ∙ via_refused Err (place_start w kind t) placed_on k b
 
-    module _ (m : ℕ) (b : place_start w kind t ≡ At m) where
-      pub start_moved_none : left ≡ 0 → start_moved w kind es ef left n ≡ At m
-      start_moved_none z = first ∙ via_at Refused (place_start w kind t) placed_on m b ∙ on_true (eqb left 0) (At m) _ (eq-eqb left 0 z)
+    module _ (m : ℕ) (b : place_start w kind t ≡ Ok m) where
+      pub start_moved_none : left ≡ 0 → start_moved w kind es ef left n ≡ Ok m
+      start_moved_none z = first ∙ via_at Err (place_start w kind t) placed_on m b ∙ on_true (eqb left 0) (Ok m) _ (eq-eqb left 0 z)
 
-      some : (left ≡ 0 → ⊥) → start_moved w kind es ef left n ≡ via Refused (advance w ef n) (λ f. retreat w f left)
-      some z = first ∙ via_at Refused (place_start w kind t) placed_on m b ∙ on_false (eqb left 0) (At m) _ (ne_eqb left 0 z)
+      some : (left ≡ 0 → ⊥) → start_moved w kind es ef left n ≡ via Err (advance w ef n) (λ f. retreat w f left)
+      some z = first ∙ via_at Err (place_start w kind t) placed_on m b ∙ on_false (eqb left 0) (Ok m) _ (ne_eqb left 0 z)
 
-      pub start_moved_far : (left ≡ 0 → ⊥) → (k : ℕ) → advance w ef n ≡ Refused k → start_moved w kind es ef left n ≡ Refused k
-      start_moved_far z k c = some z ∙ via_refused Refused (advance w ef n) (λ f. retreat w f left) k c
+      pub start_moved_far : (left ≡ 0 → ⊥) → (k : ClockError) → advance w ef n ≡ Err k → start_moved w kind es ef left n ≡ Err k
+      start_moved_far z k c = some z ∙ via_refused Err (advance w ef n) (λ f. retreat w f left) k c
 
-      pub start_moved_back : (left ≡ 0 → ⊥) → (f : ℕ) → advance w ef n ≡ At f → start_moved w kind es ef left n ≡ retreat w f left
-      start_moved_back z f c = some z ∙ via_at Refused (advance w ef n) (λ f. retreat w f left) f c
+      pub start_moved_back : (left ≡ 0 → ⊥) → (f : ℕ) → advance w ef n ≡ Ok f → start_moved w kind es ef left n ≡ retreat w f left
+      start_moved_back z f c = some z ∙ via_at Err (advance w ef n) (λ f. retreat w f left) f c
 
-  pub dates_moved_refuses : (k : ℕ) → start_moved w kind es ef left n ≡ Refused k → dates_moved w kind es ef left n ≡ Moved.Refused k
+  pub dates_moved_refuses : (k : ClockError) → start_moved w kind es ef left n ≡ Err k → dates_moved w kind es ef left n ≡ Err k
   unfolding dates_moved
   dates_moved_refuses k a = rw a
 
-  module _ (s : ℕ) (a : start_moved w kind es ef left n ≡ At s) where
-    pub dates_moved_far : (k : ℕ) → finish_of w left s ≡ Refused k → dates_moved w kind es ef left n ≡ Moved.Refused k
+  module _ (s : ℕ) (a : start_moved w kind es ef left n ≡ Ok s) where
+    pub dates_moved_far : (k : ClockError) → finish_of w left s ≡ Err k → dates_moved w kind es ef left n ≡ Err k
     unfolding dates_moved
     dates_moved_far k b = rw (a, b)
 
-    pub dates_moved_to : (f : ℕ) → finish_of w left s ≡ At f → dates_moved w kind es ef left n ≡ To s f
+    pub dates_moved_to : (f : ℕ) → finish_of w left s ≡ Ok f → dates_moved w kind es ef left n ≡ moved_to s f
     unfolding dates_moved
     dates_moved_to f b = rw (a, b)

@@ -1,13 +1,14 @@
 -- What is stored of an activity's free float and held late move, as the definition has it.
-use Rattle.std.specs.Prelude.{◌≡◌, refl, Bool, true, false, ◌&&◌, ℕ, ◌≤◌, ◌<◌, pos}
+use Rattle.std.specs.Prelude.{◌≡◌, refl, Bool, true, false, ◌&&◌, ℕ, ◌≤◌, ◌<◌, pos, Result, Ok, Err}
+use Rattle.floats.specs.declared.Moved.{Moved}
+use Rattle.floats.specs.Slack.{moved_to}
+use Rattle.worktime.specs.declared.ClockError.{ClockError}
 use Rattle.std.proofs.Common.{sym, ap, ◌∙◌, arith, lt-ltb, le-ltb}
 use Rattle.std.proofs.Math.Dec.{ltb}
 use Rattle.worktime.specs.Reads.{on_true, on_false}
-use Rattle.worktime.specs.declared.Walk.{Walk}
 use Rattle.project.specs.declared.ActivityKind.{ActivityKind}
 use Rattle.project.specs.declared.Activity.{Activity}
 use Rattle.placing.specs.declared.Actual.{Actual}
-use Rattle.worktime.specs.declared.Walk.TheVariants.{At, Refused}
 use Rattle.memory.specs.State.{State, put_act, fill_act}
 use Rattle.memory.specs.Fields.{late_finish, early_start, early_finish, work_left, free_float}
 use Rattle.placing.proofs.PlacingLaws.{via_at, via_refused}
@@ -24,8 +25,6 @@ use Rattle.passes.specs.Floats as floats
 use Rattle.passes.specs.Floats.{holds_late, held_move, freed}
 use Rattle.dates.specs.Columns.{left_in, early_in, late_in, free_in}
 use Rattle.dates.specs.ColumnLaws.{put_is, column_at, column_put, column_fill}
-use Rattle.floats.specs.declared.Moved.{Moved}
-use Rattle.floats.specs.declared.Moved.TheVariants.{To}
 use Rattle.floats.specs.Slack.{freed_in, marked_late, dates_moved, on_moved, stored, free_of}
 use Rattle.floats.specs.SlackLaws.{holds_late_summary, holds_late_else, held_move_is, free_is}
 
@@ -116,32 +115,32 @@ module _ (p : Plan) (S : State) (i n : ℕ) where
         let z : left ≡ (early_in p S).left i = c ∙ sym (left_at p S i l) in
         λ q. dates_moved (o q) (k q) (x q) (y q) (z q) n
 
-    pub held_to : (s f : ℕ) → dates_moved w kind es ef left n ≡ To s f
+    pub held_to : (s f : ℕ) → dates_moved w kind es ef left n ≡ moved_to s f
         → leaves (freed_in p (stored S i s f)) ≡ held_move p (early_in p S) i n (free_in p S)
     held_to s f e =
         ap leaves (move_stored p S i l s f)
         ∙ sym
         (held_move_is p (early_in p S) i n (free_in p S)
-        ∙ ap (λ (m : Moved). on_moved refused m (λ s f. leaves (record { early = early p (early_in p S) i s f ((early_in p S).left i); free = put (free_in p S) i 0 })))
+        ∙ ap (λ (m : Result Moved ClockError). on_moved refused m (λ s f. leaves (record { early = early p (early_in p S) i s f ((early_in p S).left i); free = put (free_in p S) i 0 })))
         (sym by_dates ∙ e))
 
-    pub held_refused : (j : ℕ) → dates_moved w kind es ef left n ≡ Moved.Refused j → refused j ≡ held_move p (early_in p S) i n (free_in p S)
+    pub held_refused : (j : ClockError) → dates_moved w kind es ef left n ≡ Err j → refused j ≡ held_move p (early_in p S) i n (free_in p S)
     held_refused j e =
         sym
         (held_move_is p (early_in p S) i n (free_in p S)
-        ∙ ap (λ (m : Moved). on_moved refused m (λ s f. leaves (record { early = early p (early_in p S) i s f ((early_in p S).left i); free = put (free_in p S) i 0 })))
+        ∙ ap (λ (m : Result Moved ClockError). on_moved refused m (λ s f. leaves (record { early = early p (early_in p S) i s f ((early_in p S).left i); free = put (free_in p S) i 0 })))
         (sym by_dates ∙ e))
 
 -- ---- the ways of an activity's free float
-module _ (p : Plan) (S : State) (i : ℕ) (l : i < p.activities) (finish e : ℕ) (x : Walk) (h : x ≡ free_of p (early_in p S) finish (S.act late_finish i) i) where
+module _ (p : Plan) (S : State) (i : ℕ) (l : i < p.activities) (finish e : ℕ) (x : Result ℕ ClockError) (h : x ≡ free_of p (early_in p S) finish (S.act late_finish i) i) where
   at_late_lem : x ≡ free_of p (early_in p S) finish ((late_in p S e).lf i) i
   at_late_lem = h ∙ ap (λ (u : ℕ). free_of p (early_in p S) finish u i) (sym (lf_at p S i l e))
 
-  pub free_found : (n : ℕ) → x ≡ At n → freed p (early_in p S) i n (free_in p S) ≡ floats.free_float p finish (late_in p S e) (freed_in p S) i
+  pub free_found : (n : ℕ) → x ≡ Ok n → freed p (early_in p S) i n (free_in p S) ≡ floats.free_float p finish (late_in p S e) (freed_in p S) i
   free_found n a =
       sym (free_is p finish (late_in p S e) (freed_in p S) i ∙ via_at refused _ (λ n. freed p (early_in p S) i n (free_in p S)) n (sym at_late_lem ∙ a))
 
-  pub free_refused : (k : ℕ) → x ≡ Refused k → refused k ≡ floats.free_float p finish (late_in p S e) (freed_in p S) i
+  pub free_refused : (k : ClockError) → x ≡ Err k → refused k ≡ floats.free_float p finish (late_in p S e) (freed_in p S) i
   free_refused k a =
       sym (free_is p finish (late_in p S e) (freed_in p S) i ∙ via_refused refused _ (λ n. freed p (early_in p S) i n (free_in p S)) k (sym at_late_lem ∙ a))
 

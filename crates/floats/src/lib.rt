@@ -1,11 +1,10 @@
 // Free float and held late moves, from the last activity of the order to the first.
 #![tactic(auto)]
 
-ghost use Rattle.std.specs.Prelude.{◌≡◌, ◌&&◌, reverse, ℕ, ◌^◌, ◌<◌, ltb, length};
+ghost use Rattle.std.specs.Prelude.{◌≡◌, ◌&&◌, reverse, ℕ, ◌^◌, ◌<◌, ltb, length, Ok};
 ghost use Rattle.number.specs.Bit.{bit};
 ghost use Rattle.calendar.specs.Records.{Valid};
 ghost use Rattle.clock.specs.On.{worked_on};
-ghost use Rattle.worktime.specs.declared.Walk.TheVariants.{At};
 ghost use Rattle.memory.specs.State.{Room, state_of};
 ghost use Rattle.memory.specs.Fields.{is_summary, late_finish, early_start, early_finish};
 ghost use Rattle.topology.specs.Frame.{Frame};
@@ -23,17 +22,16 @@ ghost use Rattle.dates.specs.Standing.{actual_in, Ready, Recorded};
 ghost use Rattle.floats.specs.Slack.{freed_in, Own, marked_late, start_moved, dates_moved, stored, gap_by, least_slack, slack_of, From, free_of};
 
 use calendar::Period;
-use dates::Step;
 use placing::Actual;
 use project::{Activity, Constraint, RelationshipType};
 use sheet::Contents;
-use worktime::{Walk, Work};
+use worktime::ClockError;
 
 // Where a held late move puts an activity: its new start and finish.
 #[derive(Clone, Copy)]
-enum Moved {
-    To(u64, u64),
-    Refused(u64),
+struct Moved {
+    start: u64,
+    finish: u64,
 }
 
 // Whether a constraint is the mark "as late as possible".
@@ -94,33 +92,17 @@ fn held_start(
     ef: u64,
     left: u64,
     free: u64,
-) -> Walk
+) -> Result<u64, ClockError>
     requires { Valid week sheet.now at n }
     ensures { result ≡ start_moved (worked_on week sheet.now at n) activity.kind es ef left free }
 {
-    match clock::advance(week, sheet, at, n, es, free) {
-        Walk::At(t) => match placing::place_start(activity, week, sheet, at, n, t) {
-            Walk::At(moved) => {
-                if left == 0 {
-                    return Walk::At(moved);
-                }
-                match clock::advance(week, sheet, at, n, ef, free) {
-                    Walk::At(f) => {
-                        return clock::retreat(week, sheet, at, n, f, left);
-                    }
-                    Walk::Refused(k) => {
-                        return Walk::Refused(k);
-                    }
-                }
-            }
-            Walk::Refused(k) => {
-                return Walk::Refused(k);
-            }
-        },
-        Walk::Refused(k) => {
-            return Walk::Refused(k);
-        }
+    let t = clock::advance(week, sheet, at, n, es, free)?;
+    let moved = placing::place_start(activity, week, sheet, at, n, t)?;
+    if left == 0 {
+        return Ok(moved);
     }
+    let f = clock::advance(week, sheet, at, n, ef, free)?;
+    clock::retreat(week, sheet, at, n, f, left)
 }
 
 // The held late move: the new start, and the new finish counted from it on the held activity's OWN calendar.
@@ -134,17 +116,16 @@ fn held_move(
     ef: u64,
     left: u64,
     free: u64,
-) -> Moved
+) -> Result<Moved, ClockError>
     requires { Valid week sheet.now at n }
     ensures { result ≡ dates_moved (worked_on week sheet.now at n) activity.kind es ef left free }
 {
-    match held_start(activity, week, sheet, at, n, es, ef, left, free) {
-        Walk::At(s) => match placing::finish_of(activity, week, sheet, at, n, left, s) {
-            Walk::At(f) => Moved::To(s, f),
-            Walk::Refused(k) => Moved::Refused(k),
-        },
-        Walk::Refused(k) => Moved::Refused(k),
-    }
+    let s = held_start(activity, week, sheet, at, n, es, ef, left, free)?;
+    let f = placing::finish_of(activity, week, sheet, at, n, left, s)?;
+    Ok(Moved {
+        start: s,
+        finish: f,
+    })
 }
 
 // The field with the end of a link's successor that the link leads to.
@@ -172,24 +153,18 @@ fn gap_at(
     week: [[Period; 8]; 7],
     at: usize,
     n: usize,
-) -> Work
+) -> Result<i64, ClockError>
     requires { Ready sheet.now contents places.now t work.now × (k < t) × Valid week sheet.now at n }
     ensures { result ≡ gap_by (plan_of sheet.now contents) (worked_on week sheet.now at n) (tie (plan_of sheet.now contents) k) start finish ((early_in (plan_of sheet.now contents) (state_of contents.activities contents.links work.now)).es (tie (plan_of sheet.now contents) k).to) ((early_in (plan_of sheet.now contents) (state_of contents.activities contents.links work.now)).ef (tie (plan_of sheet.now contents) k).to) }
 {
     let a = contents.activities;
     let l = contents.links;
     let tie = dates::tie_at(work, a, l, k);
-    match bounds::forward_bound(sheet, contents, places, tie, start, finish) {
-        Walk::At(b) => {
-            let kind = tie.kind;
-            let field = target_field(kind);
-            let target = memory::get_act(work, a, l, tie.to, field);
-            return clock::between(week, sheet, at, n, b, target);
-        }
-        Walk::Refused(number) => {
-            return Work::Refused(number);
-        }
-    }
+    let b = bounds::forward_bound(sheet, contents, places, tie, start, finish)?;
+    let kind = tie.kind;
+    let field = target_field(kind);
+    let target = memory::get_act(work, a, l, tie.to, field);
+    clock::between(week, sheet, at, n, b, target)
 }
 
 // The least of `slack` and of what stands before each successor of activity `i`.
@@ -206,7 +181,7 @@ fn least_slack(
     at: usize,
     n: usize,
     slack: i64,
-) -> Work
+) -> Result<i64, ClockError>
     requires { Ready sheet.now contents places.now t work.now × (i < contents.activities) × IsCalendar sheet.now contents (calendar_of (plan_of sheet.now contents) i) week at n × From (plan_of sheet.now contents) (early_in (plan_of sheet.now contents) (state_of contents.activities contents.links work.now)) i start finish }
     ensures { result ≡ least_slack (plan_of sheet.now contents) (early_in (plan_of sheet.now contents) (state_of contents.activities contents.links work.now)) i (ties_out (plan_of sheet.now contents) i) slack }
 {
@@ -215,19 +190,13 @@ fn least_slack(
     let mut least = slack;
     let mut k = memory::get_act(work, a, l, i, memory::fields::FIRST_OUT) as usize;
     while k < t {
-        match gap_at(
+        let gap = gap_at(
             sheet, contents, places, t, work, k, start, finish, week, at, n,
-        ) {
-            Work::Minutes(gap) => {
-                least = number::sign::min(least, gap);
-            }
-            Work::Refused(number) => {
-                return Work::Refused(number);
-            }
-        }
+        )?;
+        least = number::sign::min(least, gap);
         k = memory::get_link(work, a, l, k, memory::fields::NEXT_OUT) as usize;
     }
-    Work::Minutes(least)
+    Ok(least)
 }
 
 // The least of what stands before the greatest finish and before each successor of activity `i`.
@@ -242,7 +211,7 @@ fn slack_of(
     week: [[Period; 8]; 7],
     at: usize,
     n: usize,
-) -> Work
+) -> Result<i64, ClockError>
     requires { Ready sheet.now contents places.now t work.now × Recorded (plan_of sheet.now contents) (state_of contents.activities contents.links work.now) × (i < contents.activities) × IsCalendar sheet.now contents (calendar_of (plan_of sheet.now contents) i) week at n }
     ensures { result ≡ slack_of (plan_of sheet.now contents) (early_in (plan_of sheet.now contents) (state_of contents.activities contents.links work.now)) finish i }
 {
@@ -252,16 +221,10 @@ fn slack_of(
     let es = memory::get_act(work, a, l, i, memory::fields::EARLY_START);
     let start = dates::begun_at(recorded, es);
     let ef = memory::get_act(work, a, l, i, memory::fields::EARLY_FINISH);
-    match clock::between(week, sheet, at, n, ef, finish) {
-        Work::Minutes(slack) => {
-            return least_slack(
-                sheet, contents, places, t, work, i, start, ef, week, at, n, slack,
-            );
-        }
-        Work::Refused(k) => {
-            return Work::Refused(k);
-        }
-    }
+    let slack = clock::between(week, sheet, at, n, ef, finish)?;
+    least_slack(
+        sheet, contents, places, t, work, i, start, ef, week, at, n, slack,
+    )
 }
 
 // The free float of activity `i`, in minutes of its OWN calendar.
@@ -276,30 +239,18 @@ fn free_of(
     week: [[Period; 8]; 7],
     at: usize,
     n: usize,
-) -> Walk
+) -> Result<u64, ClockError>
     requires { Ready sheet.now contents places.now t work.now × Recorded (plan_of sheet.now contents) (state_of contents.activities contents.links work.now) × (i < contents.activities) × IsCalendar sheet.now contents (calendar_of (plan_of sheet.now contents) i) week at n }
-    ensures { (result ≡ free_of (plan_of sheet.now contents) (early_in (plan_of sheet.now contents) (state_of contents.activities contents.links work.now)) finish ((state_of contents.activities contents.links work.now).act late_finish i) i) × ((m : ℕ) → result ≡ At m → m < 2 ^ 63) }
+    ensures { (result ≡ free_of (plan_of sheet.now contents) (early_in (plan_of sheet.now contents) (state_of contents.activities contents.links work.now)) finish ((state_of contents.activities contents.links work.now).act late_finish i) i) × ((m : ℕ) → result ≡ Ok m → m < 2 ^ 63) }
 {
     let a = contents.activities;
     let l = contents.links;
-    match slack_of(sheet, contents, places, t, work, finish, i, week, at, n) {
-        Work::Minutes(slack) => {
-            let ef = memory::get_act(work, a, l, i, memory::fields::EARLY_FINISH);
-            let lf = memory::get_act(work, a, l, i, memory::fields::LATE_FINISH);
-            match clock::between(week, sheet, at, n, ef, lf) {
-                Work::Minutes(total) => {
-                    let recorded = dates::recorded_at(work, a, l, i);
-                    return Walk::At(free_by(recorded, slack, total));
-                }
-                Work::Refused(k) => {
-                    return Walk::Refused(k);
-                }
-            }
-        }
-        Work::Refused(k) => {
-            return Walk::Refused(k);
-        }
-    }
+    let slack = slack_of(sheet, contents, places, t, work, finish, i, week, at, n)?;
+    let ef = memory::get_act(work, a, l, i, memory::fields::EARLY_FINISH);
+    let lf = memory::get_act(work, a, l, i, memory::fields::LATE_FINISH);
+    let total = clock::between(week, sheet, at, n, ef, lf)?;
+    let recorded = dates::recorded_at(work, a, l, i);
+    Ok(free_by(recorded, slack, total))
 }
 
 // Whether activity `i` is moved by its free float: it is held late, and there is some.
@@ -349,7 +300,7 @@ fn hold_late(
     at: usize,
     n: usize,
     free: u64,
-) -> Step
+) -> Result<(), ClockError>
     requires { SheetRead sheet.now contents × Room contents.activities contents.links work.old × (i < contents.activities) × Own sheet.now contents i activity week at n }
     ensures { (ended (freed_in (plan_of sheet.now contents) (state_of contents.activities contents.links work.new)) result ≡ held_move (plan_of sheet.now contents) (early_in (plan_of sheet.now contents) (state_of contents.activities contents.links work.old)) i free (free_in (plan_of sheet.now contents) (state_of contents.activities contents.links work.old))) × Frame 12 16 0 0 (state_of contents.activities contents.links work.old) (state_of contents.activities contents.links work.new) × (length work.new ≡ length work.old) }
 {
@@ -358,15 +309,9 @@ fn hold_late(
     let es = memory::get_act(work, a, l, i, memory::fields::EARLY_START);
     let ef = memory::get_act(work, a, l, i, memory::fields::EARLY_FINISH);
     let left = memory::get_act(work, a, l, i, memory::fields::WORK_LEFT);
-    match held_move(activity, week, sheet, at, n, es, ef, left, free) {
-        Moved::To(start, finish) => {
-            store_move(work, a, l, i, start, finish);
-            return Step::Done;
-        }
-        Moved::Refused(k) => {
-            return Step::Refused(k);
-        }
-    }
+    let moved = held_move(activity, week, sheet, at, n, es, ef, left, free)?;
+    store_move(work, a, l, i, moved.start, moved.finish);
+    Ok(())
 }
 
 // Moves activity `i` by its free float where it is held late, or else stores it.
@@ -380,7 +325,7 @@ fn use_float(
     at: usize,
     n: usize,
     free: u64,
-) -> Step
+) -> Result<(), ClockError>
     requires { SheetRead sheet.now contents × Room contents.activities contents.links work.old × (i < contents.activities) × Own sheet.now contents i activity week at n × ((state_of contents.activities contents.links work.old).act is_summary i ≡ bit (summary (plan_of sheet.now contents) i)) × (actual_in (state_of contents.activities contents.links work.old) i ≡ recorded (plan_of sheet.now contents) i) × (free < 2 ^ 63) }
     ensures { (ended (freed_in (plan_of sheet.now contents) (state_of contents.activities contents.links work.new)) result ≡ freed (plan_of sheet.now contents) (early_in (plan_of sheet.now contents) (state_of contents.activities contents.links work.old)) i free (free_in (plan_of sheet.now contents) (state_of contents.activities contents.links work.old))) × Frame 12 16 0 0 (state_of contents.activities contents.links work.old) (state_of contents.activities contents.links work.new) × (length work.new ≡ length work.old) }
 {
@@ -395,7 +340,7 @@ fn use_float(
         memory::fields::FREE_FLOAT,
         free,
     );
-    Step::Done
+    Ok(())
 }
 
 // The free float of activity `i`, and its move where it is held late.
@@ -407,7 +352,7 @@ fn free_at(
     work: &mut [i64],
     finish: u64,
     i: usize,
-) -> Step
+) -> Result<(), ClockError>
     requires { Ready sheet.now contents places.now t work.old × Recorded (plan_of sheet.now contents) (state_of contents.activities contents.links work.old) × (i < contents.activities) }
     ensures { ((e : ℕ) → ended (freed_in (plan_of sheet.now contents) (state_of contents.activities contents.links work.new)) result ≡ free_float (plan_of sheet.now contents) finish (late_in (plan_of sheet.now contents) (state_of contents.activities contents.links work.old) e) (freed_in (plan_of sheet.now contents) (state_of contents.activities contents.links work.old)) i) × Frame 12 16 0 0 (state_of contents.activities contents.links work.old) (state_of contents.activities contents.links work.new) × (length work.new ≡ length work.old) }
 {
@@ -415,14 +360,8 @@ fn free_at(
     let k = activity.calendar as usize;
     let week = calendars::week_of(sheet, contents, places, k);
     let e = calendars::exceptions_of(sheet, contents, places, k);
-    match free_of(sheet, contents, places, t, work, finish, i, week, e.at, e.n) {
-        Walk::At(free) => {
-            return use_float(sheet, contents, work, i, activity, week, e.at, e.n, free);
-        }
-        Walk::Refused(number) => {
-            return Step::Refused(number);
-        }
-    }
+    let free = free_of(sheet, contents, places, t, work, finish, i, week, e.at, e.n)?;
+    use_float(sheet, contents, work, i, activity, week, e.at, e.n, free)
 }
 
 // The free float of each activity, successors first.
@@ -433,7 +372,7 @@ fn free_each(
     t: usize,
     work: &mut [i64],
     finish: u64,
-) -> Step
+) -> Result<(), ClockError>
     requires { Ready sheet.now contents places.now t work.old × Recorded (plan_of sheet.now contents) (state_of contents.activities contents.links work.old) }
     ensures { ((e : ℕ) → ended (freed_in (plan_of sheet.now contents) (state_of contents.activities contents.links work.new)) result ≡ through (free_float (plan_of sheet.now contents) finish (late_in (plan_of sheet.now contents) (state_of contents.activities contents.links work.old) e)) (reverse (order (plan_of sheet.now contents))) (freed_in (plan_of sheet.now contents) (state_of contents.activities contents.links work.old))) × Frame 12 16 0 0 (state_of contents.activities contents.links work.old) (state_of contents.activities contents.links work.new) × (length work.new ≡ length work.old) }
 {
@@ -447,15 +386,10 @@ fn free_each(
             a - (q + 1),
             memory::fields::ORDER_AT,
         ) as usize;
-        match free_at(sheet, contents, places, t, work, finish, i) {
-            Step::Done => {}
-            Step::Refused(k) => {
-                return Step::Refused(k);
-            }
-        }
+        free_at(sheet, contents, places, t, work, finish, i)?;
         q += 1;
     }
-    Step::Done
+    Ok(())
 }
 
 // The free floats and held late moves; `finish` is the greatest early finish before them.
@@ -466,7 +400,7 @@ pub fn free_pass(
     t: usize,
     work: &mut [i64],
     finish: u64,
-) -> Step
+) -> Result<(), ClockError>
     requires { Ready sheet.now contents places.now t work.old × Recorded (plan_of sheet.now contents) (state_of contents.activities contents.links work.old) }
     ensures { ((e : ℕ) → ended (freed_in (plan_of sheet.now contents) (state_of contents.activities contents.links work.new)) result ≡ through (free_float (plan_of sheet.now contents) finish (late_in (plan_of sheet.now contents) (state_of contents.activities contents.links work.old) e)) (reverse (order (plan_of sheet.now contents))) (record { early = early_in (plan_of sheet.now contents) (state_of contents.activities contents.links work.old); free = λ i. 0 })) × Frame 12 16 0 0 (state_of contents.activities contents.links work.old) (state_of contents.activities contents.links work.new) × (length work.new ≡ length work.old) }
 {

@@ -1,5 +1,7 @@
 -- The parts of the forward pass of one activity: its links, then its placing; and what is stored of it.
-use Rattle.std.specs.Prelude.{◌≡◌, ℕ}
+use Rattle.std.specs.Prelude.{◌≡◌, ℕ, Result, Ok, Err}
+use Rattle.worktime.specs.declared.ClockError.{ClockError}
+use Rattle.early.specs.declared.Placement.{Placement}
 use Rattle.placing.specs.declared.Actual.{Actual}
 use Rattle.placing.specs.Placing.{via}
 use Rattle.memory.specs.State.{State, put_act}
@@ -8,9 +10,6 @@ use Rattle.order.specs.Plan.{Plan}
 use Rattle.passes.specs.Plan.{ties_into, floor}
 use Rattle.passes.specs.Dates.{Early, Pass, refused}
 use Rattle.passes.specs.Forward.{raised}
-use Rattle.dates.specs.declared.Step.{Step}
-use Rattle.dates.specs.declared.Step.TheVariants.{Done}
-use Rattle.early.specs.declared.Placement.{Placement}
 use Rattle.early.specs.InHand.{after_start}
 
 -- `forward_by` for work that is not completed
@@ -22,6 +21,6 @@ abbrev pub stored : State → ℕ → ℕ → ℕ → ℕ → State
 stored S i s f m = put_act (put_act (put_act S early_start i s) early_finish i f) work_left i m
 
 -- from S to T and with the answer r: what was found is stored, or nothing is
-pub record Settled (i : ℕ) (x : Placement) (S T : State) (r : Step) : Type 0 where
-  pub placed : (s f m : ℕ) → x ≡ Placement.At s f m → (T ≡ stored S i s f m) × (r ≡ Done)
-  pub not_placed : (k : ℕ) → x ≡ Placement.Refused k → (T ≡ S) × (r ≡ Step.Refused k)
+pub record Settled (i : ℕ) (x : Result Placement ClockError) (S T : State) (r : Result Unit ClockError) : Type 0 where
+  pub placed : (s f m : ℕ) → x ≡ Ok (record { start = s; finish = f; left = m }) → (T ≡ stored S i s f m) × (r ≡ Ok tt)
+  pub not_placed : (k : ClockError) → x ≡ Err k → (T ≡ S) × (r ≡ Err k)

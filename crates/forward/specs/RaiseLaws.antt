@@ -1,11 +1,10 @@
 -- The walk along the links into an activity, as a loop takes it; and what the placing after it has in hand.
-use Rattle.std.specs.Prelude.{◌≡◌, List, ℕ, ◌-◌, ◌≤◌, ◌<◌, max, ℤ, ltb}
+use Rattle.std.specs.Prelude.{◌≡◌, List, ℕ, ◌-◌, ◌≤◌, ◌<◌, max, ℤ, ltb, Result, Ok, Err}
+use Rattle.worktime.specs.declared.ClockError.{ClockError}
 use Rattle.std.proofs.Common.{sym, ap, ◌∙◌, arith}
 use Rattle.number.specs.BitLaws.{mark_flag}
 use Rattle.calendar.specs.declared.Period.{Period}
 use Rattle.clock.specs.On.{worked_on}
-use Rattle.worktime.specs.declared.Walk.{Walk}
-use Rattle.worktime.specs.declared.Walk.TheVariants.{At, Refused}
 use Rattle.project.specs.declared.Activity.{Activity}
 use Rattle.placing.specs.Placing.{via}
 use Rattle.cells.specs.Chain.{after}
@@ -41,34 +40,34 @@ module _ (s : List ℕ) (c : Contents) (t : ℕ) (xs : List ℤ) (i floor : ℕ)
 
   -- link k is next, and the start so far
   abbrev pub Raising : ℕ → ℕ → Type 0
-  Raising start k = Cursor (raise_step plan dates i) At (state.link to_field) t i floor start k
+  Raising start k = Cursor (raise_step plan dates i) Ok (state.link to_field) t i floor start k
 
   module _ {places : List ℕ} (R : Ready s c places t xs) where
     pub raising_start : i < c.activities → (k : ℕ) → k ≡ state.act first_in i → Raising floor k
     raising_start l k e =
         rw e
-        (cursor_start (raise_step plan dates i) At (state.link to_field) t i floor
+        (cursor_start (raise_step plan dates i) Ok (state.link to_field) t i floor
         (R.standing.chains_in.heads i (omega (arith, activities_are s c))))
 
     whole : raised plan dates i (after (state.link to_field) t i 0) floor ≡ raised plan dates i (ties_into plan i) floor
     whole = ap (λ (ks : List ℕ). raised plan dates i ks floor) (into_is plan R.standing i)
 
     module _ {start k : ℕ} (C : Raising start k) where
-      pub raising_end : t ≤ k → At start ≡ raised plan dates i (ties_into plan i) floor
+      pub raising_end : t ≤ k → Ok start ≡ raised plan dates i (ties_into plan i) floor
       raising_end l =
-          cursor_end (raise_step plan dates i) At (state.link to_field) t i floor C l
+          cursor_end (raise_step plan dates i) Ok (state.link to_field) t i floor C l
           ∙ sym (raised_gathers plan dates i (after (state.link to_field) t i 0) floor) ∙ whole
 
-      module _ (b : k < t) {x : Walk} (e : x ≡ via Refused (link_start plan dates i k) (λ s. At (max start s))) where
-        pub raising_stop : (r : ℕ) → x ≡ Refused r → Refused r ≡ raised plan dates i (ties_into plan i) floor
+      module _ (b : k < t) {x : Result ℕ ClockError} (e : x ≡ via Err (link_start plan dates i k) (λ s. Ok (max start s))) where
+        pub raising_stop : (r : ClockError) → x ≡ Err r → Err r ≡ raised plan dates i (ties_into plan i) floor
         raising_stop r a =
-            cursor_stop (raise_step plan dates i) At (state.link to_field) t i floor C (Refused r) b (raise_stop plan dates i k start e r a)
+            cursor_stop (raise_step plan dates i) Ok (state.link to_field) t i floor C (Err r) b (raise_stop plan dates i k start e r a)
             ∙ sym (raised_gathers plan dates i (after (state.link to_field) t i 0) floor) ∙ whole
 
-        pub raising_turn : (u : ℕ) → x ≡ At u → (j : ℕ) → j ≡ state.link next_into k → Raising u j
+        pub raising_turn : (u : ℕ) → x ≡ Ok u → (j : ℕ) → j ≡ state.link next_into k → Raising u j
         raising_turn u a j q =
             rw q
-            (cursor_turn (raise_step plan dates i) At (state.link to_field) t i floor C u b (R.standing.chains_in.nexts k (omega arith) b)
+            (cursor_turn (raise_step plan dates i) Ok (state.link to_field) t i floor C u b (R.standing.chains_in.nexts k (omega arith) b)
             (raise_turn plan dates i k start e u a))
 
     pub raising_less : (k j : ℕ) → k < t → j ≡ state.link next_into k → t - j < t - k

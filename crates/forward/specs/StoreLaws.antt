@@ -1,7 +1,9 @@
 -- What is stored of an activity is what the definition leaves, and the rest stands.
-use Rattle.std.specs.Prelude.{◌≡◌, refl, List, ℕ, ◌<◌, pos}
+use Rattle.std.specs.Prelude.{◌≡◌, refl, List, ℕ, ◌<◌, pos, Result, Ok, Err}
+use Rattle.worktime.specs.declared.ClockError.{ClockError}
 use Rattle.std.proofs.Math.Path.{sym, ap}
 use Rattle.std.proofs.Common.{◌∙◌, arith}
+use Rattle.early.specs.declared.Placement.{Placement}
 use Rattle.placing.specs.declared.Actual.{Actual}
 use Rattle.placing.specs.declared.Actual.TheVariants.{Unstarted, Begun, Completed}
 use Rattle.memory.specs.State.{State, put_act, fill_act}
@@ -15,14 +17,11 @@ use Rattle.passes.specs.Plan.{origin, recorded}
 use Rattle.passes.specs.Dates.{Early, leaves, put, through}
 use Rattle.passes.specs.Forward.{early, forward_by, forward}
 use Rattle.passes.specs.Run.{early₀, forward_pass}
-use Rattle.dates.specs.declared.Step.{Step}
-use Rattle.dates.specs.declared.Step.TheVariants.{Done}
 use Rattle.dates.specs.Columns.{column, early_in, left_in, ended}
 use Rattle.dates.specs.ColumnLaws.{column_at, column_same, column_put, column_fill}
 use Rattle.dates.specs.Standing.{actual_in}
 use Rattle.dates.specs.StandingLaws.{never_refused}
 use Rattle.bounds.specs.ReadyLaws.{activities_are}
-use Rattle.early.specs.declared.Placement.{Placement}
 use Rattle.early.specs.InHand.{placed_as}
 use Rattle.forward.specs.Linked.{after_links, stored, Settled}
 
@@ -46,37 +45,38 @@ frame_stored S i s f m =
     (frame_put 12 15 0 0 work_left (omega arith) (omega arith) (put_act (put_act S early_start i s) early_finish i f) i (pos m))
 
 -- ---- stored or refused
-pub settled_ended : (p : Plan) (i : ℕ) (x : Placement) (S T : State) (r : Step) → i < p.activities → Settled i x S T r
+pub settled_ended : (p : Plan) (i : ℕ) (x : Result Placement ClockError) (S T : State) (r : Result Unit ClockError) → i < p.activities → Settled i x S T r
     → ended (early_in p T) r ≡ placed_as p (early_in p S) i x
-settled_ended p i (Placement.At s f m) S T r l W =
-    let h = W.placed s f m refl in
-    ap (λ (y : Step). ended (early_in p T) y) h.1 ∙ ap (λ (U : State). leaves (early_in p U)) h.0 ∙ ap leaves (early_stored p S i s f m l)
-settled_ended p i (Placement.Refused k) S T r l W = ap (λ (y : Step). ended (early_in p T) y) (W.not_placed k refl).1
+settled_ended p i (Ok x) S T r l W =
+    let h = W.placed x.start x.finish x.left refl in
+    ap (λ (y : Result Unit ClockError). ended (early_in p T) y) h.1 ∙ ap (λ (U : State). leaves (early_in p U)) h.0 ∙ ap leaves (early_stored p S i x.start x.finish x.left l)
+settled_ended p i (Err k) S T r l W = ap (λ (y : Result Unit ClockError). ended (early_in p T) y) (W.not_placed k refl).1
 
-pub settled_frame : (i : ℕ) (x : Placement) (S T : State) (r : Step) → Settled i x S T r → Frame 12 15 0 0 S T
-settled_frame i (Placement.At s f m) S T r W = rw (W.placed s f m refl).0 (frame_stored S i s f m)
-settled_frame i (Placement.Refused k) S T r W =
+pub settled_frame : (i : ℕ) (x : Result Placement ClockError) (S T : State) (r : Result Unit ClockError) → Settled i x S T r → Frame 12 15 0 0 S T
+settled_frame i (Ok x) S T r W = rw (W.placed x.start x.finish x.left refl).0 (frame_stored S i x.start x.finish x.left)
+settled_frame i (Err k) S T r W =
     rw (W.not_placed k refl).0 (record { acts = λ f n. refl; links = λ f n. refl; acts_z = λ f n. refl; links_z = λ f n. refl })
 
-pub settled_at : (i : ℕ) (S T : State) (s f m : ℕ) (x : Placement) → x ≡ Placement.At s f m → T ≡ stored S i s f m → Settled i x S T Done
+pub settled_at : (i : ℕ) (S T : State) (s f m : ℕ) (x : Result Placement ClockError) → x ≡ Ok (record { start = s; finish = f; left = m }) → T ≡ stored S i s f m → Settled i x S T (Ok tt)
 settled_at i S T s f m x e h = record {
   placed = λ s' f' m' g.
-      let a : s ≡ s' = cc in
-      let b : f ≡ f' = cc in
-      let c : m ≡ m' = cc in
+      let q : ◌≡◌ {A = Placement} (record { start = s; finish = f; left = m }) (record { start = s'; finish = f'; left = m' }) = cc in
+      let a : s ≡ s' = ap (λ (y : Placement). y.start) q in
+      let b : f ≡ f' = ap (λ (y : Placement). y.finish) q in
+      let c : m ≡ m' = ap (λ (y : Placement). y.left) q in
       (h ∙ (λ z. stored S i (a z) (b z) (c z)), refl);
   not_placed = λ k g. let z : ◌≡◌ {A = ℕ} 0 1 = cc in absurd (omega arith);
 }
 
-pub settled_refused : (i : ℕ) (S : State) (k : ℕ) (x : Placement) → x ≡ Placement.Refused k → Settled i x S S (Step.Refused k)
+pub settled_refused : (i : ℕ) (S : State) (k : ClockError) (x : Result Placement ClockError) → x ≡ Err k → Settled i x S S (Err k)
 settled_refused i S k x e = record {
   placed = λ s f m g. let z : ◌≡◌ {A = ℕ} 0 1 = cc in absurd (omega arith);
-  not_placed = λ j g. let q : k ≡ j = cc in (refl, ap Step.Refused q);
+  not_placed = λ j g. let q : k ≡ j = cc in (refl, ap Err q);
 }
 
 -- ---- by what is recorded
 module _ (p : Plan) (d : Early) (i : ℕ) where
-  by_links : (a : Actual) → ((s f : ℕ) → a ≡ Completed s f → ⊥) → ((k : ℕ) → a ≡ Actual.Refused k → ⊥) → after_links p d i a ≡ forward_by p d i a
+  by_links : (a : Actual) → ((s f : ℕ) → a ≡ Completed s f → ⊥) → ((k : ClockError) → a ≡ Actual.Refused k → ⊥) → after_links p d i a ≡ forward_by p d i a
   by_links Unstarted h n = refl
   by_links (Begun s) h n = refl
   by_links (Completed s f) h n = absurd (h s f refl)
@@ -95,7 +95,7 @@ module _ (p : Plan) (d : Early) (i : ℕ) where
 -- completed work, stored as it happened
 module _ (p : Plan) (S T : State) (i s f m : ℕ) (l : i < p.activities) (h : T ≡ stored S i s f m) where
   pub completed_ended : (a : Actual) → a ≡ actual_in S i → actual_in S i ≡ recorded p i → a ≡ Completed s f → m ≡ S.act work_left i
-      → ended (early_in p T) Done ≡ forward p (early_in p S) i
+      → ended (early_in p T) (Ok tt) ≡ forward p (early_in p S) i
   completed_ended a e q k n =
       ap (λ (U : State). leaves (early_in p U)) h ∙ ap leaves (early_stored p S i s f m l)
       ∙ sym (forward_completed p (early_in p S) i S a e q s f m k (n ∙ sym (column_at p.activities (λ i. 0) work_left S i l)))

@@ -1,10 +1,9 @@
 // The forward pass: the early start, early finish and minutes of work left of each activity, in the order.
 #![tactic(auto)]
 
-ghost use Rattle.std.specs.Prelude.{◌≡◌, ℕ, ◌^◌, ◌<◌, max, length};
+ghost use Rattle.std.specs.Prelude.{◌≡◌, ℕ, ◌^◌, ◌<◌, max, length, Ok, Err};
 ghost use Rattle.calendar.specs.Records.{Valid};
 ghost use Rattle.clock.specs.On.{worked_on};
-ghost use Rattle.worktime.specs.declared.Walk.TheVariants.{At, Refused};
 ghost use Rattle.placing.specs.Placing.{via};
 ghost use Rattle.memory.specs.State.{Room, state_of, put_act};
 ghost use Rattle.memory.specs.Fields.{early_start, early_finish, work_left};
@@ -23,12 +22,11 @@ ghost use Rattle.early.specs.InHand.{InHand, placed_as, Fits};
 ghost use Rattle.forward.specs.Linked.{after_links, Settled};
 
 use calendar::Period;
-use dates::Step;
 use early::Placement;
 use placing::Actual;
 use project::Activity;
 use sheet::Contents;
-use worktime::Walk;
+use worktime::ClockError;
 
 // The start that the kept link in row `k` leaves its successor, whose dates are found.
 fn link_start(
@@ -43,20 +41,14 @@ fn link_start(
     at: usize,
     n: usize,
     left: u64,
-) -> Walk
+) -> Result<u64, ClockError>
     requires { Ready sheet.now contents places.now t work.now × Recorded (plan_of sheet.now contents) (state_of contents.activities contents.links work.now) × (k < t) × Valid week sheet.now at n }
     ensures { (i : ℕ) → InHand (plan_of sheet.now contents) (early_in (plan_of sheet.now contents) (state_of contents.activities contents.links work.now)) i activity (worked_on week sheet.now at n) left → result ≡ link_start (plan_of sheet.now contents) (early_in (plan_of sheet.now contents) (state_of contents.activities contents.links work.now)) i k }
 {
-    match bounds::link_bound(sheet, contents, places, t, work, k) {
-        Walk::At(b) => {
-            let tie = dates::tie_at(work, contents.activities, contents.links, k);
-            let kind = tie.kind;
-            return bounds::start_for(activity, week, sheet, at, n, left, kind, b);
-        }
-        Walk::Refused(r) => {
-            return Walk::Refused(r);
-        }
-    }
+    let b = bounds::link_bound(sheet, contents, places, t, work, k)?;
+    let tie = dates::tie_at(work, contents.activities, contents.links, k);
+    let kind = tie.kind;
+    bounds::start_for(activity, week, sheet, at, n, left, kind, b)
 }
 
 // `start`, raised by that start.
@@ -73,23 +65,17 @@ fn raised_by(
     n: usize,
     left: u64,
     start: u64,
-) -> Walk
+) -> Result<u64, ClockError>
     requires { Ready sheet.now contents places.now t work.now × Recorded (plan_of sheet.now contents) (state_of contents.activities contents.links work.now) × (k < t) × Valid week sheet.now at n }
-    ensures { (i : ℕ) → InHand (plan_of sheet.now contents) (early_in (plan_of sheet.now contents) (state_of contents.activities contents.links work.now)) i activity (worked_on week sheet.now at n) left → result ≡ via Refused (link_start (plan_of sheet.now contents) (early_in (plan_of sheet.now contents) (state_of contents.activities contents.links work.now)) i k) (λ s. At (max start s)) }
+    ensures { (i : ℕ) → InHand (plan_of sheet.now contents) (early_in (plan_of sheet.now contents) (state_of contents.activities contents.links work.now)) i activity (worked_on week sheet.now at n) left → result ≡ via Err (link_start (plan_of sheet.now contents) (early_in (plan_of sheet.now contents) (state_of contents.activities contents.links work.now)) i k) (λ s. Ok (max start s)) }
 {
-    match link_start(
+    let s = link_start(
         sheet, contents, places, t, work, k, activity, week, at, n, left,
-    ) {
-        Walk::At(s) => {
-            if start < s {
-                return Walk::At(s);
-            }
-            return Walk::At(start);
-        }
-        Walk::Refused(r) => {
-            return Walk::Refused(r);
-        }
+    )?;
+    if start < s {
+        return Ok(s);
     }
+    Ok(start)
 }
 
 // `floor`, raised by each kept link into activity `i`, in rising order.
@@ -106,7 +92,7 @@ fn raise(
     n: usize,
     left: u64,
     floor: u64,
-) -> Walk
+) -> Result<u64, ClockError>
     requires { Ready sheet.now contents places.now t work.now × Recorded (plan_of sheet.now contents) (state_of contents.activities contents.links work.now) × (i < contents.activities) × Valid week sheet.now at n × InHand (plan_of sheet.now contents) (early_in (plan_of sheet.now contents) (state_of contents.activities contents.links work.now)) i activity (worked_on week sheet.now at n) left }
     ensures { result ≡ raised (plan_of sheet.now contents) (early_in (plan_of sheet.now contents) (state_of contents.activities contents.links work.now)) i (ties_into (plan_of sheet.now contents) i) floor }
 {
@@ -115,19 +101,13 @@ fn raise(
     let mut start = floor;
     let mut k = memory::get_act(work, a, l, i, memory::fields::FIRST_IN) as usize;
     while k < t {
-        match raised_by(
+        let s = raised_by(
             sheet, contents, places, t, work, k, activity, week, at, n, left, start,
-        ) {
-            Walk::At(s) => {
-                start = s;
-            }
-            Walk::Refused(r) => {
-                return Walk::Refused(r);
-            }
-        }
+        )?;
+        start = s;
         k = memory::get_link(work, a, l, k, memory::fields::NEXT_INTO) as usize;
     }
-    Walk::At(start)
+    Ok(start)
 }
 
 // The early dates of activity `i`, whose own calendar is in hand: completed work apart.
@@ -143,7 +123,7 @@ fn early_with(
     week: [[Period; 8]; 7],
     at: usize,
     n: usize,
-) -> Placement
+) -> Result<Placement, ClockError>
     requires { Ready sheet.now contents places.now t work.now × Recorded (plan_of sheet.now contents) (state_of contents.activities contents.links work.now) × (i < contents.activities) × (activity ≡ (plan_of sheet.now contents).activity i) × IsCalendar sheet.now contents (calendar_of (plan_of sheet.now contents) i) week at n }
     ensures { (placed_as (plan_of sheet.now contents) (early_in (plan_of sheet.now contents) (state_of contents.activities contents.links work.now)) i result ≡ after_links (plan_of sheet.now contents) (early_in (plan_of sheet.now contents) (state_of contents.activities contents.links work.now)) i recorded) × Fits result }
 {
@@ -152,7 +132,7 @@ fn early_with(
     let left = memory::get_act(work, a, l, i, memory::fields::WORK_LEFT);
     let mark = memory::get_act(work, a, l, i, memory::fields::IS_SUMMARY);
     let times = early::times_of(sheet, contents);
-    match raise(
+    let start = raise(
         sheet,
         contents,
         places,
@@ -165,25 +145,19 @@ fn early_with(
         n,
         left,
         times.floor,
-    ) {
-        Walk::At(start) => {
-            return early::place(
-                activity,
-                week,
-                sheet,
-                at,
-                n,
-                left,
-                times,
-                0 < mark,
-                recorded,
-                start,
-            );
-        }
-        Walk::Refused(k) => {
-            return Placement::Refused(k);
-        }
-    }
+    )?;
+    early::place(
+        activity,
+        week,
+        sheet,
+        at,
+        n,
+        left,
+        times,
+        0 < mark,
+        recorded,
+        start,
+    )
 }
 
 // The early dates of activity `i`: completed work apart.
@@ -195,7 +169,7 @@ fn early_of(
     work: &[i64],
     i: usize,
     recorded: Actual,
-) -> Placement
+) -> Result<Placement, ClockError>
     requires { Ready sheet.now contents places.now t work.now × Recorded (plan_of sheet.now contents) (state_of contents.activities contents.links work.now) × (i < contents.activities) }
     ensures { (placed_as (plan_of sheet.now contents) (early_in (plan_of sheet.now contents) (state_of contents.activities contents.links work.now)) i result ≡ after_links (plan_of sheet.now contents) (early_in (plan_of sheet.now contents) (state_of contents.activities contents.links work.now)) i recorded) × Fits result }
 {
@@ -219,19 +193,19 @@ fn store(work: &mut [i64], a: usize, l: usize, i: usize, s: u64, f: u64, m: u64)
 }
 
 // Stores what was found, unless a walk was refused.
-fn settle(work: &mut [i64], a: usize, l: usize, i: usize, placement: Placement) -> Step
+fn settle(
+    work: &mut [i64],
+    a: usize,
+    l: usize,
+    i: usize,
+    placement: Result<Placement, ClockError>,
+) -> Result<(), ClockError>
     requires { Room a l work.old × (i < a) × Fits placement }
     ensures { Settled i placement (state_of a l work.old) (state_of a l work.new) result × (length work.new ≡ length work.old) }
 {
-    match placement {
-        Placement::At(s, f, m) => {
-            store(work, a, l, i, s, f, m);
-            return Step::Done;
-        }
-        Placement::Refused(number) => {
-            return Step::Refused(number);
-        }
-    }
+    let placed = placement?;
+    store(work, a, l, i, placed.start, placed.finish, placed.left);
+    Ok(())
 }
 
 // The early dates of activity `i`: completed work stays where it happened.
@@ -242,7 +216,7 @@ fn forward_one(
     t: usize,
     work: &mut [i64],
     i: usize,
-) -> Step
+) -> Result<(), ClockError>
     requires { Ready sheet.now contents places.now t work.old × Recorded (plan_of sheet.now contents) (state_of contents.activities contents.links work.old) × (i < contents.activities) }
     ensures { (ended (early_in (plan_of sheet.now contents) (state_of contents.activities contents.links work.new)) result ≡ forward (plan_of sheet.now contents) (early_in (plan_of sheet.now contents) (state_of contents.activities contents.links work.old)) i) × Frame 12 15 0 0 (state_of contents.activities contents.links work.old) (state_of contents.activities contents.links work.new) × (length work.new ≡ length work.old) }
 {
@@ -255,11 +229,17 @@ fn forward_one(
     };
     let left = memory::get_act(work, a, l, i, memory::fields::WORK_LEFT);
     store(work, a, l, i, s, f, left);
-    Step::Done
+    Ok(())
 }
 
 // The activities in the order.
-fn forward_all(sheet: &[u8], contents: Contents, places: &[u64], t: usize, work: &mut [i64]) -> Step
+fn forward_all(
+    sheet: &[u8],
+    contents: Contents,
+    places: &[u64],
+    t: usize,
+    work: &mut [i64],
+) -> Result<(), ClockError>
     requires { Ready sheet.now contents places.now t work.old × Recorded (plan_of sheet.now contents) (state_of contents.activities contents.links work.old) }
     ensures { (ended (early_in (plan_of sheet.now contents) (state_of contents.activities contents.links work.new)) result ≡ through (forward (plan_of sheet.now contents)) (order (plan_of sheet.now contents)) (early_in (plan_of sheet.now contents) (state_of contents.activities contents.links work.old))) × Frame 12 15 0 0 (state_of contents.activities contents.links work.old) (state_of contents.activities contents.links work.new) × (length work.new ≡ length work.old) }
 {
@@ -268,15 +248,10 @@ fn forward_all(sheet: &[u8], contents: Contents, places: &[u64], t: usize, work:
     let mut q: usize = 0;
     while q < a {
         let i = memory::get_act(work, a, l, q, memory::fields::ORDER_AT) as usize;
-        match forward_one(sheet, contents, places, t, work, i) {
-            Step::Done => {}
-            Step::Refused(k) => {
-                return Step::Refused(k);
-            }
-        }
+        forward_one(sheet, contents, places, t, work, i)?;
         q += 1;
     }
-    Step::Done
+    Ok(())
 }
 
 // The early dates of all activities, from the work left before the passes.
@@ -286,7 +261,7 @@ pub fn forward_pass(
     places: &[u64],
     t: usize,
     work: &mut [i64],
-) -> Step
+) -> Result<(), ClockError>
     requires { Ready sheet.now contents places.now t work.old × Recorded (plan_of sheet.now contents) (state_of contents.activities contents.links work.old) }
     ensures { (ended (early_in (plan_of sheet.now contents) (state_of contents.activities contents.links work.new)) result ≡ forward_pass (plan_of sheet.now contents) (left_in (plan_of sheet.now contents) (state_of contents.activities contents.links work.old))) × Frame 12 15 0 0 (state_of contents.activities contents.links work.old) (state_of contents.activities contents.links work.new) × (length work.new ≡ length work.old) }
 {

@@ -1,15 +1,13 @@
 -- One law for each way through an activity's late constraints.
-use Rattle.std.specs.Prelude.{◌≡◌, true, false, ℕ}
+use Rattle.std.specs.Prelude.{◌≡◌, true, false, ℕ, Result, Ok, Err, Option, Some, None}
+use Rattle.worktime.specs.declared.ClockError.{ClockError}
 use Rattle.std.proofs.Common.{sym, ◌∙◌}
 use Rattle.std.proofs.Math.Path.{ap}
-use Rattle.worktime.specs.declared.Walk.TheVariants.{At, Refused}
 use Rattle.worktime.specs.Reads.{on_true, on_false}
 use Rattle.project.specs.declared.Constraint.{Constraint}
 use Rattle.project.specs.Status.{on_start, bounds_start}
 use Rattle.placing.specs.declared.Actual.{Actual}
 use Rattle.placing.specs.declared.Actual.TheVariants.{Unstarted, Begun, Completed}
-use Rattle.placing.specs.declared.Moment.{Moment}
-use Rattle.placing.specs.declared.Moment.TheVariants.{Nowhere}
 use Rattle.placing.specs.Placing.{via, bounded, constraint_time}
 use Rattle.placing.proofs.PlacingLaws.{via_at, via_refused}
 use Rattle.order.specs.Plan.{Plan}
@@ -22,54 +20,54 @@ use Rattle.passes.specs.Backward.{at_late, limited, limited_by, held_late}
 module _ (p : Plan) (d : Early) (l : Late) (i : ℕ) where
   -- ---- one constraint
   module _ (c : Constraint) (latest : ℕ) where
-    pub limited_at : (t b : ℕ) → constraint_time (own p i) (on_start c) ≡ Moment.At t → bounded (origin p) t ≡ At b → limited p d l i c latest ≡ at_late p d l i c b latest
+    pub limited_at : (t b : ℕ) → constraint_time (own p i) (on_start c) ≡ (Ok (Some t)) → bounded (origin p) t ≡ Ok b → limited p d l i c latest ≡ at_late p d l i c b latest
     unfolding limited
-    limited_at t b e f = ap (λ (m : Moment). on_time p d m (At latest) (λ t. at_late p d l i c t latest)) e ∙ via_at Refused _ _ b f
+    limited_at t b e f = ap (λ (m : Result (Option ℕ) ClockError). on_time p d m (Ok latest) (λ t. at_late p d l i c t latest)) e ∙ via_at Err _ _ b f
 
-    pub limited_beyond : (t k : ℕ) → constraint_time (own p i) (on_start c) ≡ Moment.At t → bounded (origin p) t ≡ Refused k → limited p d l i c latest ≡ Refused k
+    pub limited_beyond : (t : ℕ) (k : ClockError) → constraint_time (own p i) (on_start c) ≡ (Ok (Some t)) → bounded (origin p) t ≡ Err k → limited p d l i c latest ≡ Err k
     unfolding limited
-    limited_beyond t k e f = ap (λ (m : Moment). on_time p d m (At latest) (λ t. at_late p d l i c t latest)) e ∙ via_refused Refused _ _ k f
+    limited_beyond t k e f = ap (λ (m : Result (Option ℕ) ClockError). on_time p d m (Ok latest) (λ t. at_late p d l i c t latest)) e ∙ via_refused Err _ _ k f
 
-    pub limited_nowhere : constraint_time (own p i) (on_start c) ≡ Nowhere → limited p d l i c latest ≡ At latest
+    pub limited_nowhere : constraint_time (own p i) (on_start c) ≡ (Ok None) → limited p d l i c latest ≡ Ok latest
     unfolding limited
-    limited_nowhere e = ap (λ (m : Moment). on_time p d m (At latest) (λ t. at_late p d l i c t latest)) e
+    limited_nowhere e = ap (λ (m : Result (Option ℕ) ClockError). on_time p d m (Ok latest) (λ t. at_late p d l i c t latest)) e
 
-    pub limited_refused : (k : ℕ) → constraint_time (own p i) (on_start c) ≡ Moment.Refused k → limited p d l i c latest ≡ Refused k
+    pub limited_refused : (k : ClockError) → constraint_time (own p i) (on_start c) ≡ Err k → limited p d l i c latest ≡ Err k
     unfolding limited
-    limited_refused k e = ap (λ (m : Moment). on_time p d m (At latest) (λ t. at_late p d l i c t latest)) e
+    limited_refused k e = ap (λ (m : Result (Option ℕ) ClockError). on_time p d m (Ok latest) (λ t. at_late p d l i c t latest)) e
 
     -- ---- by what is recorded
     pub by_unstarted : (a : Actual) → a ≡ Unstarted → limited_by p d l i a c latest ≡ limited p d l i c latest
     by_unstarted a e = ap (λ (x : Actual). limited_by p d l i x c latest) e
 
-    pub by_begun_start : (a : Actual) (s : ℕ) → a ≡ Begun s → bounds_start c ≡ true → limited_by p d l i a c latest ≡ At latest
-    by_begun_start a s e f = ap (λ (x : Actual). limited_by p d l i x c latest) e ∙ on_true (bounds_start c) (At latest) (limited p d l i c latest) f
+    pub by_begun_start : (a : Actual) (s : ℕ) → a ≡ Begun s → bounds_start c ≡ true → limited_by p d l i a c latest ≡ Ok latest
+    by_begun_start a s e f = ap (λ (x : Actual). limited_by p d l i x c latest) e ∙ on_true (bounds_start c) (Ok latest) (limited p d l i c latest) f
 
     pub by_begun : (a : Actual) (s : ℕ) → a ≡ Begun s → bounds_start c ≡ false → limited_by p d l i a c latest ≡ limited p d l i c latest
-    by_begun a s e f = ap (λ (x : Actual). limited_by p d l i x c latest) e ∙ on_false (bounds_start c) (At latest) (limited p d l i c latest) f
+    by_begun a s e f = ap (λ (x : Actual). limited_by p d l i x c latest) e ∙ on_false (bounds_start c) (Ok latest) (limited p d l i c latest) f
 
-    pub by_completed : (a : Actual) (s f : ℕ) → a ≡ Completed s f → limited_by p d l i a c latest ≡ At latest
+    pub by_completed : (a : Actual) (s f : ℕ) → a ≡ Completed s f → limited_by p d l i a c latest ≡ Ok latest
     by_completed a s f e = ap (λ (x : Actual). limited_by p d l i x c latest) e
 
-    pub by_refused : (a : Actual) (k : ℕ) → a ≡ Actual.Refused k → limited_by p d l i a c latest ≡ Refused k
+    pub by_refused : (a : Actual) (k : ClockError) → a ≡ Actual.Refused k → limited_by p d l i a c latest ≡ Err k
     by_refused a k e = ap (λ (x : Actual). limited_by p d l i x c latest) e
 
   -- ---- both, in turn
   module _ (latest : ℕ) where
-    pub held_summary : summary p i ≡ true → held_late p d l i latest ≡ At latest
+    pub held_summary : summary p i ≡ true → held_late p d l i latest ≡ Ok latest
     unfolding held_late
-    held_summary e = on_true (summary p i) (At latest) _ e
+    held_summary e = on_true (summary p i) (Ok latest) _ e
 
     module _ (e : summary p i ≡ false) (a : Actual) (r : a ≡ recorded p i) (c₁ c₂ : Constraint) (q₁ : c₁ ≡ (p.activity i).constraint)
         (q₂ : c₂ ≡ (p.activity i).secondary_constraint) where
-      held_both : held_late p d l i latest ≡ via Refused (limited_by p d l i a c₁ latest) (limited_by p d l i a c₂)
+      held_both : held_late p d l i latest ≡ via Err (limited_by p d l i a c₁ latest) (limited_by p d l i a c₂)
       unfolding held_late
       held_both =
-          on_false (summary p i) (At latest) _ e
-          ∙ (λ z. via Refused (limited_by p d l i (sym r z) (sym q₁ z) latest) (limited_by p d l i (sym r z) (sym q₂ z)))
+          on_false (summary p i) (Ok latest) _ e
+          ∙ (λ z. via Err (limited_by p d l i (sym r z) (sym q₁ z) latest) (limited_by p d l i (sym r z) (sym q₂ z)))
 
-      pub held_second : (f : ℕ) → limited_by p d l i a c₁ latest ≡ At f → held_late p d l i latest ≡ limited_by p d l i a c₂ f
-      held_second f h = held_both ∙ via_at Refused _ _ f h
+      pub held_second : (f : ℕ) → limited_by p d l i a c₁ latest ≡ Ok f → held_late p d l i latest ≡ limited_by p d l i a c₂ f
+      held_second f h = held_both ∙ via_at Err _ _ f h
 
-      pub held_refused : (k : ℕ) → limited_by p d l i a c₁ latest ≡ Refused k → held_late p d l i latest ≡ Refused k
-      held_refused k h = held_both ∙ via_refused Refused _ _ k h
+      pub held_refused : (k : ClockError) → limited_by p d l i a c₁ latest ≡ Err k → held_late p d l i latest ≡ Err k
+      held_refused k h = held_both ∙ via_refused Err _ _ k h

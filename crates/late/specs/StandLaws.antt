@@ -1,8 +1,8 @@
 -- What the links' steps read of the memory is what the definitions read of the plan and the dates.
-use Rattle.std.specs.Prelude.{◌≡◌, Bool, List, ℕ, ◌≤◌, ◌<◌, min, eqb, ℤ}
+use Rattle.std.specs.Prelude.{◌≡◌, Bool, List, ℕ, ◌≤◌, ◌<◌, min, eqb, ℤ, Ok, Err}
+use Rattle.worktime.specs.declared.ClockError.{ClockError}
 use Rattle.std.proofs.Common.{sym, ap, ◌∙◌, arith}
 use Rattle.number.specs.BitLaws.{mark_is}
-use Rattle.worktime.specs.declared.Walk.TheVariants.{At, Refused}
 use Rattle.cells.specs.Chain.{after, gather}
 use Rattle.cells.specs.ChainLaws.{Cursor, cursor_start, cursor_turn, cursor_stop, cursor_end}
 use Rattle.memory.specs.State.{State, state_of}
@@ -27,13 +27,13 @@ use Rattle.late.specs.LinkLaws.{lowered_gather}
 
 -- ---- the ways to the late dates of an activity that is not completed
 module _ (p : Plan) (d : Early) (l : Late) (i last : ℕ) where
-  pub unfinished_lowered : (k : ℕ) → lowered p d l i (ties_out p i) last ≡ Refused k → unfinished_late p d l i last ≡ refused k
+  pub unfinished_lowered : (k : ClockError) → lowered p d l i (ties_out p i) last ≡ Err k → unfinished_late p d l i last ≡ refused k
   unfinished_lowered k e = via_refused refused _ _ k e
 
-  pub unfinished_held : (f k : ℕ) → lowered p d l i (ties_out p i) last ≡ At f → held_late p d l i f ≡ Refused k → unfinished_late p d l i last ≡ refused k
+  pub unfinished_held : (f : ℕ) (k : ClockError) → lowered p d l i (ties_out p i) last ≡ Ok f → held_late p d l i f ≡ Err k → unfinished_late p d l i last ≡ refused k
   unfinished_held f k e h = via_at refused _ _ f e ∙ via_refused refused _ _ k h
 
-  pub unfinished_placed : (f g : ℕ) → lowered p d l i (ties_out p i) last ≡ At f → held_late p d l i f ≡ At g → unfinished_late p d l i last ≡ placed_late p d l i g
+  pub unfinished_placed : (f g : ℕ) → lowered p d l i (ties_out p i) last ≡ Ok f → held_late p d l i f ≡ Ok g → unfinished_late p d l i last ≡ placed_late p d l i g
   unfinished_placed f g e h = via_at refused _ _ f e ∙ via_at refused _ _ g h
 
 module _ {s : List ℕ} {c : Contents} {places : List ℕ} {t : ℕ} {xs : List ℤ} (R : Ready s c places t xs) where
@@ -71,31 +71,31 @@ module _ {s : List ℕ} {c : Contents} {places : List ℕ} {t : ℕ} {xs : List 
   module _ (i last : ℕ) where
     -- link k is next, and `latest` is what those before it leave
     abbrev pub Lowering : ℕ → ℕ → Type 0
-    Lowering latest k = Cursor (lowering (link_finish p (early_in p S) (late_in p S last) i)) At (S.link from_field) t i last latest k
+    Lowering latest k = Cursor (lowering (link_finish p (early_in p S) (late_in p S last) i)) Ok (S.link from_field) t i last latest k
 
     pub lowering_start : (k : ℕ) → i < c.activities → k ≡ S.act first_out i → Lowering last k
     lowering_start k b e =
         let a : i < p.activities = omega (arith, activities_are s c) in
         rw e (cursor_start _ _ _ _ _ _ (R.standing.chains_out.heads i a))
 
-    whole : gather (lowering (link_finish p (early_in p S) (late_in p S last) i)) At (after (S.link from_field) t i 0) last
+    whole : gather (lowering (link_finish p (early_in p S) (late_in p S last) i)) Ok (after (S.link from_field) t i 0) last
         ≡ lowered p (early_in p S) (late_in p S last) i (ties_out p i) last
     whole =
-        ap (λ (ks : List ℕ). gather (lowering (link_finish p (early_in p S) (late_in p S last) i)) At ks last) (out_is p R.standing i)
+        ap (λ (ks : List ℕ). gather (lowering (link_finish p (early_in p S) (late_in p S last) i)) Ok ks last) (out_is p R.standing i)
         ∙ sym (lowered_gather p (early_in p S) (late_in p S last) i (ties_out p i) last)
 
     module _ {latest k : ℕ} (C : Lowering latest k) where
-      pub lowering_next : (f k' least : ℕ) → k < t → link_finish p (early_in p S) (late_in p S last) i k ≡ At f → least ≡ min latest f
+      pub lowering_next : (f k' least : ℕ) → k < t → link_finish p (early_in p S) (late_in p S last) i k ≡ Ok f → least ≡ min latest f
           → k' ≡ S.link next_out k → Lowering least k'
       lowering_next f k' least b e m n =
-          rw (m, n) (cursor_turn _ _ _ _ _ _ C (min latest f) b (R.standing.chains_out.nexts k (omega arith) b) (λ go. via_at Refused _ _ f e))
+          rw (m, n) (cursor_turn _ _ _ _ _ _ C (min latest f) b (R.standing.chains_out.nexts k (omega arith) b) (λ go. via_at Err _ _ f e))
 
       pub lowering_on : (k' : ℕ) → k < t → k' ≡ S.link next_out k → k < k'
       lowering_on k' b n = omega (arith, n, (R.standing.chains_out.nexts k (omega arith) b).low)
 
-      pub lowering_stop : (r : ℕ) → k < t → link_finish p (early_in p S) (late_in p S last) i k ≡ Refused r
-          → Refused r ≡ lowered p (early_in p S) (late_in p S last) i (ties_out p i) last
-      lowering_stop r b e = cursor_stop _ _ _ _ _ _ C (Refused r) b (λ go. via_refused Refused _ _ r e) ∙ whole
+      pub lowering_stop : (r : ClockError) → k < t → link_finish p (early_in p S) (late_in p S last) i k ≡ Err r
+          → Err r ≡ lowered p (early_in p S) (late_in p S last) i (ties_out p i) last
+      lowering_stop r b e = cursor_stop _ _ _ _ _ _ C (Err r) b (λ go. via_refused Err _ _ r e) ∙ whole
 
-      pub lowering_end : t ≤ k → At latest ≡ lowered p (early_in p S) (late_in p S last) i (ties_out p i) last
+      pub lowering_end : t ≤ k → Ok latest ≡ lowered p (early_in p S) (late_in p S last) i (ties_out p i) last
       lowering_end b = cursor_end _ _ _ _ _ _ C b ∙ whole

@@ -1,8 +1,7 @@
 // The late dates of one activity: the finish that its links and constraints leave, and where its work then begins and ends.
 #![tactic(auto)]
 
-ghost use Rattle.std.specs.Prelude.{◌≡◌, ℕ, ◌^◌, ◌<◌, min};
-ghost use Rattle.worktime.specs.declared.Walk.TheVariants.{At};
+ghost use Rattle.std.specs.Prelude.{◌≡◌, ℕ, ◌^◌, ◌<◌, min, Ok};
 ghost use Rattle.calendar.specs.Records.{Valid};
 ghost use Rattle.clock.specs.On.{worked_on};
 ghost use Rattle.memory.specs.State.{state_of};
@@ -19,7 +18,7 @@ use calendar::Period;
 use placing::Actual;
 use project::Activity;
 use sheet::Contents;
-use worktime::Walk;
+use worktime::ClockError;
 
 pub mod limits;
 pub mod links;
@@ -36,9 +35,9 @@ pub struct Unfinished {
 
 // A late start and a late finish.
 #[derive(Clone, Copy)]
-pub enum LateDates {
-    Dates(u64, u64),
-    Refused(u64),
+pub struct LateDates {
+    pub start: u64,
+    pub finish: u64,
 }
 
 // The earlier of two times.
@@ -59,32 +58,28 @@ fn lift(
     early: u64,
     latest: u64,
     f: u64,
-) -> Walk
+) -> Result<u64, ClockError>
     requires { Valid week sheet.now unfinished.at unfinished.n × (early < 2 ^ 63) × (f < 2 ^ 63) }
-    ensures { ((p : Plan) (d : Early) (l : Late) (i : ℕ) → IsUnfinished p d i (worked_on week sheet.now unfinished.at unfinished.n) unfinished → early ≡ d.ef i → result ≡ lifted p d l i latest f) × ((v : ℕ) → result ≡ At v → v < 2 ^ 63) }
+    ensures { ((p : Plan) (d : Early) (l : Late) (i : ℕ) → IsUnfinished p d i (worked_on week sheet.now unfinished.at unfinished.n) unfinished → early ≡ d.ef i → result ≡ lifted p d l i latest f) × ((v : ℕ) → result ≡ Ok v → v < 2 ^ 63) }
 {
     if early <= f {
-        return Walk::At(f);
+        return Ok(f);
     }
     if latest < early {
-        return Walk::At(f);
+        return Ok(f);
     }
-    match placing::latest_same(
+    let s = placing::latest_same(
         unfinished.activity,
         week,
         sheet,
         unfinished.at,
         unfinished.n,
         f,
-    ) {
-        Walk::At(s) => {
-            if early <= s {
-                return Walk::At(early);
-            }
-            Walk::At(f)
-        }
-        Walk::Refused(k) => Walk::Refused(k),
+    )?;
+    if early <= s {
+        return Ok(early);
     }
+    Ok(f)
 }
 
 // The late dates that `latest` leaves, with the early finish `early`.
@@ -94,7 +89,7 @@ fn place_late(
     unfinished: Unfinished,
     early: u64,
     latest: u64,
-) -> LateDates
+) -> Result<LateDates, ClockError>
     requires { Valid week sheet.now unfinished.at unfinished.n × (unfinished.origin < 2 ^ 43) × (early < 2 ^ 63) }
     ensures { ((p : Plan) (d : Early) (l : Late) (i : ℕ) → IsUnfinished p d i (worked_on week sheet.now unfinished.at unfinished.n) unfinished → early ≡ d.ef i → dated p d l i result ≡ placed_late p d l i latest) × Fitting result }
 {
@@ -103,22 +98,15 @@ fn place_late(
     let n = unfinished.n;
     let left = unfinished.left;
     let origin = unfinished.origin;
-    match placing::place_finish(activity, week, sheet, at, n, left, latest) {
-        Walk::At(t) => match placing::bounded(origin, t) {
-            Walk::At(b) => match lift(week, sheet, unfinished, early, latest, b) {
-                Walk::At(f) => match placing::start_of(activity, week, sheet, at, n, left, f) {
-                    Walk::At(u) => match placing::bounded(origin, u) {
-                        Walk::At(s) => LateDates::Dates(s, f),
-                        Walk::Refused(k) => LateDates::Refused(k),
-                    },
-                    Walk::Refused(k) => LateDates::Refused(k),
-                },
-                Walk::Refused(k) => LateDates::Refused(k),
-            },
-            Walk::Refused(k) => LateDates::Refused(k),
-        },
-        Walk::Refused(k) => LateDates::Refused(k),
-    }
+    let t = placing::place_finish(activity, week, sheet, at, n, left, latest)?;
+    let b = placing::bounded(origin, t)?;
+    let f = lift(week, sheet, unfinished, early, latest, b)?;
+    let u = placing::start_of(activity, week, sheet, at, n, left, f)?;
+    let s = placing::bounded(origin, u)?;
+    Ok(LateDates {
+        start: s,
+        finish: f,
+    })
 }
 
 // The late dates that the links out of activity `i` and its constraints leave it.
@@ -134,7 +122,7 @@ fn late_from(
     i: usize,
     actual: Actual,
     last: u64,
-) -> LateDates
+) -> Result<LateDates, ClockError>
     requires { Ready sheet.now contents places.now t work.now × (i < contents.activities) × Valid week sheet.now unfinished.at unfinished.n × IsUnfinished (plan_of sheet.now contents) (early_in (plan_of sheet.now contents) (state_of contents.activities contents.links work.now)) i (worked_on week sheet.now unfinished.at unfinished.n) unfinished × (unfinished.origin < 2 ^ 43) × (actual ≡ recorded (plan_of sheet.now contents) i) × (week ≡ week_of_calendar sheet.now contents mine) }
     ensures { (dated (plan_of sheet.now contents) (early_in (plan_of sheet.now contents) (state_of contents.activities contents.links work.now)) (late_in (plan_of sheet.now contents) (state_of contents.activities contents.links work.now) last) i result ≡ unfinished_late (plan_of sheet.now contents) (early_in (plan_of sheet.now contents) (state_of contents.activities contents.links work.now)) (late_in (plan_of sheet.now contents) (state_of contents.activities contents.links work.now) last) i last) × Fitting result }
 {
@@ -142,15 +130,11 @@ fn late_from(
     let l = contents.links;
     let mark = memory::get_act(work, a, l, i, memory::fields::IS_SUMMARY);
     let early = memory::get_act(work, a, l, i, memory::fields::EARLY_FINISH);
-    match links::lower(
+    let f = links::lower(
         sheet, contents, places, t, work, mine, week, unfinished, i, last,
-    ) {
-        Walk::At(f) => match limits::hold_late(week, sheet, unfinished, mark == 1, actual, f) {
-            Walk::At(g) => place_late(week, sheet, unfinished, early, g),
-            Walk::Refused(k) => LateDates::Refused(k),
-        },
-        Walk::Refused(k) => LateDates::Refused(k),
-    }
+    )?;
+    let g = limits::hold_late(week, sheet, unfinished, mark == 1, actual, f)?;
+    place_late(week, sheet, unfinished, early, g)
 }
 
 // The late dates of activity `i`, of which `actual` is recorded and which is not completed; `last` is the end.
@@ -163,7 +147,7 @@ pub fn late_of(
     i: usize,
     actual: Actual,
     last: u64,
-) -> LateDates
+) -> Result<LateDates, ClockError>
     requires { Ready sheet.now contents places.now t work.now × (i < contents.activities) × (actual ≡ recorded (plan_of sheet.now contents) i) }
     ensures { (dated (plan_of sheet.now contents) (early_in (plan_of sheet.now contents) (state_of contents.activities contents.links work.now)) (late_in (plan_of sheet.now contents) (state_of contents.activities contents.links work.now) last) i result ≡ unfinished_late (plan_of sheet.now contents) (early_in (plan_of sheet.now contents) (state_of contents.activities contents.links work.now)) (late_in (plan_of sheet.now contents) (state_of contents.activities contents.links work.now) last) i last) × Fitting result }
 {

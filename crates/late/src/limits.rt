@@ -1,6 +1,5 @@
 // What constraints leave of an activity's latest finish.
-ghost use Rattle.std.specs.Prelude.{◌≡◌, true, false, ℕ, min};
-ghost use Rattle.worktime.specs.declared.Walk.TheVariants.{At, Refused};
+ghost use Rattle.std.specs.Prelude.{◌≡◌, true, false, ℕ, min, Ok, Err};
 ghost use Rattle.calendar.specs.Records.{Valid};
 ghost use Rattle.clock.specs.On.{worked_on};
 ghost use Rattle.placing.specs.Placing.{via, finish_for_start_by};
@@ -13,9 +12,9 @@ ghost use Rattle.late.specs.Unfinished.{IsUnfinished};
 
 use crate::Unfinished;
 use calendar::Period;
-use placing::{Actual, Moment};
+use placing::Actual;
 use project::Constraint;
-use worktime::Walk;
+use worktime::ClockError;
 
 // No later than the finish of work that starts by `t`.
 fn start_limit(
@@ -24,11 +23,11 @@ fn start_limit(
     unfinished: Unfinished,
     t: u64,
     latest: u64,
-) -> Walk
+) -> Result<u64, ClockError>
     requires { Valid week sheet.now unfinished.at unfinished.n }
-    ensures { result ≡ via Refused (finish_for_start_by (worked_on week sheet.now unfinished.at unfinished.n) unfinished.left t) (λ f. At (min latest f)) }
+    ensures { result ≡ via Err (finish_for_start_by (worked_on week sheet.now unfinished.at unfinished.n) unfinished.left t) (λ f. Ok (min latest f)) }
 {
-    match placing::finish_for_start_by(
+    let f = placing::finish_for_start_by(
         unfinished.activity,
         week,
         sheet,
@@ -36,10 +35,8 @@ fn start_limit(
         unfinished.n,
         unfinished.left,
         t,
-    ) {
-        Walk::At(f) => Walk::At(crate::earlier(latest, f)),
-        Walk::Refused(k) => Walk::Refused(k),
-    }
+    )?;
+    Ok(crate::earlier(latest, f))
 }
 
 // What a constraint whose time is `t` leaves of `latest`.
@@ -50,18 +47,18 @@ fn limit_at(
     constraint: Constraint,
     t: u64,
     latest: u64,
-) -> Walk
+) -> Result<u64, ClockError>
     requires { Valid week sheet.now unfinished.at unfinished.n }
     ensures { (p : Plan) (d : Early) (l : Late) (i : ℕ) → IsUnfinished p d i (worked_on week sheet.now unfinished.at unfinished.n) unfinished → result ≡ at_late p d l i constraint t latest }
 {
     match constraint {
-        Constraint::Unconstrained => Walk::At(latest),
-        Constraint::StartOnOrAfter(_) => Walk::At(latest),
+        Constraint::Unconstrained => Ok(latest),
+        Constraint::StartOnOrAfter(_) => Ok(latest),
         Constraint::StartOnOrBefore(_) => start_limit(week, sheet, unfinished, t, latest),
-        Constraint::FinishOnOrAfter(_) => Walk::At(latest),
-        Constraint::FinishOnOrBefore(_) => Walk::At(crate::earlier(latest, t)),
+        Constraint::FinishOnOrAfter(_) => Ok(latest),
+        Constraint::FinishOnOrBefore(_) => Ok(crate::earlier(latest, t)),
         Constraint::StartOn(_) => start_limit(week, sheet, unfinished, t, latest),
-        Constraint::FinishOn(_) => Walk::At(crate::earlier(latest, t)),
+        Constraint::FinishOn(_) => Ok(crate::earlier(latest, t)),
         Constraint::MandatoryStart(_) => placing::finish_for_start_by(
             unfinished.activity,
             week,
@@ -71,8 +68,8 @@ fn limit_at(
             unfinished.left,
             t,
         ),
-        Constraint::MandatoryFinish(_) => Walk::At(t),
-        Constraint::AsLateAsPossible => Walk::At(latest),
+        Constraint::MandatoryFinish(_) => Ok(t),
+        Constraint::AsLateAsPossible => Ok(latest),
     }
 }
 
@@ -83,7 +80,7 @@ fn limit(
     unfinished: Unfinished,
     constraint: Constraint,
     latest: u64,
-) -> Walk
+) -> Result<u64, ClockError>
     requires { Valid week sheet.now unfinished.at unfinished.n }
     ensures { (p : Plan) (d : Early) (l : Late) (i : ℕ) → IsUnfinished p d i (worked_on week sheet.now unfinished.at unfinished.n) unfinished → result ≡ limited p d l i constraint latest }
 {
@@ -94,13 +91,12 @@ fn limit(
         unfinished.at,
         unfinished.n,
         constraint,
-    ) {
-        Moment::At(t) => match placing::bounded(unfinished.origin, t) {
-            Walk::At(b) => limit_at(week, sheet, unfinished, constraint, b, latest),
-            Walk::Refused(k) => Walk::Refused(k),
-        },
-        Moment::Nowhere => Walk::At(latest),
-        Moment::Refused(k) => Walk::Refused(k),
+    )? {
+        Some(t) => {
+            let b = placing::bounded(unfinished.origin, t)?;
+            limit_at(week, sheet, unfinished, constraint, b, latest)
+        }
+        None => Ok(latest),
     }
 }
 
@@ -112,7 +108,7 @@ fn limit_by(
     actual: Actual,
     constraint: Constraint,
     latest: u64,
-) -> Walk
+) -> Result<u64, ClockError>
     requires { Valid week sheet.now unfinished.at unfinished.n }
     ensures { (p : Plan) (d : Early) (l : Late) (i : ℕ) → IsUnfinished p d i (worked_on week sheet.now unfinished.at unfinished.n) unfinished → result ≡ limited_by p d l i actual constraint latest }
 {
@@ -120,12 +116,12 @@ fn limit_by(
         Actual::Unstarted => limit(week, sheet, unfinished, constraint, latest),
         Actual::Begun(_) => {
             if project::bounds_start(constraint) {
-                return Walk::At(latest);
+                return Ok(latest);
             }
             limit(week, sheet, unfinished, constraint, latest)
         }
-        Actual::Completed(_, _) => Walk::At(latest),
-        Actual::Refused(k) => Walk::Refused(k),
+        Actual::Completed(_, _) => Ok(latest),
+        Actual::Refused(k) => Err(k),
     }
 }
 
@@ -137,20 +133,16 @@ pub fn hold_late(
     is_summary: bool,
     actual: Actual,
     latest: u64,
-) -> Walk
+) -> Result<u64, ClockError>
     requires { Valid week sheet.now unfinished.at unfinished.n }
     ensures { (p : Plan) (d : Early) (l : Late) (i : ℕ) → IsUnfinished p d i (worked_on week sheet.now unfinished.at unfinished.n) unfinished → is_summary ≡ summary p i → actual ≡ recorded p i → result ≡ held_late p d l i latest }
 {
     if is_summary {
-        return Walk::At(latest);
+        return Ok(latest);
     }
     let activity = unfinished.activity;
     let first = activity.constraint;
-    match limit_by(week, sheet, unfinished, actual, first, latest) {
-        Walk::At(f) => {
-            let second = activity.secondary_constraint;
-            limit_by(week, sheet, unfinished, actual, second, f)
-        }
-        Walk::Refused(k) => Walk::Refused(k),
-    }
+    let f = limit_by(week, sheet, unfinished, actual, first, latest)?;
+    let second = activity.secondary_constraint;
+    limit_by(week, sheet, unfinished, actual, second, f)
 }

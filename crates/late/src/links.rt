@@ -21,25 +21,30 @@ use crate::{LateDates, Unfinished};
 use calendar::Period;
 use project::RelationshipType;
 use sheet::Contents;
-use worktime::Walk;
+use worktime::ClockError;
 
 // Back from `x` over a lag on calendar `k`, and, for a lag that is not 0, on to that calendar's next start.
-fn over_lag(sheet: &[u8], contents: Contents, places: &[u64], k: usize, lag: i64, x: u64) -> Walk
+fn over_lag(
+    sheet: &[u8],
+    contents: Contents,
+    places: &[u64],
+    k: usize,
+    lag: i64,
+    x: u64,
+) -> Result<u64, ClockError>
     requires { SheetRead sheet.now contents × Places sheet.now contents places.now × (up lag + dn lag < 2 ^ 63) }
     ensures { (d : Early) (l : Late) (t : Tie) → t.calendar ≡ k → t.lag ≡ lag → result ≡ over_lag (plan_of sheet.now contents) d l t x }
 {
     if lag == 0 {
-        return Walk::At(x);
+        return Ok(x);
     }
     let week = calendars::week_of(sheet, contents, places, k);
     let e = calendars::exceptions_of(sheet, contents, places, k);
     let at = e.at;
     let n = e.n;
     let back = number::sign::negate(lag);
-    match clock::shift(week, sheet, at, n, x, back) {
-        Walk::At(v) => clock::next_start(week, sheet, at, n, v),
-        Walk::Refused(r) => Walk::Refused(r),
-    }
+    let v = clock::shift(week, sheet, at, n, x, back)?;
+    clock::next_start(week, sheet, at, n, v)
 }
 
 // The week of calendar `k`: the one in hand where it is that of calendar `mine`.
@@ -69,7 +74,7 @@ fn successor_times(
     j: usize,
     mine: usize,
     hand: [[Period; 8]; 7],
-) -> LateDates
+) -> Result<LateDates, ClockError>
     requires { SheetRead sheet.now contents × Places sheet.now contents places.now × Room contents.activities contents.links work.now × (j < contents.activities) × (hand ≡ week_of_calendar sheet.now contents mine) }
     ensures { result ≡ times_of (own (plan_of sheet.now contents) j) ((state_of contents.activities contents.links work.now).act late_start j) ((state_of contents.activities contents.links work.now).act late_finish j) }
 {
@@ -81,13 +86,12 @@ fn successor_times(
     let l = contents.links;
     let start = memory::get_act(work, a, l, j, memory::fields::LATE_START);
     let finish = memory::get_act(work, a, l, j, memory::fields::LATE_FINISH);
-    match placing::latest_same(activity, week, sheet, e.at, e.n, start) {
-        Walk::At(s) => match placing::latest_same(activity, week, sheet, e.at, e.n, finish) {
-            Walk::At(f) => LateDates::Dates(s, f),
-            Walk::Refused(r) => LateDates::Refused(r),
-        },
-        Walk::Refused(r) => LateDates::Refused(r),
-    }
+    let s = placing::latest_same(activity, week, sheet, e.at, e.n, start)?;
+    let f = placing::latest_same(activity, week, sheet, e.at, e.n, finish)?;
+    Ok(LateDates {
+        start: s,
+        finish: f,
+    })
 }
 
 // The one of a successor's late times that a link counts back from.
@@ -109,12 +113,12 @@ fn finish_by(
     unfinished: Unfinished,
     kind: RelationshipType,
     v: u64,
-) -> Walk
+) -> Result<u64, ClockError>
     requires { Valid week sheet.now unfinished.at unfinished.n }
     ensures { result ≡ finish_by (worked_on week sheet.now unfinished.at unfinished.n) unfinished.left kind v }
 {
     match kind {
-        RelationshipType::FinishToStart => Walk::At(v),
+        RelationshipType::FinishToStart => Ok(v),
         RelationshipType::StartToStart => placing::finish_for_start(
             unfinished.activity,
             week,
@@ -124,7 +128,7 @@ fn finish_by(
             unfinished.left,
             v,
         ),
-        RelationshipType::FinishToFinish => Walk::At(v),
+        RelationshipType::FinishToFinish => Ok(v),
         RelationshipType::StartToFinish => placing::finish_for_start(
             unfinished.activity,
             week,
@@ -148,25 +152,17 @@ fn link_finish(
     week: [[Period; 8]; 7],
     unfinished: Unfinished,
     k: usize,
-) -> Walk
+) -> Result<u64, ClockError>
     requires { Ready sheet.now contents places.now t work.now × (k < t) × Valid week sheet.now unfinished.at unfinished.n × (week ≡ week_of_calendar sheet.now contents mine) }
     ensures { (i last : ℕ) → IsUnfinished (plan_of sheet.now contents) (early_in (plan_of sheet.now contents) (state_of contents.activities contents.links work.now)) i (worked_on week sheet.now unfinished.at unfinished.n) unfinished → result ≡ link_finish (plan_of sheet.now contents) (early_in (plan_of sheet.now contents) (state_of contents.activities contents.links work.now)) (late_in (plan_of sheet.now contents) (state_of contents.activities contents.links work.now) last) i k }
 {
     let tie = dates::tie_at(work, contents.activities, contents.links, k);
     let kind = tie.kind;
-    match successor_times(sheet, contents, places, work, tie.to, mine, week) {
-        LateDates::Dates(start, finish) => {
-            let x = target(kind, start, finish);
-            match over_lag(sheet, contents, places, tie.calendar, tie.lag, x) {
-                Walk::At(v) => match finish_by(week, sheet, unfinished, kind, v) {
-                    Walk::At(f) => placing::bounded(unfinished.origin, f),
-                    Walk::Refused(r) => Walk::Refused(r),
-                },
-                Walk::Refused(r) => Walk::Refused(r),
-            }
-        }
-        LateDates::Refused(r) => Walk::Refused(r),
-    }
+    let times = successor_times(sheet, contents, places, work, tie.to, mine, week)?;
+    let x = target(kind, times.start, times.finish);
+    let v = over_lag(sheet, contents, places, tie.calendar, tie.lag, x)?;
+    let f = finish_by(week, sheet, unfinished, kind, v)?;
+    placing::bounded(unfinished.origin, f)
 }
 
 // The latest finish that the links out of activity `i` leave it, from `last` down.
@@ -181,7 +177,7 @@ pub fn lower(
     unfinished: Unfinished,
     i: usize,
     last: u64,
-) -> Walk
+) -> Result<u64, ClockError>
     requires { Ready sheet.now contents places.now t work.now × (i < contents.activities) × Valid week sheet.now unfinished.at unfinished.n × IsUnfinished (plan_of sheet.now contents) (early_in (plan_of sheet.now contents) (state_of contents.activities contents.links work.now)) i (worked_on week sheet.now unfinished.at unfinished.n) unfinished × (week ≡ week_of_calendar sheet.now contents mine) }
     ensures { result ≡ lowered (plan_of sheet.now contents) (early_in (plan_of sheet.now contents) (state_of contents.activities contents.links work.now)) (late_in (plan_of sheet.now contents) (state_of contents.activities contents.links work.now) last) i (ties_out (plan_of sheet.now contents) i) last }
 {
@@ -190,15 +186,9 @@ pub fn lower(
     let mut latest = last;
     let mut k = memory::get_act(work, a, l, i, memory::fields::FIRST_OUT) as usize;
     while k < t {
-        match link_finish(sheet, contents, places, t, work, mine, week, unfinished, k) {
-            Walk::At(f) => {
-                latest = crate::earlier(latest, f);
-            }
-            Walk::Refused(r) => {
-                return Walk::Refused(r);
-            }
-        }
+        let f = link_finish(sheet, contents, places, t, work, mine, week, unfinished, k)?;
+        latest = crate::earlier(latest, f);
         k = memory::get_link(work, a, l, k, memory::fields::NEXT_OUT) as usize;
     }
-    Walk::At(latest)
+    Ok(latest)
 }

@@ -1,5 +1,6 @@
 -- The marks along the links into an activity, and those of an activity's turn.
-use Rattle.std.specs.Prelude.{◌≡◌, Bool, ℕ, ◌<◌}
+use Rattle.std.specs.Prelude.{◌≡◌, Bool, ℕ, ◌<◌, Result, Ok, Err}
+use Rattle.worktime.specs.declared.ClockError.{ClockError}
 use Rattle.std.proofs.Math.Path.{refl, ap}
 use Rattle.std.proofs.Common.{sym, ◌∙◌}
 use Rattle.std.proofs.Math.Bool.{true, false}
@@ -16,8 +17,6 @@ use Rattle.dates.specs.Columns.{path_in}
 use Rattle.dates.specs.ColumnLaws.{flags_put}
 use Rattle.dates.specs.Standing.{Standing}
 use Rattle.dates.specs.StandingLaws.{into_is}
-use Rattle.longest.specs.declared.Driving.{Driving}
-use Rattle.longest.specs.declared.Driving.TheVariants.{Sets, Leaves}
 use Rattle.longest.specs.Path.{driven, marks}
 
 module _ (p : Plan) (d : Early) (i : ℕ) where
@@ -44,21 +43,21 @@ module _ (p : Plan) (d : Early) (i : ℕ) where
     path_off e = on_false (on i) (marked p d i (ties_into p i) on) (leaves on) e
 
 -- ---- one link's turn, by whether it sets the start
-module _ (p : Plan) (d : Early) (i k : ℕ) (S : State) (other : ℕ → Bool) (go : (ℕ → Bool) → Pass (ℕ → Bool)) (x : Driving)
+module _ (p : Plan) (d : Early) (i k : ℕ) (S : State) (other : ℕ → Bool) (go : (ℕ → Bool) → Pass (ℕ → Bool)) (x : Result Bool ClockError)
     (e : (f : Bool → Pass (ℕ → Bool)) → driven x f ≡ drives p d i k f) where
   abbrev next : Bool → Pass (ℕ → Bool)
   next b = go (elim b [ true ↦ put (path_in p S other) (tie p k).from true | false ↦ path_in p S other ])
 
-  pub mark_refused : (m : ℕ) → x ≡ Driving.Refused m → refused m ≡ marks p d i (path_in p S other) k go
-  mark_refused m f = sym (ap (λ (y : Driving). driven y next) f) ∙ e next
+  pub mark_refused : (m : ClockError) → x ≡ Err m → refused m ≡ marks p d i (path_in p S other) k go
+  mark_refused m f = sym (ap (λ (y : Result Bool ClockError). driven y next) f) ∙ e next
 
-  pub mark_leaves : x ≡ Leaves → go (path_in p S other) ≡ marks p d i (path_in p S other) k go
-  mark_leaves f = sym (ap (λ (y : Driving). driven y next) f) ∙ e next
+  pub mark_leaves : x ≡ (Ok false) → go (path_in p S other) ≡ marks p d i (path_in p S other) k go
+  mark_leaves f = sym (ap (λ (y : Result Bool ClockError). driven y next) f) ∙ e next
 
-  pub mark_sets : x ≡ Sets → (T : State) (v : ℕ) → v < p.activities → v ≡ (tie p k).from → T ≡ put_act S longest_path v 1
+  pub mark_sets : x ≡ (Ok true) → (T : State) (v : ℕ) → v < p.activities → v ≡ (tie p k).from → T ≡ put_act S longest_path v 1
       → go (path_in p T other) ≡ marks p d i (path_in p S other) k go
   mark_sets f T v l g h =
       ap go
       (ap (λ (U : State). path_in p U other) h ∙ flags_put p.activities other longest_path S v true l
       ∙ ap (λ (j : ℕ). put (path_in p S other) j true) g)
-      ∙ sym (ap (λ (y : Driving). driven y next) f) ∙ e next
+      ∙ sym (ap (λ (y : Result Bool ClockError). driven y next) f) ∙ e next

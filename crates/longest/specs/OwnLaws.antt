@@ -1,5 +1,6 @@
 -- An activity in hand, its own calendar, and what is read of its dates and of a link into it, as the definitions have them.
-use Rattle.std.specs.Prelude.{◌≡◌, List, ℕ, ◌<◌, ℤ}
+use Rattle.std.specs.Prelude.{◌≡◌, List, ℕ, ◌<◌, ℤ, Result}
+use Rattle.worktime.specs.declared.ClockError.{ClockError}
 use Rattle.std.proofs.Common.{sym, ap, ap₂, subst, ◌∙◌, arith}
 use Rattle.calendar.specs.declared.Period.{Period}
 use Rattle.calendar.specs.Records.{Valid}
@@ -9,7 +10,6 @@ use Rattle.project.specs.declared.RelationshipType.{RelationshipType}
 use Rattle.project.specs.Records.{relationship_type_of}
 use Rattle.placing.specs.declared.Actual.{Actual}
 use Rattle.placing.specs.Placing.{place_start}
-use Rattle.worktime.specs.declared.Walk.{Walk}
 use Rattle.memory.specs.State.{State, state_of}
 use Rattle.memory.specs.Fields.{early_start, work_left, from_field, kind_field}
 use Rattle.sheet.specs.declared.Contents.{Contents}
@@ -42,7 +42,7 @@ module _ {s : List ℕ} {c : Contents} {i : ℕ} {activity : Activity} {week : L
   own_kind : kind_of (plan_of s c) i ≡ activity.kind
   own_kind = sym (ap (λ (x : Activity). x.kind) O.is)
 
-  pub own_place : (u : ℕ) (r : Walk) → r ≡ place_start (worked_on week s at n) activity.kind u → r ≡ place_start (own (plan_of s c) i) (kind_of (plan_of s c) i) u
+  pub own_place : (u : ℕ) (r : Result ℕ ClockError) → r ≡ place_start (worked_on week s at n) activity.kind u → r ≡ place_start (own (plan_of s c) i) (kind_of (plan_of s c) i) u
   own_place u r e = e ∙ (λ z. place_start (sym own_worked z) (sym own_kind z) u)
 
 module _ {s : List ℕ} {c : Contents} {places : List ℕ} {t : ℕ} {xs : List ℤ} (L : Lent s c places t xs) where
@@ -84,6 +84,6 @@ module _ {s : List ℕ} {c : Contents} {places : List ℕ} {t : ℕ} {xs : List 
         ∙ ap (is_completed p) (sym (f ∙ L.recorded v (omega (arith, from_inside v e, activities_are s c))))
 
     -- the start that its bound b leaves activity i
-    pub start_left : (i : ℕ) → i < c.activities → (v u b : ℕ) (r : RelationshipType) (w : Walk) → v ≡ S.act work_left i → u ≡ S.link kind_field k → r ≡ relationship_type_of u → w ≡ start_for p i v r b
+    pub start_left : (i : ℕ) → i < c.activities → (v u b : ℕ) (r : RelationshipType) (w : Result ℕ ClockError) → v ≡ S.act work_left i → u ≡ S.link kind_field k → r ≡ relationship_type_of u → w ≡ start_for p i v r b
         → w ≡ start_for p i ((early_in p S).left i) (tie p k).kind b
     start_left i m v u b r w e f g h = h ∙ ap₂ (λ (x : ℕ) (y : RelationshipType). start_for p i x y b) (left_read i m v e) (kind_read u r f g)

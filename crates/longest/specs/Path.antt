@@ -1,8 +1,7 @@
 -- The longest path as code takes it: where a link's bound places its successor, and one link's turn in the walk along the links into an activity.
-use Rattle.std.specs.Prelude.{◌≡◌, Bool, true, false, List, ℕ, ℤ}
+use Rattle.std.specs.Prelude.{◌≡◌, Bool, true, false, List, ℕ, ℤ, Result, Ok, Err}
+use Rattle.worktime.specs.declared.ClockError.{ClockError}
 use Rattle.calendar.specs.declared.Period.{Period}
-use Rattle.worktime.specs.declared.Walk.{Walk}
-use Rattle.worktime.specs.declared.Walk.TheVariants.{Refused}
 use Rattle.project.specs.declared.Activity.{Activity}
 use Rattle.placing.specs.Placing.{via, place_start}
 use Rattle.memory.specs.State.{state_of}
@@ -15,8 +14,6 @@ use Rattle.passes.specs.Forward.{link_bound, start_for}
 use Rattle.passes.specs.Floats.{drives}
 use Rattle.calendars.specs.Calendars.{IsCalendar}
 use Rattle.dates.specs.Standing.{Ready, Recorded}
-use Rattle.longest.specs.declared.Driving.{Driving}
-use Rattle.longest.specs.declared.Driving.TheVariants.{Sets, Leaves}
 
 -- what the passes are lent, with what is recorded of work
 pub record Lent (s : List ℕ) (c : Contents) (places : List ℕ) (t : ℕ) (xs : List ℤ) : Type 0 where
@@ -29,17 +26,17 @@ pub record Own (s : List ℕ) (c : Contents) (i : ℕ) (activity : Activity) (we
   pub calendar : IsCalendar s c (calendar_of (plan_of s c) i) week at n
 
 -- what follows the answer whether a link sets the start of its successor
-abbrev pub driven : Driving → (Bool → Pass (ℕ → Bool)) → Pass (ℕ → Bool)
-driven Sets go = go true
-driven Leaves go = go false
-driven (Driving.Refused k) go = refused k
+abbrev pub driven : Result Bool ClockError → (Bool → Pass (ℕ → Bool)) → Pass (ℕ → Bool)
+driven (Ok true) go = go true
+driven (Ok false) go = go false
+driven (Err k) go = refused k
 
 module _ (p : Plan) (d : Early) (i : ℕ) where
   -- where the bound of link t places activity i
-  unfoldable pub bound_start : ℕ → Walk
+  unfoldable pub bound_start : ℕ → Result ℕ ClockError
   bound_start t =
-      via Refused (link_bound p d t)
-      (λ b. via Refused (start_for p i (d.left i) (tie p t).kind b) (place_start (own p i) (kind_of p i)))
+      via Err (link_bound p d t)
+      (λ b. via Err (start_for p i (d.left i) (tie p t).kind b) (place_start (own p i) (kind_of p i)))
 
   -- link t in its turn: its predecessor is marked if it sets the start of i
   abbrev pub marks : (ℕ → Bool) → ℕ → ((ℕ → Bool) → Pass (ℕ → Bool)) → Pass (ℕ → Bool)

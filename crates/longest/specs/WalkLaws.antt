@@ -1,5 +1,6 @@
 -- The walk along the links into an activity, and the pass over the activities from the last of the order to the first, as loops take them.
-use Rattle.std.specs.Prelude.{◌≡◌, refl, Bool, true, false, reverse, ◌≢◌, ℕ, ◌+◌, ◌-◌, ◌≤◌, ◌<◌, ltb, length, get_or}
+use Rattle.std.specs.Prelude.{◌≡◌, refl, Bool, true, false, reverse, ◌≢◌, ℕ, ◌+◌, ◌-◌, ◌≤◌, ◌<◌, ltb, length, get_or, Result, Ok, Err}
+use Rattle.worktime.specs.declared.ClockError.{ClockError}
 use Rattle.std.proofs.Common.{sym, ap, ◌∙◌, arith, lt-ltb, le-ltb}
 use Rattle.cells.specs.Chain.{Stands}
 use Rattle.cells.specs.ChainLaws.{Cursor, cursor_start, cursor_turn, cursor_stop, cursor_end}
@@ -12,8 +13,6 @@ use Rattle.passes.specs.Plan.{ties_into}
 use Rattle.passes.specs.Dates.{Early, Pass, leaves, refused, after, through}
 use Rattle.passes.specs.Floats.{last_ones, marked, on_path}
 use Rattle.passes.specs.Run.{path_pass}
-use Rattle.dates.specs.declared.Step.{Step}
-use Rattle.dates.specs.declared.Step.TheVariants.{Done}
 use Rattle.dates.specs.Columns.{early_in, path_in, ended}
 use Rattle.dates.specs.ColumnLaws.{flags_at}
 use Rattle.dates.specs.Standing.{Standing}
@@ -38,20 +37,20 @@ module _ (p : Plan) {t : ℕ} {S₀ : State} (W : Standing p t S₀) (i : ℕ) w
     next_stands G k' e =
         rw (e ∙ ap (λ (c : ℕ → ℕ). c k) (G.links next_into refl ∙ F.links next_into refl)) (W.chains_in.nexts k (omega arith) l)
 
-    module _ (other : ℕ → Bool) (C : Marking p t S₀ i S other k) (T : State) (r : Step)
+    module _ (other : ℕ → Bool) (C : Marking p t S₀ i S other k) (T : State) (r : Result Unit ClockError)
         (e : (go : (ℕ → Bool) → Pass (ℕ → Bool)) → after (ended (path_in p T other) r) go ≡ marks p (early_in p S) i (path_in p S other) k go) where
       step : (go : (ℕ → Bool) → Pass (ℕ → Bool)) → marks p (early_in p S₀) i (path_in p S other) k go ≡ after (ended (path_in p T other) r) go
       step go = ap (λ (d : Early). marks p d i (path_in p S other) k go) (sym (early_kept F p refl refl refl)) ∙ sym (e go)
 
-      pub marking_turn : Frame 16 17 0 0 S T → r ≡ Done → (k' : ℕ) → k' ≡ T.link next_into k → Marking p t S₀ i T other k'
+      pub marking_turn : Frame 16 17 0 0 S T → r ≡ (Ok tt) → (k' : ℕ) → k' ≡ T.link next_into k → Marking p t S₀ i T other k'
       marking_turn G d k' f =
           cursor_turn (marks p (early_in p S₀) i) leaves (S₀.link to_field) t i (path_in p S₀ other) C (path_in p T other) l (next_stands G k' f)
-          (λ go. step go ∙ ap (λ (x : Step). after (ended (path_in p T other) x) go) d)
+          (λ go. step go ∙ ap (λ (x : Result Unit ClockError). after (ended (path_in p T other) x) go) d)
 
-      pub marking_stop : (m : ℕ) → r ≡ Step.Refused m → refused m ≡ marked p (early_in p S₀) i (ties_into p i) (path_in p S₀ other)
+      pub marking_stop : (m : ClockError) → r ≡ Err m → refused m ≡ marked p (early_in p S₀) i (ties_into p i) (path_in p S₀ other)
       marking_stop m d =
           cursor_stop (marks p (early_in p S₀) i) leaves (S₀.link to_field) t i (path_in p S₀ other) C (refused m) l
-          (λ go. step go ∙ ap (λ (x : Step). after (ended (path_in p T other) x) go) d)
+          (λ go. step go ∙ ap (λ (x : Result Unit ClockError). after (ended (path_in p T other) x) go) d)
           ∙ marked_chain p (early_in p S₀) i W (path_in p S₀ other)
 
   pub marking_end : (S : State) (other : ℕ → Bool) {k : ℕ} → Marking p t S₀ i S other k → t ≤ k
@@ -84,7 +83,7 @@ module _ (p : Plan) (S₀ : State) where
 
 module _ (p : Plan) (fine : (checked p).number ≡ 0) (S₀ : State) where
   module _ {t : ℕ} {S : State} (W : Standing p t S) (F : Frame 16 17 0 0 S₀ S) {q : ℕ} (l : q < p.activities) (other : ℕ → Bool) (B : PathDone p S₀ S other q)
-      (i : ℕ) (at : i ≡ S.act order_at (p.activities - (q + 1))) (T : State) (r : Step)
+      (i : ℕ) (at : i ≡ S.act order_at (p.activities - (q + 1))) (T : State) (r : Result Unit ClockError)
       (e : ended (path_in p T other) r ≡ on_path p (early_in p S) (path_in p S other) i) where
     here : i ≡ get_or (reverse (order p)) q 0
     here = at ∙ back_at p fine W q l
@@ -95,11 +94,11 @@ module _ (p : Plan) (fine : (checked p).number ≡ 0) (S₀ : State) where
     placed : ended (path_in p T other) r ≡ on_path p (early_in p S₀) (path_in p S other) i
     placed = e ∙ ap (λ (d : Early). on_path p d (path_in p S other) i) (early_kept F p refl refl refl)
 
-    pub path_turn : r ≡ Done → PathDone p S₀ T other (q + 1)
+    pub path_turn : r ≡ (Ok tt) → PathDone p S₀ T other (q + 1)
     path_turn d =
         through_turn (on_path p (early_in p S₀)) (reverse (order p)) (path_in p S₀ other) B i here inside (path_in p T other) r placed d
 
-    pub path_stop : (m : ℕ) → r ≡ Step.Refused m → refused m ≡ whole_path p S₀ other
+    pub path_stop : (m : ClockError) → r ≡ Err m → refused m ≡ whole_path p S₀ other
     path_stop m d =
         through_stop (on_path p (early_in p S₀)) (reverse (order p)) (path_in p S₀ other) B i here inside (path_in p T other) r placed (path_in p T other) m d
 

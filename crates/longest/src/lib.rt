@@ -16,19 +16,10 @@ ghost use Rattle.dates.specs.Standing.{Standing, Ready, Recorded};
 ghost use Rattle.longest.specs.Path.{Lent, Own, driven, bound_start, marks};
 
 use calendar::Period;
-use dates::Step;
 use placing::Actual;
 use project::Activity;
 use sheet::Contents;
-use worktime::Walk;
-
-// Whether a link sets the start of its successor.
-#[derive(Clone, Copy)]
-pub enum Driving {
-    Sets,
-    Leaves,
-    Refused(u64),
-}
+use worktime::ClockError;
 
 // Whether work is completed.
 fn is_completed(actual: Actual) -> bool
@@ -97,30 +88,18 @@ fn bound_start(
     n: usize,
     i: usize,
     k: usize,
-) -> Walk
+) -> Result<u64, ClockError>
     requires { Lent sheet.now contents places.now t work.now × Own sheet.now contents i activity week at n × (i < contents.activities) × (k < t) }
     ensures { result ≡ bound_start (plan_of sheet.now contents) (early_in (plan_of sheet.now contents) (state_of contents.activities contents.links work.now)) i k }
 {
-    match bounds::link_bound(sheet, contents, places, t, work, k) {
-        Walk::Refused(r) => {
-            return Walk::Refused(r);
-        }
-        Walk::At(b) => {
-            let a = contents.activities;
-            let l = contents.links;
-            let left = memory::get_act(work, a, l, i, memory::fields::WORK_LEFT);
-            let code = memory::get_link(work, a, l, k, memory::fields::KIND);
-            let kind = project::codes::relationship_type_of(code);
-            match bounds::start_for(activity, week, sheet, at, n, left, kind, b) {
-                Walk::Refused(r) => {
-                    return Walk::Refused(r);
-                }
-                Walk::At(s) => {
-                    return placing::place_start(activity, week, sheet, at, n, s);
-                }
-            }
-        }
-    }
+    let b = bounds::link_bound(sheet, contents, places, t, work, k)?;
+    let a = contents.activities;
+    let l = contents.links;
+    let left = memory::get_act(work, a, l, i, memory::fields::WORK_LEFT);
+    let code = memory::get_link(work, a, l, k, memory::fields::KIND);
+    let kind = project::codes::relationship_type_of(code);
+    let s = bounds::start_for(activity, week, sheet, at, n, left, kind, b)?;
+    placing::place_start(activity, week, sheet, at, n, s)
 }
 
 // Whether link `k` sets the start of activity `i`: its bound places it where it is, and its predecessor is not completed.
@@ -136,30 +115,24 @@ fn drives(
     n: usize,
     i: usize,
     k: usize,
-) -> Driving
+) -> Result<bool, ClockError>
     requires { Lent sheet.now contents places.now t work.now × Own sheet.now contents i activity week at n × (i < contents.activities) × (k < t) }
     ensures { (go : Bool → Pass (ℕ → Bool)) → driven result go ≡ drives (plan_of sheet.now contents) (early_in (plan_of sheet.now contents) (state_of contents.activities contents.links work.now)) i k go }
 {
-    match bound_start(
+    let u = bound_start(
         sheet, contents, places, t, work, activity, week, at, n, i, k,
-    ) {
-        Walk::Refused(r) => {
-            return Driving::Refused(r);
-        }
-        Walk::At(u) => {
-            let a = contents.activities;
-            let l = contents.links;
-            if u != memory::get_act(work, a, l, i, memory::fields::EARLY_START) {
-                return Driving::Leaves;
-            }
-            let from = memory::get_link(work, a, l, k, memory::fields::FROM) as usize;
-            let recorded = dates::recorded_at(work, a, l, from);
-            if is_completed(recorded) {
-                return Driving::Leaves;
-            }
-            return Driving::Sets;
-        }
+    )?;
+    let a = contents.activities;
+    let l = contents.links;
+    if u != memory::get_act(work, a, l, i, memory::fields::EARLY_START) {
+        return Ok(false);
     }
+    let from = memory::get_link(work, a, l, k, memory::fields::FROM) as usize;
+    let recorded = dates::recorded_at(work, a, l, from);
+    if is_completed(recorded) {
+        return Ok(false);
+    }
+    Ok(true)
 }
 
 // Link `k` in its turn: its predecessor is marked if it sets the start of activity `i`.
@@ -175,27 +148,21 @@ fn mark_link(
     n: usize,
     i: usize,
     k: usize,
-) -> Step
+) -> Result<(), ClockError>
     requires { Lent sheet.now contents places.now t work.old × Own sheet.now contents i activity week at n × (i < contents.activities) × (k < t) }
     ensures { ((other : ℕ → Bool) (go : (ℕ → Bool) → Pass (ℕ → Bool)) → after (ended (path_in (plan_of sheet.now contents) (state_of contents.activities contents.links work.new) other) result) go ≡ marks (plan_of sheet.now contents) (early_in (plan_of sheet.now contents) (state_of contents.activities contents.links work.old)) i (path_in (plan_of sheet.now contents) (state_of contents.activities contents.links work.old) other) k go) × Frame 16 17 0 0 (state_of contents.activities contents.links work.old) (state_of contents.activities contents.links work.new) × (length work.new ≡ length work.old) }
 {
-    match drives(
+    let sets = drives(
         sheet, contents, places, t, work, activity, week, at, n, i, k,
-    ) {
-        Driving::Refused(r) => {
-            return Step::Refused(r);
-        }
-        Driving::Leaves => {
-            return Step::Done;
-        }
-        Driving::Sets => {
-            let a = contents.activities;
-            let l = contents.links;
-            let from = memory::get_link(work, a, l, k, memory::fields::FROM) as usize;
-            memory::put_act(work, a, l, from, memory::fields::LONGEST_PATH, 1);
-            return Step::Done;
-        }
+    )?;
+    if sets {
+        let a = contents.activities;
+        let l = contents.links;
+        let from = memory::get_link(work, a, l, k, memory::fields::FROM) as usize;
+        memory::put_act(work, a, l, from, memory::fields::LONGEST_PATH, 1);
+        return Ok(());
     }
+    Ok(())
 }
 
 // The links into activity `i` in turn, rising.
@@ -210,7 +177,7 @@ fn mark_links(
     at: usize,
     n: usize,
     i: usize,
-) -> Step
+) -> Result<(), ClockError>
     requires { Lent sheet.now contents places.now t work.old × Own sheet.now contents i activity week at n × (i < contents.activities) }
     ensures { ((other : ℕ → Bool) → ended (path_in (plan_of sheet.now contents) (state_of contents.activities contents.links work.new) other) result ≡ marked (plan_of sheet.now contents) (early_in (plan_of sheet.now contents) (state_of contents.activities contents.links work.old)) i (ties_into (plan_of sheet.now contents) i) (path_in (plan_of sheet.now contents) (state_of contents.activities contents.links work.old) other)) × Frame 16 17 0 0 (state_of contents.activities contents.links work.old) (state_of contents.activities contents.links work.new) × (length work.new ≡ length work.old) }
 {
@@ -218,18 +185,12 @@ fn mark_links(
     let l = contents.links;
     let mut k = memory::get_act(work, a, l, i, memory::fields::FIRST_IN) as usize;
     while k < t {
-        match mark_link(
+        mark_link(
             sheet, contents, places, t, work, activity, week, at, n, i, k,
-        ) {
-            Step::Refused(r) => {
-                return Step::Refused(r);
-            }
-            Step::Done => {
-                k = memory::get_link(work, a, l, k, memory::fields::NEXT_INTO) as usize;
-            }
-        }
+        )?;
+        k = memory::get_link(work, a, l, k, memory::fields::NEXT_INTO) as usize;
     }
-    Step::Done
+    Ok(())
 }
 
 // ---- the pass
@@ -242,14 +203,14 @@ fn on_path(
     t: usize,
     work: &mut [i64],
     i: usize,
-) -> Step
+) -> Result<(), ClockError>
     requires { Lent sheet.now contents places.now t work.old × (i < contents.activities) }
     ensures { ((other : ℕ → Bool) → ended (path_in (plan_of sheet.now contents) (state_of contents.activities contents.links work.new) other) result ≡ on_path (plan_of sheet.now contents) (early_in (plan_of sheet.now contents) (state_of contents.activities contents.links work.old)) (path_in (plan_of sheet.now contents) (state_of contents.activities contents.links work.old) other) i) × Frame 16 17 0 0 (state_of contents.activities contents.links work.old) (state_of contents.activities contents.links work.new) × (length work.new ≡ length work.old) }
 {
     let a = contents.activities;
     let l = contents.links;
     if memory::get_act(work, a, l, i, memory::fields::LONGEST_PATH) == 0 {
-        return Step::Done;
+        return Ok(());
     }
     let activity = dates::activity_of(sheet, contents, i);
     let calendar = activity.calendar as usize;
@@ -270,7 +231,13 @@ fn on_path(
 }
 
 // The activities in turn, from the last of the order to the first.
-fn path_back(sheet: &[u8], contents: Contents, places: &[u64], t: usize, work: &mut [i64]) -> Step
+fn path_back(
+    sheet: &[u8],
+    contents: Contents,
+    places: &[u64],
+    t: usize,
+    work: &mut [i64],
+) -> Result<(), ClockError>
     requires { Lent sheet.now contents places.now t work.old }
     ensures { ((other : ℕ → Bool) → ended (path_in (plan_of sheet.now contents) (state_of contents.activities contents.links work.new) other) result ≡ through (on_path (plan_of sheet.now contents) (early_in (plan_of sheet.now contents) (state_of contents.activities contents.links work.old))) (reverse (order (plan_of sheet.now contents))) (path_in (plan_of sheet.now contents) (state_of contents.activities contents.links work.old) other)) × Frame 16 17 0 0 (state_of contents.activities contents.links work.old) (state_of contents.activities contents.links work.new) × (length work.new ≡ length work.old) }
 {
@@ -279,16 +246,10 @@ fn path_back(sheet: &[u8], contents: Contents, places: &[u64], t: usize, work: &
     let mut q: usize = 0;
     while q < a {
         let i = memory::get_act(work, a, l, a - (q + 1), memory::fields::ORDER_AT) as usize;
-        match on_path(sheet, contents, places, t, work, i) {
-            Step::Refused(r) => {
-                return Step::Refused(r);
-            }
-            Step::Done => {
-                q += 1;
-            }
-        }
+        on_path(sheet, contents, places, t, work, i)?;
+        q += 1;
     }
-    Step::Done
+    Ok(())
 }
 
 // The longest path of a project whose greatest finish is `finish`.
@@ -299,7 +260,7 @@ pub fn path_pass(
     t: usize,
     work: &mut [i64],
     finish: u64,
-) -> Step
+) -> Result<(), ClockError>
     requires { Ready sheet.now contents places.now t work.old × Recorded (plan_of sheet.now contents) (state_of contents.activities contents.links work.old) }
     ensures { (ended (path_in (plan_of sheet.now contents) (state_of contents.activities contents.links work.new) (last_ones (plan_of sheet.now contents) (early_in (plan_of sheet.now contents) (state_of contents.activities contents.links work.old)) finish)) result ≡ path_pass (plan_of sheet.now contents) finish (early_in (plan_of sheet.now contents) (state_of contents.activities contents.links work.old))) × Frame 16 17 0 0 (state_of contents.activities contents.links work.old) (state_of contents.activities contents.links work.new) × (length work.new ≡ length work.old) }
 {

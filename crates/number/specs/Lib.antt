@@ -1,4 +1,5 @@
 -- The definitions of the numbers, and their laws.
+pub mod Exits
 pub mod Order
 pub mod Bit
 pub mod BitLaws

@@ -1,5 +1,5 @@
 -- 01's small examples of rows 5 to 15, on plans written by hand and by evaluation of the definitions.
-use Rattle.std.specs.Prelude.{◌≡◌, refl, List, [], ◌∷◌, ℕ, ℤ, pos, negsuc, length, get_or}
+use Rattle.std.specs.Prelude.{◌≡◌, refl, List, [], ◌∷◌, ℕ, ℤ, pos, negsuc, length, get_or, None}
 use Rattle.number.specs.Sign.{clamp_z, percent_of}
 use Rattle.calendar.specs.declared.Period.{Period}
 use Rattle.calendar.specs.Hours.{works}
@@ -7,8 +7,6 @@ use Rattle.project.specs.declared.Activity.{Activity}
 use Rattle.project.specs.declared.ActivityKind.{ActivityKind}
 use Rattle.project.specs.declared.ActivityKind.TheVariants.{Task, StartMilestone}
 use Rattle.project.specs.declared.Constraint.TheVariants.{Unconstrained}
-use Rattle.project.specs.declared.OptionalDate.TheVariants.{Absent}
-use Rattle.project.specs.declared.Remaining.{Remaining}
 use Rattle.project.specs.declared.Relationship.{Relationship}
 use Rattle.project.specs.declared.RelationshipType.TheVariants.{FinishToStart}
 use Rattle.project.specs.declared.LagKind.{LagKind}
@@ -33,8 +31,8 @@ use Rattle.calendar.specs.Records.{weekly_hours}
 abbrev project : Project
 project = record {
   start = record { 0 = pos 0 };
-  data_date = Absent;
-  must_finish_by = Absent;
+  data_date = None;
+  must_finish_by = None;
   lag_calendar = Predecessor;
   float_kind = Finish;
   progress_mode = RetainedLogic;
@@ -49,13 +47,13 @@ activity id kind calendar parent minutes = record {
   calendar = calendar;
   parent = parent;
   minutes = minutes;
-  actual_start = Absent;
-  actual_finish = Absent;
-  remaining = Remaining.Absent;
-  expected_finish = Absent;
+  actual_start = None;
+  actual_finish = None;
+  remaining = None;
+  expected_finish = None;
   constraint = Unconstrained;
   secondary_constraint = Unconstrained;
-  levelled = Absent;
+  levelled = None;
 }
 
 -- a task of 480 minutes under a parent

@@ -1,13 +1,11 @@
 -- The greatest early finish, the end, and the backward pass: late starts and finishes.
-use Rattle.std.specs.Prelude.{Bool, true, false, ◌&&◌, List, [], ◌∷◌, ℕ, zero, suc, ◌+◌, max, min, eqb, ltb, leb, ℤ, pos, neg_ℤ}
+use Rattle.std.specs.Prelude.{Bool, true, false, ◌&&◌, List, [], ◌∷◌, ℕ, zero, suc, ◌+◌, max, min, eqb, ltb, leb, ℤ, pos, neg_ℤ, Result, Ok, Err, Option, Some, None}
+use Rattle.worktime.specs.declared.ClockError.{ClockError}
+use Rattle.date.specs.declared.Date.{Date}
 use Rattle.number.specs.Zed.{up, dn}
-use Rattle.worktime.specs.declared.Walk.{Walk}
-use Rattle.worktime.specs.declared.Walk.TheVariants.{At, Refused}
 use Rattle.worktime.specs.Walks.{next_start, shift}
 use Rattle.project.specs.declared.Constraint.{Constraint}
 use Rattle.project.specs.declared.Constraint.TheVariants.{Unconstrained, StartOnOrAfter, StartOnOrBefore, FinishOnOrAfter, FinishOnOrBefore, StartOn, FinishOn, MandatoryStart, MandatoryFinish, AsLateAsPossible}
-use Rattle.project.specs.declared.OptionalDate.{OptionalDate}
-use Rattle.project.specs.declared.OptionalDate.TheVariants.{On, Absent}
 use Rattle.project.specs.declared.RelationshipType.{RelationshipType}
 use Rattle.project.specs.declared.RelationshipType.TheVariants.{FinishToStart, StartToStart, FinishToFinish, StartToFinish}
 use Rattle.project.specs.Status.{on_start, bounds_start}
@@ -36,78 +34,78 @@ module _ (p : Plan) where
   finish d = elim (all_summaries p.activities) [ true ↦ origin p | false ↦ greatest_below d p.activities ]
 
   -- the end: the evening that the project must finish by, or the greatest early finish
-  abbrev pub end_by : Early → OptionalDate → Walk
-  end_by d (On x) = bounded (origin p) (evening (midnight_of x))
-  end_by d Absent = At (finish d)
+  abbrev pub end_by : Early → Option Date → Result ℕ ClockError
+  end_by d (Some x) = bounded (origin p) (evening (midnight_of x))
+  end_by d None = Ok (finish d)
 
-  unfoldable pub end : Early → Walk
+  unfoldable pub end : Early → Result ℕ ClockError
   end d = end_by d p.project.must_finish_by
 
   -- ---- the backward pass, from the early dates and the work left
   module _ (d : Early) (l : Late) where
     -- back over the lag by its negation, and, for a lag that is not 0, on to the lag calendar's next start
-    unfoldable pub over_lag : Tie → ℕ → Walk
+    unfoldable pub over_lag : Tie → ℕ → Result ℕ ClockError
     over_lag t x =
-        via Refused (shift (lag_own p t) x (neg_ℤ t.lag))
-        (λ v. elim (eqb (up t.lag + dn t.lag) 0) [ true ↦ At v | false ↦ next_start (lag_own p t) v ])
+        via Err (shift (lag_own p t) x (neg_ℤ t.lag))
+        (λ v. elim (eqb (up t.lag + dn t.lag) 0) [ true ↦ Ok v | false ↦ next_start (lag_own p t) v ])
 
     -- the latest finish of i that a link out of it leaves, from its successor's late times
-    abbrev pub finish_for : ℕ → Tie → RelationshipType → ℕ → ℕ → Walk
+    abbrev pub finish_for : ℕ → Tie → RelationshipType → ℕ → ℕ → Result ℕ ClockError
     finish_for i t FinishToStart ls lf = over_lag t ls
-    finish_for i t StartToStart ls lf = via Refused (over_lag t ls) (finish_for_start (own p i) (d.left i))
+    finish_for i t StartToStart ls lf = via Err (over_lag t ls) (finish_for_start (own p i) (d.left i))
     finish_for i t FinishToFinish ls lf = over_lag t lf
-    finish_for i t StartToFinish ls lf = via Refused (over_lag t lf) (finish_for_start (own p i) (d.left i))
+    finish_for i t StartToFinish ls lf = via Err (over_lag t lf) (finish_for_start (own p i) (d.left i))
 
     -- the successor's late times are first moved to its own next start
-    unfoldable pub link_finish : ℕ → ℕ → Walk
+    unfoldable pub link_finish : ℕ → ℕ → Result ℕ ClockError
     link_finish i t =
-        via Refused (latest_same (own p (tie p t).to) (l.ls (tie p t).to))
-        (λ ls. via Refused (latest_same (own p (tie p t).to) (l.lf (tie p t).to))
-        (λ lf. via Refused (finish_for i (tie p t) (tie p t).kind ls lf) (bounded (origin p))))
+        via Err (latest_same (own p (tie p t).to) (l.ls (tie p t).to))
+        (λ ls. via Err (latest_same (own p (tie p t).to) (l.lf (tie p t).to))
+        (λ lf. via Err (finish_for i (tie p t) (tie p t).kind ls lf) (bounded (origin p))))
 
     -- lowered by each link out of i, in rising order
-    unfoldable pub lowered : ℕ → List ℕ → ℕ → Walk
-    lowered i [] latest = At latest
-    lowered i (t ∷ ts) latest = via Refused (link_finish i t) (λ f. lowered i ts (min latest f))
+    unfoldable pub lowered : ℕ → List ℕ → ℕ → Result ℕ ClockError
+    lowered i [] latest = Ok latest
+    lowered i (t ∷ ts) latest = via Err (link_finish i t) (λ f. lowered i ts (min latest f))
 
     -- ---- late constraints: no later than their date; a mandatory one on it
-    abbrev pub at_late : ℕ → Constraint → ℕ → ℕ → Walk
-    at_late i Unconstrained t latest = At latest
-    at_late i (StartOnOrAfter x) t latest = At latest
-    at_late i (StartOnOrBefore x) t latest = via Refused (finish_for_start_by (own p i) (d.left i) t) (λ f. At (min latest f))
-    at_late i (FinishOnOrAfter x) t latest = At latest
-    at_late i (FinishOnOrBefore x) t latest = At (min latest t)
-    at_late i (StartOn x) t latest = via Refused (finish_for_start_by (own p i) (d.left i) t) (λ f. At (min latest f))
-    at_late i (FinishOn x) t latest = At (min latest t)
+    abbrev pub at_late : ℕ → Constraint → ℕ → ℕ → Result ℕ ClockError
+    at_late i Unconstrained t latest = Ok latest
+    at_late i (StartOnOrAfter x) t latest = Ok latest
+    at_late i (StartOnOrBefore x) t latest = via Err (finish_for_start_by (own p i) (d.left i) t) (λ f. Ok (min latest f))
+    at_late i (FinishOnOrAfter x) t latest = Ok latest
+    at_late i (FinishOnOrBefore x) t latest = Ok (min latest t)
+    at_late i (StartOn x) t latest = via Err (finish_for_start_by (own p i) (d.left i) t) (λ f. Ok (min latest f))
+    at_late i (FinishOn x) t latest = Ok (min latest t)
     at_late i (MandatoryStart x) t latest = finish_for_start_by (own p i) (d.left i) t
-    at_late i (MandatoryFinish x) t latest = At t
-    at_late i AsLateAsPossible t latest = At latest
+    at_late i (MandatoryFinish x) t latest = Ok t
+    at_late i AsLateAsPossible t latest = Ok latest
 
-    unfoldable pub limited : ℕ → Constraint → ℕ → Walk
-    limited i c latest = on_time p d (constraint_time (own p i) (on_start c)) (At latest) (λ t. at_late i c t latest)
+    unfoldable pub limited : ℕ → Constraint → ℕ → Result ℕ ClockError
+    limited i c latest = on_time p d (constraint_time (own p i) (on_start c)) (Ok latest) (λ t. at_late i c t latest)
 
     -- once work has begun a start constraint bounds nothing
-    abbrev pub limited_by : ℕ → Actual → Constraint → ℕ → Walk
+    abbrev pub limited_by : ℕ → Actual → Constraint → ℕ → Result ℕ ClockError
     limited_by i Unstarted c latest = limited i c latest
-    limited_by i (Begun s) c latest = elim (bounds_start c) [ true ↦ At latest | false ↦ limited i c latest ]
-    limited_by i (Completed s f) c latest = At latest
-    limited_by i (Actual.Refused k) c latest = Refused k
+    limited_by i (Begun s) c latest = elim (bounds_start c) [ true ↦ Ok latest | false ↦ limited i c latest ]
+    limited_by i (Completed s f) c latest = Ok latest
+    limited_by i (Actual.Refused k) c latest = Err k
 
-    unfoldable pub held_late : ℕ → ℕ → Walk
+    unfoldable pub held_late : ℕ → ℕ → Result ℕ ClockError
     held_late i latest = elim (summary p i) [
-      | true ↦ At latest
+      | true ↦ Ok latest
       | false ↦
-          via Refused (limited_by i (recorded p i) (p.activity i).constraint latest)
+          via Err (limited_by i (recorded p i) (p.activity i).constraint latest)
           (limited_by i (recorded p i) (p.activity i).secondary_constraint)
     ]
 
     -- "The late finish is lifted to the early one" where it is before it, the early one is not after the latest, and the next start from it is not
     -- before the early one: they are the same moment
-    unfoldable pub lifted : ℕ → ℕ → ℕ → Walk
+    unfoldable pub lifted : ℕ → ℕ → ℕ → Result ℕ ClockError
     lifted i latest f =
         elim (ltb f (d.ef i) && leb (d.ef i) latest) [
-          | false ↦ At f
-          | true ↦ via Refused (latest_same (own p i) f) (λ s. elim (leb (d.ef i) s) [ true ↦ At (d.ef i) | false ↦ At f ])
+          | false ↦ Ok f
+          | true ↦ via Err (latest_same (own p i) f) (λ s. elim (leb (d.ef i) s) [ true ↦ Ok (d.ef i) | false ↦ Ok f ])
         ]
 
     abbrev pub late : ℕ → ℕ → ℕ → Late

@@ -1,5 +1,6 @@
 -- Dates as functions from an activity to a minute, and passes over the order that a refusal ends.
 use Rattle.std.specs.Prelude.{Bool, true, false, List, [], ◌∷◌, ℕ, eqb, ℤ}
+use Rattle.worktime.specs.declared.ClockError.{ClockError}
 
 -- early start, early finish and minutes of work left
 pub record Early : Type 0 where
@@ -20,7 +21,7 @@ pub record Freed : Type 0 where
 -- what a pass leaves, or the refusal of one of its walks
 pub data Pass (A : Type 0) : Type 0 where
   leaves : A → Pass A
-  refused : ℕ → Pass A
+  refused : ClockError → Pass A
 
 abbrev pub after : {A B : Type 0} → Pass A → (A → Pass B) → Pass B
 after (leaves x) go = go x

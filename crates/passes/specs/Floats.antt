@@ -1,12 +1,9 @@
 -- Free float with held late moves, total float, the longest path, and what is critical.
-use Rattle.std.specs.Prelude.{Bool, true, false, ◌&&◌, ◌||◌, not, List, [], ◌∷◌, ℕ, zero, suc, eqb, ltb, ℤ, pos, ◌*ℤ◌}
+use Rattle.std.specs.Prelude.{Bool, true, false, ◌&&◌, ◌||◌, not, List, [], ◌∷◌, ℕ, zero, suc, eqb, ltb, ℤ, pos, ◌*ℤ◌, Result, Ok, Err}
+use Rattle.worktime.specs.declared.ClockError.{ClockError}
 use Rattle.std.specs.Int.Signed.{le_z}
 use Rattle.number.specs.Zed.{up}
 use Rattle.number.specs.Sign.{min_z, whole_days}
-use Rattle.worktime.specs.declared.Walk.{Walk}
-use Rattle.worktime.specs.declared.Walk.TheVariants.{At, Refused}
-use Rattle.worktime.specs.declared.Work.{Work}
-use Rattle.worktime.specs.declared.Work.TheVariants.{Minutes}
 use Rattle.worktime.specs.Walks.{advance, retreat, between}
 use Rattle.project.specs.declared.Constraint.{Constraint}
 use Rattle.project.specs.declared.Constraint.TheVariants.{Unconstrained, StartOnOrAfter, StartOnOrBefore, FinishOnOrAfter, FinishOnOrBefore, StartOn, FinishOn, MandatoryStart, MandatoryFinish, AsLateAsPossible}
@@ -27,9 +24,9 @@ use Rattle.passes.specs.Dates.{Early, Late, Freed, Pass, leaves, refused, put}
 use Rattle.passes.specs.Forward.{forward_bound, link_bound, start_for, early}
 
 -- what follows a count of worked minutes, which may be negative
-abbrev pub measured : {A : Type 0} → (ℕ → A) → Work → (ℤ → A) → A
-measured refusal (Minutes z) go = go z
-measured refusal (Work.Refused k) go = refusal k
+abbrev pub measured : {A : Type 0} → (ClockError → A) → Result ℤ ClockError → (ℤ → A) → A
+measured refusal (Ok z) go = go z
+measured refusal (Err k) go = refusal k
 
 abbrev pub is_late : Constraint → Bool
 is_late Unconstrained = false
@@ -75,13 +72,13 @@ module _ (p : Plan) where
         not (summary p i) && not_begun (recorded p i) && (is_late (p.activity i).constraint || is_late (p.activity i).secondary_constraint)
 
     -- the held activity's new start: moved by its float on its OWN calendar, or back by its work from its finish moved so
-    unfoldable pub held_start : ℕ → ℕ → Walk
+    unfoldable pub held_start : ℕ → ℕ → Result ℕ ClockError
     held_start i n =
-        via Refused (advance (own p i) (d.es i) n)
-        (λ t. via Refused (place_start (own p i) (kind_of p i) t)
+        via Err (advance (own p i) (d.es i) n)
+        (λ t. via Err (place_start (own p i) (kind_of p i) t)
         (λ moved. elim (eqb (d.left i) 0) [
-          | true ↦ At moved
-          | false ↦ via Refused (advance (own p i) (d.ef i) n) (λ f. retreat (own p i) f (d.left i))
+          | true ↦ Ok moved
+          | false ↦ via Err (advance (own p i) (d.ef i) n) (λ f. retreat (own p i) f (d.left i))
         ]))
 
     -- the move by n minutes, with its new finish counted on its OWN calendar; predecessors see both

@@ -1,10 +1,9 @@
 -- What the passes ask of a plan: whose calendar is whose, the kept links by number, and what stands still before the passes.
-use Rattle.std.specs.Prelude.{Bool, true, false, List, ℕ, ◌+◌, max, length, get_or}
+use Rattle.std.specs.Prelude.{Bool, true, false, List, ℕ, ◌+◌, max, length, get_or, Option, Some, None}
+use Rattle.date.specs.declared.Date.{Date}
 use Rattle.number.specs.Zed.{up}
 use Rattle.calendar.specs.Hours.{worked}
 use Rattle.project.specs.declared.ActivityKind.{ActivityKind}
-use Rattle.project.specs.declared.OptionalDate.{OptionalDate}
-use Rattle.project.specs.declared.OptionalDate.TheVariants.{On, Absent}
 use Rattle.network.specs.Outgoing.{incoming, outgoing}
 use Rattle.placing.specs.declared.Actual.{Actual}
 use Rattle.placing.specs.declared.Actual.TheVariants.{Unstarted, Begun, Completed}
@@ -42,9 +41,9 @@ module _ (p : Plan) where
   abbrev pub origin : ℕ
   origin = midnight_of p.project.start
 
-  abbrev pub later : ℕ → OptionalDate → ℕ
-  later t (On d) = max t (midnight_of d)
-  later t Absent = t
+  abbrev pub later : ℕ → Option Date → ℕ
+  later t (Some d) = max t (midnight_of d)
+  later t None = t
 
   abbrev pub floor : ℕ
   floor = later origin p.project.data_date

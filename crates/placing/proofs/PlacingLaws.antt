@@ -1,5 +1,7 @@
 -- One law for each way out of the placings: what the walks on the way make of the answer.
-use Rattle.std.specs.Prelude.{◌≡◌, Bool, true, false, List, ℕ, ◌+◌, ◌*◌, ◌/◌, ◌≤◌, ◌<◌, max, eqb}
+use Rattle.std.specs.Prelude.{◌≡◌, Bool, true, false, List, ℕ, ◌+◌, ◌*◌, ◌/◌, ◌≤◌, ◌<◌, max, eqb, Result, Ok, Err, Some, None}
+use Rattle.worktime.specs.declared.ClockError.{ClockError}
+use Rattle.worktime.specs.declared.ClockError.TheVariants.{TooLong}
 use Rattle.std.proofs.Math.Path.{refl, ap}
 use Rattle.std.proofs.Common.{sym, ap₂, ◌∙◌, arith, eq-eqb, ne_eqb, le-leb}
 use Rattle.std.proofs.Math.Bool.{◌&&◌}
@@ -10,45 +12,41 @@ use Rattle.calendar.specs.declared.Period.{Period}
 use Rattle.calendar.specs.declared.Found.TheVariants.{At as FoundAt, Nothing}
 use Rattle.calendar.specs.Hours.{worked, Ordered, next_in}
 use Rattle.clock.specs.Days.{day_next_at, day_next_none}
-use Rattle.worktime.specs.declared.Walk.{Walk}
-use Rattle.worktime.specs.declared.Walk.TheVariants.{At, Refused}
 use Rattle.worktime.specs.Worked.{count}
-use Rattle.worktime.specs.Walks.{too_long, reads, next_start, previous_finish, next_finish, previous_start, start_by, advance, retreat}
+use Rattle.worktime.specs.Walks.{reads, next_start, previous_finish, next_finish, previous_start, start_by, advance, retreat}
 use Rattle.worktime.specs.Reads.{on_true, on_false}
 use Rattle.worktime.specs.Search.{least_at, least_none}
 use Rattle.project.specs.declared.ActivityKind.{ActivityKind}
 use Rattle.project.specs.declared.ActivityKind.TheVariants.{Task, StartMilestone, FinishMilestone}
-use Rattle.project.specs.declared.OptionalDate.TheVariants.{On, Absent}
 use Rattle.project.specs.declared.End.{End}
 use Rattle.project.specs.declared.End.TheVariants.{Start, Finish, Neither}
 use Rattle.placing.specs.declared.Actual.{Actual}
 use Rattle.placing.specs.declared.Actual.TheVariants.{Unstarted, Begun, Completed}
-use Rattle.placing.specs.declared.Moment.TheVariants.{Nowhere}
 use Rattle.placing.specs.Placing.{midnight_of, via, bounded, is_moment, found, moment_of, completed, place_start, start_for_finish, place_finish, finish_for_start, finish_for_start_by, day_start, constraint_time, actual}
 
 -- ---- a walk that answers, and one that is refused
-module _ {A : Type 0} (refused : ℕ → A) (x : Walk) (go : ℕ → A) where
-  pub via_at : (u : ℕ) → x ≡ At u → via refused x go ≡ go u
+module _ {A : Type 0} (refused : ClockError → A) (x : Result ℕ ClockError) (go : ℕ → A) where
+  pub via_at : (u : ℕ) → x ≡ Ok u → via refused x go ≡ go u
   via_at u e = rw e
 
-  pub via_refused : (k : ℕ) → x ≡ Refused k → via refused x go ≡ refused k
+  pub via_refused : (k : ClockError) → x ≡ Err k → via refused x go ≡ refused k
   via_refused k e = rw e
 
 -- ---- bounded
 module _ (origin t : ℕ) where
-  pub bounded_in : t ≤ origin + 288000000 → origin ≤ t + 288000000 → bounded origin t ≡ At t
+  pub bounded_in : t ≤ origin + 288000000 → origin ≤ t + 288000000 → bounded origin t ≡ Ok t
   unfolding bounded
-  bounded_in a b = on_true _ (At t) (Refused too_long) (ap₂ ◌&&◌ (le-leb t (origin + 288000000) a) (le-leb origin (t + 288000000) b))
+  bounded_in a b = on_true _ (Ok t) (Err TooLong) (ap₂ ◌&&◌ (le-leb t (origin + 288000000) a) (le-leb origin (t + 288000000) b))
 
-  pub bounded_after : origin + 288000000 < t → bounded origin t ≡ Refused too_long
+  pub bounded_after : origin + 288000000 < t → bounded origin t ≡ Err TooLong
   unfolding bounded
   bounded_after a =
-      on_false _ (At t) (Refused too_long) (ap (λ (x : Bool). x && leb origin (t + 288000000)) (lt-leb t (origin + 288000000) a))
+      on_false _ (Ok t) (Err TooLong) (ap (λ (x : Bool). x && leb origin (t + 288000000)) (lt-leb t (origin + 288000000) a))
 
-  pub bounded_before : t + 288000000 < origin → bounded origin t ≡ Refused too_long
+  pub bounded_before : t + 288000000 < origin → bounded origin t ≡ Err TooLong
   unfolding bounded
   bounded_before a =
-      on_false _ (At t) (Refused too_long) (ap₂ ◌&&◌ (le-leb t (origin + 288000000) (omega arith)) (lt-leb origin (t + 288000000) a))
+      on_false _ (Ok t) (Err TooLong) (ap₂ ◌&&◌ (le-leb t (origin + 288000000) (omega arith)) (lt-leb origin (t + 288000000) a))
 
 module _ (w : ℕ → Bool) where
   -- ---- place start, by the activity's kind
@@ -66,76 +64,76 @@ module _ (w : ℕ → Bool) where
 
   module _ (left t : ℕ) where
     -- ---- start for finish: with no work left t itself, else on from a walk
-    pub start_for_finish_none : left ≡ 0 → start_for_finish w left t ≡ At t
+    pub start_for_finish_none : left ≡ 0 → start_for_finish w left t ≡ Ok t
     unfolding start_for_finish
-    start_for_finish_none z = on_true (eqb left 0) (At t) _ (eq-eqb left 0 z)
+    start_for_finish_none z = on_true (eqb left 0) (Ok t) _ (eq-eqb left 0 z)
 
-    pub start_for_finish_some : (left ≡ 0 → ⊥) → start_for_finish w left t ≡ via Refused (next_finish w t) (λ f. retreat w f left)
+    pub start_for_finish_some : (left ≡ 0 → ⊥) → start_for_finish w left t ≡ via Err (next_finish w t) (λ f. retreat w f left)
     unfolding start_for_finish
-    start_for_finish_some p = on_false (eqb left 0) (At t) _ (ne_eqb left 0 p)
+    start_for_finish_some p = on_false (eqb left 0) (Ok t) _ (ne_eqb left 0 p)
 
-    pub start_for_finish_at : (left ≡ 0 → ⊥) → (f : ℕ) → next_finish w t ≡ At f → start_for_finish w left t ≡ retreat w f left
-    start_for_finish_at p f e = start_for_finish_some p ∙ via_at Refused _ _ f e
+    pub start_for_finish_at : (left ≡ 0 → ⊥) → (f : ℕ) → next_finish w t ≡ Ok f → start_for_finish w left t ≡ retreat w f left
+    start_for_finish_at p f e = start_for_finish_some p ∙ via_at Err _ _ f e
 
-    pub start_for_finish_refuses : (left ≡ 0 → ⊥) → (k : ℕ) → next_finish w t ≡ Refused k → start_for_finish w left t ≡ Refused k
-    start_for_finish_refuses p k e = start_for_finish_some p ∙ via_refused Refused _ _ k e
+    pub start_for_finish_refuses : (left ≡ 0 → ⊥) → (k : ClockError) → next_finish w t ≡ Err k → start_for_finish w left t ≡ Err k
+    start_for_finish_refuses p k e = start_for_finish_some p ∙ via_refused Err _ _ k e
 
     -- ---- finish for start
-    pub finish_for_start_none : left ≡ 0 → finish_for_start w left t ≡ At t
+    pub finish_for_start_none : left ≡ 0 → finish_for_start w left t ≡ Ok t
     unfolding finish_for_start
-    finish_for_start_none z = on_true (eqb left 0) (At t) _ (eq-eqb left 0 z)
+    finish_for_start_none z = on_true (eqb left 0) (Ok t) _ (eq-eqb left 0 z)
 
-    pub finish_for_start_some : (left ≡ 0 → ⊥) → finish_for_start w left t ≡ via Refused (previous_start w t) (λ s. advance w s left)
+    pub finish_for_start_some : (left ≡ 0 → ⊥) → finish_for_start w left t ≡ via Err (previous_start w t) (λ s. advance w s left)
     unfolding finish_for_start
-    finish_for_start_some p = on_false (eqb left 0) (At t) _ (ne_eqb left 0 p)
+    finish_for_start_some p = on_false (eqb left 0) (Ok t) _ (ne_eqb left 0 p)
 
-    pub finish_for_start_at : (left ≡ 0 → ⊥) → (s : ℕ) → previous_start w t ≡ At s → finish_for_start w left t ≡ advance w s left
-    finish_for_start_at p s e = finish_for_start_some p ∙ via_at Refused _ _ s e
+    pub finish_for_start_at : (left ≡ 0 → ⊥) → (s : ℕ) → previous_start w t ≡ Ok s → finish_for_start w left t ≡ advance w s left
+    finish_for_start_at p s e = finish_for_start_some p ∙ via_at Err _ _ s e
 
-    pub finish_for_start_refuses : (left ≡ 0 → ⊥) → (k : ℕ) → previous_start w t ≡ Refused k → finish_for_start w left t ≡ Refused k
-    finish_for_start_refuses p k e = finish_for_start_some p ∙ via_refused Refused _ _ k e
+    pub finish_for_start_refuses : (left ≡ 0 → ⊥) → (k : ClockError) → previous_start w t ≡ Err k → finish_for_start w left t ≡ Err k
+    finish_for_start_refuses p k e = finish_for_start_some p ∙ via_refused Err _ _ k e
 
     -- ---- finish for start, by a date
-    pub finish_for_start_by_none : left ≡ 0 → finish_for_start_by w left t ≡ At t
+    pub finish_for_start_by_none : left ≡ 0 → finish_for_start_by w left t ≡ Ok t
     unfolding finish_for_start_by
-    finish_for_start_by_none z = on_true (eqb left 0) (At t) _ (eq-eqb left 0 z)
+    finish_for_start_by_none z = on_true (eqb left 0) (Ok t) _ (eq-eqb left 0 z)
 
-    pub finish_for_start_by_some : (left ≡ 0 → ⊥) → finish_for_start_by w left t ≡ via Refused (start_by w t) (λ s. advance w s left)
+    pub finish_for_start_by_some : (left ≡ 0 → ⊥) → finish_for_start_by w left t ≡ via Err (start_by w t) (λ s. advance w s left)
     unfolding finish_for_start_by
-    finish_for_start_by_some p = on_false (eqb left 0) (At t) _ (ne_eqb left 0 p)
+    finish_for_start_by_some p = on_false (eqb left 0) (Ok t) _ (ne_eqb left 0 p)
 
-    pub finish_for_start_by_at : (left ≡ 0 → ⊥) → (s : ℕ) → start_by w t ≡ At s → finish_for_start_by w left t ≡ advance w s left
-    finish_for_start_by_at p s e = finish_for_start_by_some p ∙ via_at Refused _ _ s e
+    pub finish_for_start_by_at : (left ≡ 0 → ⊥) → (s : ℕ) → start_by w t ≡ Ok s → finish_for_start_by w left t ≡ advance w s left
+    finish_for_start_by_at p s e = finish_for_start_by_some p ∙ via_at Err _ _ s e
 
-    pub finish_for_start_by_refuses : (left ≡ 0 → ⊥) → (k : ℕ) → start_by w t ≡ Refused k → finish_for_start_by w left t ≡ Refused k
-    finish_for_start_by_refuses p k e = finish_for_start_by_some p ∙ via_refused Refused _ _ k e
+    pub finish_for_start_by_refuses : (left ≡ 0 → ⊥) → (k : ClockError) → start_by w t ≡ Err k → finish_for_start_by w left t ≡ Err k
+    finish_for_start_by_refuses p k e = finish_for_start_by_some p ∙ via_refused Err _ _ k e
 
   -- ---- place finish
   module _ (kind : ActivityKind) (left t : ℕ) where
-    pub place_finish_refuses : (k : ℕ) → previous_finish w t ≡ Refused k → place_finish w kind left t ≡ Refused k
+    pub place_finish_refuses : (k : ClockError) → previous_finish w t ≡ Err k → place_finish w kind left t ≡ Err k
     unfolding place_finish
-    place_finish_refuses k e = via_refused Refused _ _ k e
+    place_finish_refuses k e = via_refused Err _ _ k e
 
-    pub place_finish_here : (f : ℕ) → previous_finish w t ≡ At f → is_moment kind left ≡ false → place_finish w kind left t ≡ At f
+    pub place_finish_here : (f : ℕ) → previous_finish w t ≡ Ok f → is_moment kind left ≡ false → place_finish w kind left t ≡ Ok f
     unfolding place_finish
-    place_finish_here f e m = via_at Refused _ _ f e ∙ on_false (is_moment kind left) _ (At f) m
+    place_finish_here f e m = via_at Err _ _ f e ∙ on_false (is_moment kind left) _ (Ok f) m
 
-    place_finish_moment : (f : ℕ) → previous_finish w t ≡ At f → is_moment kind left ≡ true
-        → place_finish w kind left t ≡ via Refused (next_start w f) (λ s. elim (leb s t) [ true ↦ At s | false ↦ At f ])
+    place_finish_moment : (f : ℕ) → previous_finish w t ≡ Ok f → is_moment kind left ≡ true
+        → place_finish w kind left t ≡ via Err (next_start w f) (λ s. elim (leb s t) [ true ↦ Ok s | false ↦ Ok f ])
     unfolding place_finish
-    place_finish_moment f e m = via_at Refused _ _ f e ∙ on_true (is_moment kind left) _ (At f) m
+    place_finish_moment f e m = via_at Err _ _ f e ∙ on_true (is_moment kind left) _ (Ok f) m
 
-    pub place_finish_start : (f s : ℕ) → previous_finish w t ≡ At f → is_moment kind left ≡ true → next_start w f ≡ At s → s ≤ t
-        → place_finish w kind left t ≡ At s
-    place_finish_start f s e m n l = place_finish_moment f e m ∙ via_at Refused _ _ s n ∙ on_true (leb s t) (At s) (At f) (le-leb s t l)
+    pub place_finish_start : (f s : ℕ) → previous_finish w t ≡ Ok f → is_moment kind left ≡ true → next_start w f ≡ Ok s → s ≤ t
+        → place_finish w kind left t ≡ Ok s
+    place_finish_start f s e m n l = place_finish_moment f e m ∙ via_at Err _ _ s n ∙ on_true (leb s t) (Ok s) (Ok f) (le-leb s t l)
 
-    pub place_finish_before : (f s : ℕ) → previous_finish w t ≡ At f → is_moment kind left ≡ true → next_start w f ≡ At s → t < s
-        → place_finish w kind left t ≡ At f
-    place_finish_before f s e m n l = place_finish_moment f e m ∙ via_at Refused _ _ s n ∙ on_false (leb s t) (At s) (At f) (lt-leb s t l)
+    pub place_finish_before : (f s : ℕ) → previous_finish w t ≡ Ok f → is_moment kind left ≡ true → next_start w f ≡ Ok s → t < s
+        → place_finish w kind left t ≡ Ok f
+    place_finish_before f s e m n l = place_finish_moment f e m ∙ via_at Err _ _ s n ∙ on_false (leb s t) (Ok s) (Ok f) (lt-leb s t l)
 
-    pub place_finish_start_refuses : (f k : ℕ) → previous_finish w t ≡ At f → is_moment kind left ≡ true → next_start w f ≡ Refused k
-        → place_finish w kind left t ≡ Refused k
-    place_finish_start_refuses f k e m n = place_finish_moment f e m ∙ via_refused Refused _ _ k n
+    pub place_finish_start_refuses : (f : ℕ) (k : ClockError) → previous_finish w t ≡ Ok f → is_moment kind left ≡ true → next_start w f ≡ Err k
+        → place_finish w kind left t ≡ Err k
+    place_finish_start_refuses f k e m n = place_finish_moment f e m ∙ via_refused Err _ _ k n
 
   -- ---- the start of a day's work, by counts
   pub day_start_at : (t m : ℕ) → m < 1440 → w (t + m) ≡ true → count w (t + m) ≡ count w t → day_start w t ≡ t + m
@@ -147,58 +145,58 @@ module _ (w : ℕ → Bool) where
   day_start_none t e = ap (found t) (least_none w 1440 t (omega arith))
 
   -- ---- a constraint's time, by the end that it bounds
-  pub constraint_time_start : (end : End) (d : Date) (x : Walk) → end ≡ Start d → x ≡ reads Refused (midnight_of d / 1440) (At (day_start w (midnight_of d)))
+  pub constraint_time_start : (end : End) (d : Date) (x : Result ℕ ClockError) → end ≡ Start d → x ≡ reads Err (midnight_of d / 1440) (Ok (day_start w (midnight_of d)))
       → constraint_time w end ≡ moment_of x
   unfolding constraint_time
   constraint_time_start end d x e f = ap (constraint_time w) e ∙ ap moment_of (sym f)
 
-  pub constraint_time_finish : (end : End) (d : Date) (x : Walk) → end ≡ Finish d → x ≡ previous_finish w (midnight_of d + 1440) → constraint_time w end ≡ moment_of x
+  pub constraint_time_finish : (end : End) (d : Date) (x : Result ℕ ClockError) → end ≡ Finish d → x ≡ previous_finish w (midnight_of d + 1440) → constraint_time w end ≡ moment_of x
   unfolding constraint_time
   constraint_time_finish end d x e f = ap (constraint_time w) e ∙ ap moment_of (sym f)
 
-  pub constraint_time_neither : (end : End) → end ≡ Neither → constraint_time w end ≡ Nowhere
+  pub constraint_time_neither : (end : End) → end ≡ Neither → constraint_time w end ≡ (Ok None)
   unfolding constraint_time
   constraint_time_neither end e = ap (constraint_time w) e
 
   -- ---- recorded work
-  pub actual_none : actual w Absent Absent ≡ Unstarted
+  pub actual_none : actual w None None ≡ Unstarted
   unfolding actual
   actual_none = refl
 
-  pub actual_finish_only : (e : Date) → actual w Absent (On e) ≡ actual w (On e) (On e)
+  pub actual_finish_only : (e : Date) → actual w None (Some e) ≡ actual w (Some e) (Some e)
   unfolding actual
   actual_finish_only e = refl
 
   module _ (d : Date) where
-    pub actual_begun : (s : ℕ) → next_start w (midnight_of d) ≡ At s → actual w (On d) Absent ≡ Begun s
+    pub actual_begun : (s : ℕ) → next_start w (midnight_of d) ≡ Ok s → actual w (Some d) None ≡ Begun s
     unfolding actual
     actual_begun s a = via_at Actual.Refused _ _ s a
 
-    pub actual_begun_refuses : (k : ℕ) → next_start w (midnight_of d) ≡ Refused k → actual w (On d) Absent ≡ Actual.Refused k
+    pub actual_begun_refuses : (k : ClockError) → next_start w (midnight_of d) ≡ Err k → actual w (Some d) None ≡ Actual.Refused k
     unfolding actual
     actual_begun_refuses k a = via_refused Actual.Refused _ _ k a
 
     module _ (e : Date) where
-      pub actual_start_refuses : (k : ℕ) → next_start w (midnight_of d) ≡ Refused k → actual w (On d) (On e) ≡ Actual.Refused k
+      pub actual_start_refuses : (k : ClockError) → next_start w (midnight_of d) ≡ Err k → actual w (Some d) (Some e) ≡ Actual.Refused k
       unfolding actual
       actual_start_refuses k a = via_refused Actual.Refused _ _ k a
 
-      pub actual_finish_refuses : (s k : ℕ) → next_start w (midnight_of d) ≡ At s → previous_finish w (midnight_of e + 1440) ≡ Refused k
-          → actual w (On d) (On e) ≡ Actual.Refused k
+      pub actual_finish_refuses : (s : ℕ) (k : ClockError) → next_start w (midnight_of d) ≡ Ok s → previous_finish w (midnight_of e + 1440) ≡ Err k
+          → actual w (Some d) (Some e) ≡ Actual.Refused k
       unfolding actual
       actual_finish_refuses s k a b = via_at Actual.Refused _ _ s a ∙ ap (completed s) b
 
-      pub actual_both : (s f : ℕ) → next_start w (midnight_of d) ≡ At s → previous_finish w (midnight_of e + 1440) ≡ At f
-          → actual w (On d) (On e) ≡ Completed s (max f s)
+      pub actual_both : (s f : ℕ) → next_start w (midnight_of d) ≡ Ok s → previous_finish w (midnight_of e + 1440) ≡ Ok f
+          → actual w (Some d) (Some e) ≡ Completed s (max f s)
       unfolding actual
       actual_both s f a b = via_at Actual.Refused _ _ s a ∙ ap (completed s) b
 
-      pub actual_finished : (s f : ℕ) → next_start w (midnight_of d) ≡ At s → previous_finish w (midnight_of e + 1440) ≡ At f → s ≤ f
-          → actual w (On d) (On e) ≡ Completed s f
+      pub actual_finished : (s f : ℕ) → next_start w (midnight_of d) ≡ Ok s → previous_finish w (midnight_of e + 1440) ≡ Ok f → s ≤ f
+          → actual w (Some d) (Some e) ≡ Completed s f
       actual_finished s f a b l = let m : max f s ≡ f = omega arith in actual_both s f a b ∙ ap (Completed s) m
 
-      pub actual_raised : (s f : ℕ) → next_start w (midnight_of d) ≡ At s → previous_finish w (midnight_of e + 1440) ≡ At f → f < s
-          → actual w (On d) (On e) ≡ Completed s s
+      pub actual_raised : (s f : ℕ) → next_start w (midnight_of d) ≡ Ok s → previous_finish w (midnight_of e + 1440) ≡ Ok f → f < s
+          → actual w (Some d) (Some e) ≡ Completed s s
       actual_raised s f a b l = let m : max f s ≡ s = omega arith in actual_both s f a b ∙ ap (Completed s) m
 
 -- ---- the start of a day's work, by the day's hours: `h` is the hours of each day

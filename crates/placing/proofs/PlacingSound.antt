@@ -1,11 +1,11 @@
 -- What holds of the times that the placings answer, and that every refusal of theirs is row 8.
-use Rattle.std.specs.Prelude.{◌≡◌, refl, Bool, true, false, ◌⊎◌, ℕ, ◌+◌, ◌≤◌, ◌<◌}
+use Rattle.std.specs.Prelude.{◌≡◌, refl, Bool, true, false, ◌⊎◌, ℕ, ◌+◌, ◌≤◌, ◌<◌, Result, Ok, Err}
+use Rattle.worktime.specs.declared.ClockError.{ClockError}
+use Rattle.worktime.specs.declared.ClockError.TheVariants.{TooLong}
 use Rattle.std.proofs.Common.{sym, ap, ◌∙◌, true≢false, inl, inr, ⊎_elim, arith}
 use Rattle.number.specs.Order.{cases, lt_or_le, zero_or_pos}
-use Rattle.worktime.specs.declared.Walk.{Walk}
-use Rattle.worktime.specs.declared.Walk.TheVariants.{At, Refused}
 use Rattle.worktime.specs.Worked.{count, closing, IsNextStart, IsNextFinish, IsAdvance, IsRetreat}
-use Rattle.worktime.specs.Walks.{too_long, first_minute, end_minute, next_start, previous_finish, next_finish, previous_start, start_by}
+use Rattle.worktime.specs.Walks.{first_minute, end_minute, next_start, previous_finish, next_finish, previous_start, start_by}
 use Rattle.worktime.specs.Count.{count_mono, start_le, closing_pred}
 use Rattle.worktime.specs.Relations.{next_start_count, next_finish_count, next_finish_after, previous_finish_count, advance_from, retreat_before}
 use Rattle.worktime.specs.Adjoint.{finish_galois}
@@ -23,16 +23,16 @@ use Rattle.placing.proofs.PlacingLaws.{bounded_in, bounded_after, bounded_before
 pub clash : {X : Type 0} → ◌≡◌ {A = ℕ} 0 1 → X
 clash z = absurd (omega arith)
 
-pub same_time : {x : Walk} {u v : ℕ} → x ≡ At u → x ≡ At v → u ≡ v
+pub same_time : {x : Result ℕ ClockError} {u v : ℕ} → x ≡ Ok u → x ≡ Ok v → u ≡ v
 same_time p q = cc
 
-pub same_refusal : {x : Walk} {j k : ℕ} → x ≡ Refused j → x ≡ Refused k → k ≡ j
+pub same_refusal : {x : Result ℕ ClockError} {j k : ClockError} → x ≡ Err j → x ≡ Err k → k ≡ j
 same_refusal p q = cc
 
 -- a walk answers or is refused
-pub walk_ways : (x : Walk) → ((u : ℕ) × (x ≡ At u)) ⊎ ((k : ℕ) × (x ≡ Refused k))
-walk_ways (At u) = inl (u, refl)
-walk_ways (Refused k) = inr (k, refl)
+pub walk_ways : (x : Result ℕ ClockError) → ((u : ℕ) × (x ≡ Ok u)) ⊎ ((k : ClockError) × (x ≡ Err k))
+walk_ways (Ok u) = inl (u, refl)
+walk_ways (Err k) = inr (k, refl)
 
 some : {n : ℕ} → 0 < n → n ≡ 0 → ⊥
 some p z = omega arith
@@ -40,20 +40,20 @@ some p z = omega arith
 -- ---- bounded: the time itself, at most the span from the start
 
 module _ (origin t : ℕ) where
-  bounded_ways : ((bounded origin t ≡ At t) × (t ≤ origin + 288000000) × (origin ≤ t + 288000000))
-      ⊎ ((bounded origin t ≡ Refused too_long) × ((origin + 288000000 < t) ⊎ (t + 288000000 < origin)))
+  bounded_ways : ((bounded origin t ≡ Ok t) × (t ≤ origin + 288000000) × (origin ≤ t + 288000000))
+      ⊎ ((bounded origin t ≡ Err TooLong) × ((origin + 288000000 < t) ⊎ (t + 288000000 < origin)))
   bounded_ways =
       ⊎_elim (λ l. inr (bounded_after origin t l, inl l))
       (λ l. ⊎_elim (λ r. inr (bounded_before origin t r, inr r)) (λ r. inl (bounded_in origin t l r, l, r)) (lt_or_le (t + 288000000) origin))
       (lt_or_le (origin + 288000000) t)
 
-  pub bounded_sound : (u : ℕ) → bounded origin t ≡ At u → (u ≡ t) × (t ≤ origin + 288000000) × (origin ≤ t + 288000000)
+  pub bounded_sound : (u : ℕ) → bounded origin t ≡ Ok u → (u ≡ t) × (t ≤ origin + 288000000) × (origin ≤ t + 288000000)
   bounded_sound u e = ⊎_elim (λ p. (same_time e p.0, p.1, p.2)) (λ p. absurd (at_or_refused e p.0)) bounded_ways
 
-  pub bounded_why : (k : ℕ) → bounded origin t ≡ Refused k → (k ≡ too_long) × ((origin + 288000000 < t) ⊎ (t + 288000000 < origin))
+  pub bounded_why : (k : ClockError) → bounded origin t ≡ Err k → (k ≡ TooLong) × ((origin + 288000000 < t) ⊎ (t + 288000000 < origin))
   bounded_why k e = ⊎_elim (λ p. absurd (at_or_refused p.0 e)) (λ p. (same_refusal p.0 e, p.1)) bounded_ways
 
-  pub bounded_refused : (k : ℕ) → bounded origin t ≡ Refused k → k ≡ too_long
+  pub bounded_refused : (k : ClockError) → bounded origin t ≡ Err k → k ≡ TooLong
   bounded_refused k e = (bounded_why k e).0
 
 -- ---- place start: "start is worked (finish milestone: worked or closing)", the least such at or after t
@@ -74,7 +74,7 @@ module _ (w : ℕ → Bool) where
   other_kind n (inl h) = h
   other_kind n (inr p) = absurd (n p.0)
 
-  at_start : (kind : ActivityKind) (t u : ℕ) → (kind ≡ FinishMilestone → ⊥) → next_start w t ≡ At u → PlacedStart w kind t u
+  at_start : (kind : ActivityKind) (t u : ℕ) → (kind ≡ FinishMilestone → ⊥) → next_start w t ≡ Ok u → PlacedStart w kind t u
   at_start kind t u n e =
       let s = next_start_sound w e in record {
         after = s.0.after;
@@ -99,7 +99,7 @@ module _ (w : ℕ → Bool) where
           (λ l. let e : t ≡ v = omega arith in absurd (true≢false (sym k ∙ sym (ap (closing w) e) ∙ h)))
           (lt_or_le t v)
 
-  at_finish : (t u : ℕ) → next_finish w t ≡ At u → PlacedStart w FinishMilestone t u
+  at_finish : (t u : ℕ) → next_finish w t ≡ Ok u → PlacedStart w FinishMilestone t u
   at_finish t u e =
       let s = next_finish_sound w e in record {
         after = next_finish_after w s.0;
@@ -110,48 +110,48 @@ module _ (w : ℕ → Bool) where
         within = s.2;
       }
 
-  pub place_start_sound : (kind : ActivityKind) (t u : ℕ) → place_start w kind t ≡ At u → PlacedStart w kind t u
+  pub place_start_sound : (kind : ActivityKind) (t u : ℕ) → place_start w kind t ≡ Ok u → PlacedStart w kind t u
   place_start_sound Task t u e =
       at_start Task t u (λ p. clash (cc)) (sym (place_start_task w Task t refl) ∙ e)
   place_start_sound StartMilestone t u e =
       at_start StartMilestone t u (λ p. clash (cc)) (sym (place_start_start w StartMilestone t refl) ∙ e)
   place_start_sound FinishMilestone t u e = at_finish t u (sym (place_start_finish w FinishMilestone t refl) ∙ e)
 
-  pub place_start_refused : (kind : ActivityKind) (t k : ℕ) → place_start w kind t ≡ Refused k → k ≡ too_long
+  pub place_start_refused : (kind : ActivityKind) (t : ℕ) (k : ClockError) → place_start w kind t ≡ Err k → k ≡ TooLong
   place_start_refused Task t k e = next_start_refused w t k (sym (place_start_task w Task t refl) ∙ e)
   place_start_refused StartMilestone t k e = next_start_refused w t k (sym (place_start_start w StartMilestone t refl) ∙ e)
   place_start_refused FinishMilestone t k e = next_finish_refused w t k (sym (place_start_finish w FinishMilestone t refl) ∙ e)
 
   -- ---- finish of, and start of: advance and retreat, which stay within the end of years where they begin within it
 
-  pub finish_of_sound : (left start u : ℕ) → finish_of w left start ≡ At u → IsAdvance w start left u
+  pub finish_of_sound : (left start u : ℕ) → finish_of w left start ≡ Ok u → IsAdvance w start left u
   finish_of_sound left start u e = (advance_sound w e).0
 
-  pub finish_of_refused : (left start k : ℕ) → finish_of w left start ≡ Refused k → k ≡ too_long
+  pub finish_of_refused : (left start : ℕ) (k : ClockError) → finish_of w left start ≡ Err k → k ≡ TooLong
   finish_of_refused left start k e = advance_refused w start left k e
 
-  pub finish_of_bound : (left start u : ℕ) → start ≤ end_minute → finish_of w left start ≡ At u → u ≤ end_minute
+  pub finish_of_bound : (left start u : ℕ) → start ≤ end_minute → finish_of w left start ≡ Ok u → u ≤ end_minute
   finish_of_bound left start u l e =
       let a = advance_sound w e in ⊎_elim (λ z. omega (arith, a.0.still z)) (λ p. (a.1 p).1) (zero_or_pos left)
 
-  pub start_of_sound : (left finish u : ℕ) → start_of w left finish ≡ At u → IsRetreat w finish left u
+  pub start_of_sound : (left finish u : ℕ) → start_of w left finish ≡ Ok u → IsRetreat w finish left u
   start_of_sound left finish u e = (retreat_sound w e).0
 
-  pub start_of_refused : (left finish k : ℕ) → start_of w left finish ≡ Refused k → k ≡ too_long
+  pub start_of_refused : (left finish : ℕ) (k : ClockError) → start_of w left finish ≡ Err k → k ≡ TooLong
   start_of_refused left finish k e = retreat_refused w finish left k e
 
-  pub start_of_bound : (left finish u : ℕ) → start_of w left finish ≡ At u → u ≤ finish
+  pub start_of_bound : (left finish u : ℕ) → start_of w left finish ≡ Ok u → u ≤ finish
   start_of_bound left finish u e = retreat_before w (retreat_sound w e).0
 
   -- ---- latest same: the last moment with as much worked before
 
-  pub latest_same_sound : (t u : ℕ) → latest_same w t ≡ At u → IsNextStart w t u × (first_minute ≤ t) × (u < end_minute)
+  pub latest_same_sound : (t u : ℕ) → latest_same w t ≡ Ok u → IsNextStart w t u × (first_minute ≤ t) × (u < end_minute)
   latest_same_sound t u e = next_start_sound w e
 
-  pub latest_same_last : (t u v : ℕ) → latest_same w t ≡ At u → count w v ≡ count w t → v ≤ u
+  pub latest_same_last : (t u v : ℕ) → latest_same w t ≡ Ok u → count w v ≡ count w t → v ≤ u
   latest_same_last t u v e c = let s = (next_start_sound w e).0 in (start_le w s.worked).1 (omega (arith, next_start_count w s))
 
-  pub latest_same_refused : (t k : ℕ) → latest_same w t ≡ Refused k → k ≡ too_long
+  pub latest_same_refused : (t : ℕ) (k : ClockError) → latest_same w t ≡ Err k → k ≡ TooLong
   latest_same_refused t k e = next_start_refused w t k e
 
 -- ---- start for finish: the work left ends at t's next finish
@@ -166,7 +166,7 @@ pub record StartForFinish (w : ℕ → Bool) (left t u : ℕ) : Type 0 where
   pub total : count w u + left ≡ count w t
 
 module _ (w : ℕ → Bool) (left t : ℕ) where
-  pub start_for_finish_sound : (u : ℕ) → start_for_finish w left t ≡ At u → StartForFinish w left t u
+  pub start_for_finish_sound : (u : ℕ) → start_for_finish w left t ≡ Ok u → StartForFinish w left t u
   start_for_finish_sound u e = ⊎_elim here away (zero_or_pos left)
     where
       here : left ≡ 0 → StartForFinish w left t u
@@ -198,33 +198,33 @@ module _ (w : ℕ → Bool) (left t : ℕ) where
           }) (λ r. absurd (at_or_refused e (start_for_finish_refuses w left t (some p) r.0 r.1))) (walk_ways (next_finish w t))
 
   -- it is at or before just those starts whose work left reaches as far as t
-  pub start_for_finish_least : (u s f : ℕ) → start_for_finish w left t ≡ At u → 0 < left → w s ≡ true → IsAdvance w s left f → count w t ≤ count w f → u ≤ s
+  pub start_for_finish_least : (u s f : ℕ) → start_for_finish w left t ≡ Ok u → 0 < left → w s ≡ true → IsAdvance w s left f → count w t ≤ count w f → u ≤ s
   start_for_finish_least u s f e p h a c =
       let r = start_for_finish_sound u e in (finish_galois w h p a (r.next p) (r.back p)).0 c
 
-  pub start_for_finish_reaches : (u s f : ℕ) → start_for_finish w left t ≡ At u → 0 < left → w s ≡ true → IsAdvance w s left f → u ≤ s → count w t ≤ count w f
+  pub start_for_finish_reaches : (u s f : ℕ) → start_for_finish w left t ≡ Ok u → 0 < left → w s ≡ true → IsAdvance w s left f → u ≤ s → count w t ≤ count w f
   start_for_finish_reaches u s f e p h a c =
       let r = start_for_finish_sound u e in (finish_galois w h p a (r.next p) (r.back p)).1 c
 
-  pub start_for_finish_bound : (u : ℕ) → t ≤ end_minute → start_for_finish w left t ≡ At u → u ≤ end_minute
+  pub start_for_finish_bound : (u : ℕ) → t ≤ end_minute → start_for_finish w left t ≡ Ok u → u ≤ end_minute
   start_for_finish_bound u l e =
       let r = start_for_finish_sound u e in
       ⊎_elim (λ z. omega (arith, r.still z)) (λ p. omega (arith, retreat_before w (r.back p), (r.within p).2)) (zero_or_pos left)
 
-  pub start_for_finish_refused : (k : ℕ) → start_for_finish w left t ≡ Refused k → k ≡ too_long
+  pub start_for_finish_refused : (k : ClockError) → start_for_finish w left t ≡ Err k → k ≡ TooLong
   start_for_finish_refused k e =
       ⊎_elim (λ z. absurd (at_or_refused (start_for_finish_none w left t z) e))
       (λ p.
       ⊎_elim (λ a. retreat_refused w a.0 left k (sym (start_for_finish_at w left t (some p) a.0 a.1) ∙ e))
-      (λ r. next_finish_refused w t k (r.1 ∙ ap Refused (sym (same_refusal (start_for_finish_refuses w left t (some p) r.0 r.1) e))))
+      (λ r. next_finish_refused w t k (r.1 ∙ ap Err (sym (same_refusal (start_for_finish_refuses w left t (some p) r.0 r.1) e))))
       (walk_ways (next_finish w t))) (zero_or_pos left)
 
   -- ---- finish for start: t advanced by the work left
 
-  finish_for_start_from : (s : ℕ) → previous_start w t ≡ At s → IsNextStart w t s × (first_minute ≤ t) × (s < end_minute)
+  finish_for_start_from : (s : ℕ) → previous_start w t ≡ Ok s → IsNextStart w t s × (first_minute ≤ t) × (s < end_minute)
   finish_for_start_from s e = next_start_sound w (sym (previous_start_next w t) ∙ e)
 
-  pub finish_for_start_sound : (u : ℕ) → finish_for_start w left t ≡ At u → IsAdvance w t left u × (0 < left → (first_minute ≤ t) × (u ≤ end_minute))
+  pub finish_for_start_sound : (u : ℕ) → finish_for_start w left t ≡ Ok u → IsAdvance w t left u × (0 < left → (first_minute ≤ t) × (u ≤ end_minute))
   finish_for_start_sound u e =
       ⊎_elim
       (λ z. (
@@ -244,18 +244,18 @@ module _ (w : ℕ → Bool) (left t : ℕ) where
       (λ r. absurd (at_or_refused e (finish_for_start_refuses w left t (some p) r.0 r.1))) (walk_ways (previous_start w t)))
       (zero_or_pos left)
 
-  pub finish_for_start_bound : (u : ℕ) → t ≤ end_minute → finish_for_start w left t ≡ At u → u ≤ end_minute
+  pub finish_for_start_bound : (u : ℕ) → t ≤ end_minute → finish_for_start w left t ≡ Ok u → u ≤ end_minute
   finish_for_start_bound u l e =
       let a = finish_for_start_sound u e in ⊎_elim (λ z. omega (arith, a.0.still z)) (λ p. (a.1 p).1) (zero_or_pos left)
 
-  pub finish_for_start_refused : (k : ℕ) → finish_for_start w left t ≡ Refused k → k ≡ too_long
+  pub finish_for_start_refused : (k : ClockError) → finish_for_start w left t ≡ Err k → k ≡ TooLong
   finish_for_start_refused k e =
       ⊎_elim (λ z. absurd (at_or_refused (finish_for_start_none w left t z) e))
       (λ p.
       ⊎_elim (λ a. advance_refused w a.0 left k (sym (finish_for_start_at w left t (some p) a.0 a.1) ∙ e))
       (λ r.
       next_start_refused w t k
-      (sym (previous_start_next w t) ∙ r.1 ∙ ap Refused (sym (same_refusal (finish_for_start_refuses w left t (some p) r.0 r.1) e))))
+      (sym (previous_start_next w t) ∙ r.1 ∙ ap Err (sym (same_refusal (finish_for_start_refuses w left t (some p) r.0 r.1) e))))
       (walk_ways (previous_start w t))) (zero_or_pos left)
 
 -- ---- finish for start, by a date: from the last worked minute at or before t
@@ -270,7 +270,7 @@ pub record FinishForStartBy (w : ℕ → Bool) (left t u : ℕ) : Type 0 where
   pub within : 0 < left → (first_minute ≤ start) × (t < end_minute) × (u ≤ end_minute)
 
 module _ (w : ℕ → Bool) (left t : ℕ) where
-  pub finish_for_start_by_sound : (u : ℕ) → finish_for_start_by w left t ≡ At u → FinishForStartBy w left t u
+  pub finish_for_start_by_sound : (u : ℕ) → finish_for_start_by w left t ≡ Ok u → FinishForStartBy w left t u
   finish_for_start_by_sound u e =
       ⊎_elim
       (λ z. let s : u ≡ t = same_time e (finish_for_start_by_none w left t z) in record {
@@ -298,17 +298,17 @@ module _ (w : ℕ → Bool) (left t : ℕ) where
       (λ r. absurd (at_or_refused e (finish_for_start_by_refuses w left t (some p) r.0 r.1))) (walk_ways (start_by w t)))
       (zero_or_pos left)
 
-  pub finish_for_start_by_bound : (u : ℕ) → t ≤ end_minute → finish_for_start_by w left t ≡ At u → u ≤ end_minute
+  pub finish_for_start_by_bound : (u : ℕ) → t ≤ end_minute → finish_for_start_by w left t ≡ Ok u → u ≤ end_minute
   finish_for_start_by_bound u l e =
       let a = finish_for_start_by_sound u e in ⊎_elim (λ z. omega (arith, a.still z)) (λ p. (a.within p).2) (zero_or_pos left)
 
-  pub finish_for_start_by_refused : (k : ℕ) → finish_for_start_by w left t ≡ Refused k → k ≡ too_long
+  pub finish_for_start_by_refused : (k : ClockError) → finish_for_start_by w left t ≡ Err k → k ≡ TooLong
   finish_for_start_by_refused k e =
       ⊎_elim (λ z. absurd (at_or_refused (finish_for_start_by_none w left t z) e))
       (λ p.
       ⊎_elim (λ a. advance_refused w a.0 left k (sym (finish_for_start_by_at w left t (some p) a.0 a.1) ∙ e))
       (λ r.
-      start_by_refused w t k (r.1 ∙ ap Refused (sym (same_refusal (finish_for_start_by_refuses w left t (some p) r.0 r.1) e))))
+      start_by_refused w t k (r.1 ∙ ap Err (sym (same_refusal (finish_for_start_by_refuses w left t (some p) r.0 r.1) e))))
       (walk_ways (start_by w t))) (zero_or_pos left)
 
 -- ---- place finish: the greatest finish at or before t; of a moment, the greatest start or finish
@@ -325,7 +325,7 @@ pub record PlacedFinish (w : ℕ → Bool) (kind : ActivityKind) (left t u : ℕ
   pub within : t < end_minute
 
 module _ (w : ℕ → Bool) (kind : ActivityKind) (left t : ℕ) where
-  at_previous : (f : ℕ) → previous_finish w t ≡ At f → is_moment kind left ≡ false → PlacedFinish w kind left t f
+  at_previous : (f : ℕ) → previous_finish w t ≡ Ok f → is_moment kind left ≡ false → PlacedFinish w kind left t f
   at_previous f e m =
       let s = previous_finish_sound w e in record {
         before = s.0.before;
@@ -336,7 +336,7 @@ module _ (w : ℕ → Bool) (kind : ActivityKind) (left t : ℕ) where
         within = s.2;
       }
 
-  at_moment : (f s : ℕ) → previous_finish w t ≡ At f → is_moment kind left ≡ true → next_start w f ≡ At s → s ≤ t → PlacedFinish w kind left t s
+  at_moment : (f s : ℕ) → previous_finish w t ≡ Ok f → is_moment kind left ≡ true → next_start w f ≡ Ok s → s ≤ t → PlacedFinish w kind left t s
   at_moment f s e m n l =
       let p = previous_finish_sound w e in
       let q = next_start_sound w n in
@@ -349,7 +349,7 @@ module _ (w : ℕ → Bool) (kind : ActivityKind) (left t : ℕ) where
         within = p.2;
       }
 
-  before_moment : (f s : ℕ) → previous_finish w t ≡ At f → is_moment kind left ≡ true → next_start w f ≡ At s → t < s → PlacedFinish w kind left t f
+  before_moment : (f s : ℕ) → previous_finish w t ≡ Ok f → is_moment kind left ≡ true → next_start w f ≡ Ok s → t < s → PlacedFinish w kind left t f
   before_moment f s e m n l =
       let p = previous_finish_sound w e in
       let q = next_start_sound w n in record {
@@ -365,16 +365,16 @@ module _ (w : ℕ → Bool) (kind : ActivityKind) (left t : ℕ) where
 
   -- each way out: an answer of which all that holds, or row 8
   data PlaceFinishWay : Type 0 where
-    placed : (u : ℕ) → place_finish w kind left t ≡ At u → PlacedFinish w kind left t u → PlaceFinishWay
-    refused : place_finish w kind left t ≡ Refused too_long → PlaceFinishWay
+    placed : (u : ℕ) → place_finish w kind left t ≡ Ok u → PlacedFinish w kind left t u → PlaceFinishWay
+    refused : place_finish w kind left t ≡ Err TooLong → PlaceFinishWay
 
-  of_moment : (f : ℕ) → previous_finish w t ≡ At f → is_moment kind left ≡ true → PlaceFinishWay
+  of_moment : (f : ℕ) → previous_finish w t ≡ Ok f → is_moment kind left ≡ true → PlaceFinishWay
   of_moment f e m =
       ⊎_elim
       (λ a.
       ⊎_elim (λ l. placed f (place_finish_before w kind left t f a.0 e m a.1 l) (before_moment f a.0 e m a.1 l))
       (λ l. placed a.0 (place_finish_start w kind left t f a.0 e m a.1 l) (at_moment f a.0 e m a.1 l)) (lt_or_le t a.0))
-      (λ r. refused (place_finish_start_refuses w kind left t f r.0 e m r.1 ∙ ap Refused (next_start_refused w f r.0 r.1)))
+      (λ r. refused (place_finish_start_refuses w kind left t f r.0 e m r.1 ∙ ap Err (next_start_refused w f r.0 r.1)))
       (walk_ways (next_start w f))
 
   place_finish_way : PlaceFinishWay
@@ -383,19 +383,19 @@ module _ (w : ℕ → Bool) (kind : ActivityKind) (left t : ℕ) where
       (λ a.
       ⊎_elim (λ m. of_moment a.0 a.1 m) (λ m. placed a.0 (place_finish_here w kind left t a.0 a.1 m) (at_previous a.0 a.1 m))
       (cases (is_moment kind left)))
-      (λ r. refused (place_finish_refuses w kind left t r.0 r.1 ∙ ap Refused (previous_finish_refused w t r.0 r.1)))
+      (λ r. refused (place_finish_refuses w kind left t r.0 r.1 ∙ ap Err (previous_finish_refused w t r.0 r.1)))
       (walk_ways (previous_finish w t))
 
-  pub place_finish_sound : (u : ℕ) → place_finish w kind left t ≡ At u → PlacedFinish w kind left t u
+  pub place_finish_sound : (u : ℕ) → place_finish w kind left t ≡ Ok u → PlacedFinish w kind left t u
   place_finish_sound u e = sound place_finish_way
     where
       sound : PlaceFinishWay → PlacedFinish w kind left t u
       sound (placed v f p) = let s : v ≡ u = same_time f e in rw s at p
       sound (refused f) = absurd (at_or_refused e f)
 
-  pub place_finish_refused : (k : ℕ) → place_finish w kind left t ≡ Refused k → k ≡ too_long
+  pub place_finish_refused : (k : ClockError) → place_finish w kind left t ≡ Err k → k ≡ TooLong
   place_finish_refused k e = number place_finish_way
     where
-      number : PlaceFinishWay → k ≡ too_long
+      number : PlaceFinishWay → k ≡ TooLong
       number (placed v f p) = absurd (at_or_refused f e)
       number (refused f) = same_refusal f e

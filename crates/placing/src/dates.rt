@@ -1,23 +1,27 @@
 // Days as times on the activity's own calendar: a constraint's, and those that are recorded of its work.
-ghost use Rattle.std.specs.Prelude.{◌≡◌, ℕ, ◌+◌, ◌/◌};
+ghost use Rattle.std.specs.Prelude.{◌≡◌, ℕ, ◌+◌, ◌/◌, Ok, Err, Some, None};
 ghost use Rattle.calendar.specs.Records.{Valid};
 ghost use Rattle.clock.specs.On.{worked_on};
-ghost use Rattle.worktime.specs.declared.Walk.TheVariants.{At, Refused};
 ghost use Rattle.worktime.specs.Walks.{reads, previous_finish};
-ghost use Rattle.project.specs.declared.OptionalDate.TheVariants.{On, Absent};
 ghost use Rattle.project.specs.Status.{on_start};
 ghost use Rattle.placing.specs.Placing.{midnight_of, moment_of, day_start, constraint_time, actual};
 
-use crate::{Actual, Moment};
+use crate::Actual;
 use calendar::{Found, Period};
 use date::Date;
-use project::{Activity, Constraint, End, OptionalDate};
-use worktime::Walk;
+use project::{Activity, Constraint, End};
+use worktime::ClockError;
 
 // The start of a day's first work period, or its midnight where it has none.
-fn start_of_day(week: [[Period; 8]; 7], sheet: &[u8], at: usize, n: usize, day: Date) -> Walk
+fn start_of_day(
+    week: [[Period; 8]; 7],
+    sheet: &[u8],
+    at: usize,
+    n: usize,
+    day: Date,
+) -> Result<u64, ClockError>
     requires { Valid week sheet.now at n }
-    ensures { result ≡ reads Refused (midnight_of day / 1440) (At (day_start (worked_on week sheet.now at n) (midnight_of day))) }
+    ensures { result ≡ reads Err (midnight_of day / 1440) (Ok (day_start (worked_on week sheet.now at n) (midnight_of day))) }
 {
     let t = day.midnight();
     let d = t / 1440;
@@ -25,18 +29,24 @@ fn start_of_day(week: [[Period; 8]; 7], sheet: &[u8], at: usize, n: usize, day: 
         let hours = calendar::periods_on(week, sheet, at, n, d);
         match calendar::day_next(hours, sheet, 0) {
             Found::At(m) => {
-                return Walk::At(t + m);
-            }
+                return Ok(t + m);
+            },
             Found::Nothing => {
-                return Walk::At(t);
-            }
+                return Ok(t);
+            },
         }
     }
-    Walk::Refused(clock::TOO_LONG)
+    Err(ClockError::TooLong)
 }
 
 // The last finish by the end of a day.
-fn finish_by_day(week: [[Period; 8]; 7], sheet: &[u8], at: usize, n: usize, day: Date) -> Walk
+fn finish_by_day(
+    week: [[Period; 8]; 7],
+    sheet: &[u8],
+    at: usize,
+    n: usize,
+    day: Date,
+) -> Result<u64, ClockError>
     requires { Valid week sheet.now at n }
     ensures { result ≡ previous_finish (worked_on week sheet.now at n) (midnight_of day + 1440) }
 {
@@ -44,13 +54,11 @@ fn finish_by_day(week: [[Period; 8]; 7], sheet: &[u8], at: usize, n: usize, day:
 }
 
 // A walk's answer as a constraint's time.
-fn moment_of(walk: Walk) -> Moment
+fn moment_of(walk: Result<u64, ClockError>) -> Result<Option<u64>, ClockError>
     ensures { result ≡ moment_of walk }
 {
-    match walk {
-        Walk::At(t) => Moment::At(t),
-        Walk::Refused(k) => Moment::Refused(k),
-    }
+    let t = walk?;
+    Ok(Some(t))
 }
 
 // The time that a constraint holds its end to.
@@ -61,7 +69,7 @@ pub fn constraint_time(
     at: usize,
     n: usize,
     constraint: Constraint,
-) -> Moment
+) -> Result<Option<u64>, ClockError>
     requires { Valid week sheet.now at n }
     ensures { result ≡ constraint_time (worked_on week sheet.now at n) (on_start constraint) }
 {
@@ -75,18 +83,18 @@ pub fn constraint_time(
             let walk = finish_by_day(week, sheet, at, n, day);
             moment_of(walk)
         }
-        End::Neither => Moment::Nowhere,
+        End::Neither => Ok(None),
     }
 }
 
 // Work that began on a day and goes on.
 fn begun(week: [[Period; 8]; 7], sheet: &[u8], at: usize, n: usize, start: Date) -> Actual
     requires { Valid week sheet.now at n }
-    ensures { result ≡ actual (worked_on week sheet.now at n) (On start) Absent }
+    ensures { result ≡ actual (worked_on week sheet.now at n) (Some start) None }
 {
     match clock::next_start(week, sheet, at, n, start.midnight()) {
-        Walk::At(s) => Actual::Begun(s),
-        Walk::Refused(k) => Actual::Refused(k),
+        Ok(s) => Actual::Begun(s),
+        Err(k) => Actual::Refused(k),
     }
 }
 
@@ -100,19 +108,19 @@ fn completed(
     finish: Date,
 ) -> Actual
     requires { Valid week sheet.now at n }
-    ensures { result ≡ actual (worked_on week sheet.now at n) (On start) (On finish) }
+    ensures { result ≡ actual (worked_on week sheet.now at n) (Some start) (Some finish) }
 {
     match clock::next_start(week, sheet, at, n, start.midnight()) {
-        Walk::At(s) => match finish_by_day(week, sheet, at, n, finish) {
-            Walk::At(f) => {
+        Ok(s) => match finish_by_day(week, sheet, at, n, finish) {
+            Ok(f) => {
                 if f < s {
                     return Actual::Completed(s, s);
                 }
                 Actual::Completed(s, f)
             }
-            Walk::Refused(k) => Actual::Refused(k),
+            Err(k) => Actual::Refused(k),
         },
-        Walk::Refused(k) => Actual::Refused(k),
+        Err(k) => Actual::Refused(k),
     }
 }
 
@@ -130,13 +138,13 @@ pub fn actual(
     let first = activity.actual_start;
     let last = activity.actual_finish;
     match last {
-        OptionalDate::On(finish) => match first {
-            OptionalDate::On(start) => completed(week, sheet, at, n, start, finish),
-            OptionalDate::Absent => completed(week, sheet, at, n, finish, finish),
+        Some(finish) => match first {
+            Some(start) => completed(week, sheet, at, n, start, finish),
+            None => completed(week, sheet, at, n, finish, finish),
         },
-        OptionalDate::Absent => match first {
-            OptionalDate::On(start) => begun(week, sheet, at, n, start),
-            OptionalDate::Absent => Actual::Unstarted,
+        None => match first {
+            Some(start) => begun(week, sheet, at, n, start),
+            None => Actual::Unstarted,
         },
     }
 }

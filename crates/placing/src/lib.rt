@@ -9,7 +9,7 @@ ghost use Rattle.placing.specs.Placing.{bounded, is_moment, place_start, finish_
 
 use calendar::Period;
 use project::{Activity, ActivityKind};
-use worktime::Walk;
+use worktime::ClockError;
 
 pub mod dates;
 
@@ -19,34 +19,26 @@ pub enum Actual {
     Unstarted,
     Begun(u64),
     Completed(u64, u64),
-    Refused(u64),
-}
-
-// The time of a constraint, if it has one.
-#[derive(Clone, Copy)]
-pub enum Moment {
-    At(u64),
-    Nowhere,
-    Refused(u64),
+    Refused(ClockError),
 }
 
 // How far from the project's start a time may lie.
 const SPAN: u64 = 288000000;
 
 // `t`, if it lies within the span of `origin`, the project's start.
-pub fn bounded(origin: u64, t: u64) -> Walk
+pub fn bounded(origin: u64, t: u64) -> Result<u64, ClockError>
     ensures { result ≡ bounded origin t }
 {
     if t < origin {
         if SPAN < origin - t {
-            return Walk::Refused(clock::TOO_LONG);
+            return Err(ClockError::TooLong);
         }
-        return Walk::At(t);
+        return Ok(t);
     }
     if SPAN < t - origin {
-        return Walk::Refused(clock::TOO_LONG);
+        return Err(ClockError::TooLong);
     }
-    Walk::At(t)
+    Ok(t)
 }
 
 // ---- early dates
@@ -59,7 +51,7 @@ pub fn place_start(
     at: usize,
     n: usize,
     t: u64,
-) -> Walk
+) -> Result<u64, ClockError>
     requires { Valid week sheet.now at n }
     ensures { result ≡ place_start (worked_on week sheet.now at n) activity.kind t }
 {
@@ -80,7 +72,7 @@ pub fn finish_of(
     n: usize,
     left: u64,
     start: u64,
-) -> Walk
+) -> Result<u64, ClockError>
     requires { Valid week sheet.now at n }
     ensures { result ≡ finish_of (worked_on week sheet.now at n) left start }
 {
@@ -96,17 +88,15 @@ pub fn start_for_finish(
     n: usize,
     left: u64,
     t: u64,
-) -> Walk
+) -> Result<u64, ClockError>
     requires { Valid week sheet.now at n }
     ensures { result ≡ start_for_finish (worked_on week sheet.now at n) left t }
 {
     if left == 0 {
-        return Walk::At(t);
+        return Ok(t);
     }
-    match clock::next_finish(week, sheet, at, n, t) {
-        Walk::At(f) => clock::retreat(week, sheet, at, n, f, left),
-        Walk::Refused(k) => Walk::Refused(k),
-    }
+    let f = clock::next_finish(week, sheet, at, n, t)?;
+    clock::retreat(week, sheet, at, n, f, left)
 }
 
 // ---- late dates
@@ -131,31 +121,21 @@ pub fn place_finish(
     n: usize,
     left: u64,
     t: u64,
-) -> Walk
+) -> Result<u64, ClockError>
     requires { Valid week sheet.now at n }
     ensures { result ≡ place_finish (worked_on week sheet.now at n) activity.kind left t }
 {
     let kind = activity.kind;
     let moment = is_moment(kind, left);
-    match clock::previous_finish(week, sheet, at, n, t) {
-        Walk::At(f) => {
-            if moment {
-                match clock::next_start(week, sheet, at, n, f) {
-                    Walk::At(s) => {
-                        if s <= t {
-                            return Walk::At(s);
-                        }
-                        return Walk::At(f);
-                    }
-                    Walk::Refused(k) => {
-                        return Walk::Refused(k);
-                    }
-                }
-            }
-            Walk::At(f)
+    let f = clock::previous_finish(week, sheet, at, n, t)?;
+    if moment {
+        let s = clock::next_start(week, sheet, at, n, f)?;
+        if s <= t {
+            return Ok(s);
         }
-        Walk::Refused(k) => Walk::Refused(k),
+        return Ok(f);
     }
+    Ok(f)
 }
 
 // The latest moment that is the same as `t`, with no work between.
@@ -166,7 +146,7 @@ pub fn latest_same(
     at: usize,
     n: usize,
     t: u64,
-) -> Walk
+) -> Result<u64, ClockError>
     requires { Valid week sheet.now at n }
     ensures { result ≡ latest_same (worked_on week sheet.now at n) t }
 {
@@ -182,7 +162,7 @@ pub fn start_of(
     n: usize,
     left: u64,
     finish: u64,
-) -> Walk
+) -> Result<u64, ClockError>
     requires { Valid week sheet.now at n }
     ensures { result ≡ start_of (worked_on week sheet.now at n) left finish }
 {
@@ -198,17 +178,15 @@ pub fn finish_for_start(
     n: usize,
     left: u64,
     t: u64,
-) -> Walk
+) -> Result<u64, ClockError>
     requires { Valid week sheet.now at n }
     ensures { result ≡ finish_for_start (worked_on week sheet.now at n) left t }
 {
     if left == 0 {
-        return Walk::At(t);
+        return Ok(t);
     }
-    match clock::previous_start(week, sheet, at, n, t) {
-        Walk::At(s) => clock::advance(week, sheet, at, n, s, left),
-        Walk::Refused(k) => Walk::Refused(k),
-    }
+    let s = clock::previous_start(week, sheet, at, n, t)?;
+    clock::advance(week, sheet, at, n, s, left)
 }
 
 // The same for a constraint's date, which a start must not pass.
@@ -220,15 +198,13 @@ pub fn finish_for_start_by(
     n: usize,
     left: u64,
     t: u64,
-) -> Walk
+) -> Result<u64, ClockError>
     requires { Valid week sheet.now at n }
     ensures { result ≡ finish_for_start_by (worked_on week sheet.now at n) left t }
 {
     if left == 0 {
-        return Walk::At(t);
+        return Ok(t);
     }
-    match clock::start_by(week, sheet, at, n, t) {
-        Walk::At(s) => clock::advance(week, sheet, at, n, s, left),
-        Walk::Refused(k) => Walk::Refused(k),
-    }
+    let s = clock::start_by(week, sheet, at, n, t)?;
+    clock::advance(week, sheet, at, n, s, left)
 }

@@ -1,10 +1,8 @@
 -- What holds of the values of a record whose fields are in range.
-use Rattle.std.specs.Prelude.{◌≡◌, true, ◌≤◌, pos}
+use Rattle.std.specs.Prelude.{◌≡◌, true, ◌≤◌, pos, Option, Some}
 use Rattle.number.specs.Zed.{up, dn}
 use Rattle.date.specs.declared.Date.{Date}
 use Rattle.project.specs.declared.Constraint.{Constraint}
-use Rattle.project.specs.declared.OptionalDate.{OptionalDate}
-use Rattle.project.specs.declared.OptionalDate.TheVariants.{On}
 use Rattle.project.specs.declared.End.TheVariants.{Start, Finish}
 use Rattle.project.specs.declared.Activity.{Activity}
 use Rattle.project.specs.declared.Project.{Project}
@@ -15,8 +13,8 @@ pub record DayInRange (d : Date) : Type 0 where
   pub low : dn d.0 ≤ 135140
   pub high : up d.0 ≤ 376199
 
-abbrev pub OptionalInRange : OptionalDate → Type 0
-OptionalInRange o = (d : Date) → o ≡ On d → DayInRange d
+abbrev pub OptionalInRange : Option Date → Type 0
+OptionalInRange o = (d : Date) → o ≡ Some d → DayInRange d
 
 pub record ConstraintInRange (c : Constraint) : Type 0 where
   pub start : (d : Date) → on_start c ≡ Start d → DayInRange d

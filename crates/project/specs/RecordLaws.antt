@@ -1,6 +1,6 @@
 -- A record whose test holds has values in range, in a sheet of bytes.
 use Rattle.std.proofs.Math.Path.{◌≡◌, subst}
-use Rattle.std.specs.Prelude.{refl, Bool, true, false, ◌&&◌, ◌||◌, List, ◌⊎◌, ℕ, ◌+◌, ◌≤◌, ◌<◌, leb, ltb, pos}
+use Rattle.std.specs.Prelude.{refl, Bool, true, false, ◌&&◌, ◌||◌, List, ◌⊎◌, ℕ, ◌+◌, ◌≤◌, ◌<◌, leb, ltb, pos, Some, None}
 use Rattle.std.proofs.Common.{sym, ap, ◌∙◌, true≢false, arith}
 use Rattle.std.proofs.Math.Logic.{inl, inr, ⊎_elim}
 use borrow.Author.Tests.{leb-true, eqb-true, eqb-false, not-true, ne_eqb}
@@ -13,7 +13,6 @@ use Rattle.date.specs.declared.Date.{Date}
 use Rattle.date.specs.Days.{biased}
 use Rattle.date.specs.Years.{in_years, years_within}
 use Rattle.project.specs.declared.Constraint.{Constraint}
-use Rattle.project.specs.declared.OptionalDate.TheVariants.{On, Absent}
 use Rattle.project.specs.declared.End.{End}
 use Rattle.project.specs.declared.End.TheVariants.{Start, Finish, Neither}
 use Rattle.project.specs.Fields.{day_ok, day_or_absent, header_ok, calendar_ok, constraint_ok, activity_ok}
@@ -100,10 +99,10 @@ module _ (s : List ℕ) (bytes : (i : ℕ) → byte_at s i < 256) where
   pub optional_in : (at : ℕ) → day_or_absent (biased_at s at) ≡ true → OptionalInRange (optional_date_at s at)
   unfolding day_or_absent optional_date_at
   optional_in at e d h =
-      ⊎_elim (λ z. let h' : Absent ≡ On d = rw z at h in let never : ◌≡◌ {A = ℕ} 0 1 = cc in absurd (omega arith))
+      ⊎_elim (λ z. let h' : None ≡ Some d = rw z at h in let never : ◌≡◌ {A = ℕ} 0 1 = cc in absurd (omega arith))
       (λ k.
       let l = day_ok_in (biased_at s at) k in
-      let h' : On (date_at s at) ≡ On d = rw (ne_eqb (biased_at s at) 0 (λ z. omega arith)) at h in
+      let h' : Some (date_at s at) ≡ Some d = rw (ne_eqb (biased_at s at) 0 (λ z. omega arith)) at h in
       let same : date_at s at ≡ d = cc in
       subst DayInRange same (date_in at k))
       (or_either (eqb (biased_at s at) 0) (day_ok (biased_at s at)) e)

@@ -1,15 +1,11 @@
 -- The sheet's records as values: what stands at a place of the sheet, code by code. "Codes follow the enums' order in 002."
-use Rattle.std.specs.Prelude.{Bool, true, false, List, ℕ, ◌+◌, eqb, ℤ}
+use Rattle.std.specs.Prelude.{Bool, true, false, List, ℕ, ◌+◌, eqb, ℤ, Option, Some, None}
 use Rattle.number.specs.Bytes.{byte_at, u16_at, u32_at, i32_at, biased_at}
 use Rattle.date.specs.declared.Date.{Date}
 use Rattle.project.specs.declared.ActivityKind.{ActivityKind}
 use Rattle.project.specs.declared.ActivityKind.TheVariants.{Task, StartMilestone, FinishMilestone}
 use Rattle.project.specs.declared.Constraint.{Constraint}
 use Rattle.project.specs.declared.Constraint.TheVariants.{Unconstrained, StartOnOrAfter, StartOnOrBefore, FinishOnOrAfter, FinishOnOrBefore, StartOn, FinishOn, MandatoryStart, MandatoryFinish, AsLateAsPossible}
-use Rattle.project.specs.declared.OptionalDate.{OptionalDate}
-use Rattle.project.specs.declared.OptionalDate.TheVariants.{On, Absent}
-use Rattle.project.specs.declared.Remaining.{Remaining}
-use Rattle.project.specs.declared.Remaining.TheVariants.{Minutes}
 use Rattle.project.specs.declared.Activity.{Activity}
 use Rattle.project.specs.declared.RelationshipType.{RelationshipType}
 use Rattle.project.specs.declared.RelationshipType.TheVariants.{FinishToStart, StartToStart, FinishToFinish, StartToFinish}
@@ -35,11 +31,11 @@ abbrev pub date_at : List ℕ → ℕ → Date
 date_at s at = record { 0 = i32_at s at }
 
 -- "−2,147,483,648 means absent"
-unfoldable pub optional_date_at : List ℕ → ℕ → OptionalDate
-optional_date_at s at = pick (eqb (biased_at s at) 0) Absent (On (date_at s at))
+unfoldable pub optional_date_at : List ℕ → ℕ → Option Date
+optional_date_at s at = pick (eqb (biased_at s at) 0) None (Some (date_at s at))
 
-unfoldable pub remaining_at : List ℕ → ℕ → Remaining
-remaining_at s at = pick (eqb (biased_at s at) 0) Remaining.Absent (Minutes (i32_at s at))
+unfoldable pub remaining_at : List ℕ → ℕ → Option ℤ
+remaining_at s at = pick (eqb (biased_at s at) 0) None (Some (i32_at s at))
 
 unfoldable pub activity_kind_of : ℕ → ActivityKind
 activity_kind_of n = pick (eqb n 0) Task (pick (eqb n 1) StartMilestone FinishMilestone)

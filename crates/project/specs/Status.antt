@@ -1,11 +1,10 @@
 -- What the run asks of an activity's kind, of a constraint and of the recorded days.
-use Rattle.std.specs.Prelude.{Bool, true, false}
+use Rattle.std.specs.Prelude.{Bool, true, false, Option, Some, None}
+use Rattle.date.specs.declared.Date.{Date}
 use Rattle.project.specs.declared.ActivityKind.{ActivityKind}
 use Rattle.project.specs.declared.ActivityKind.TheVariants.{Task, StartMilestone, FinishMilestone}
 use Rattle.project.specs.declared.Constraint.{Constraint}
 use Rattle.project.specs.declared.Constraint.TheVariants.{Unconstrained, StartOnOrAfter, StartOnOrBefore, FinishOnOrAfter, FinishOnOrBefore, StartOn, FinishOn, MandatoryStart, MandatoryFinish, AsLateAsPossible}
-use Rattle.project.specs.declared.OptionalDate.{OptionalDate}
-use Rattle.project.specs.declared.OptionalDate.TheVariants.{On, Absent}
 use Rattle.project.specs.declared.End.{End}
 use Rattle.project.specs.declared.End.TheVariants.{Start, Finish, Neither}
 use Rattle.project.specs.declared.Status.{Status}
@@ -39,7 +38,7 @@ unfoldable pub bounds_start : Constraint → Bool
 bounds_start c = is_start (on_start c)
 
 -- 000's `status` of an activity that is no summary: completed once a finish is recorded, else in progress once a start is
-unfoldable pub status_of : OptionalDate → OptionalDate → Status
-status_of start (On d) = Completed
-status_of (On d) Absent = InProgress
-status_of Absent Absent = NotStarted
+unfoldable pub status_of : Option Date → Option Date → Status
+status_of start (Some d) = Completed
+status_of (Some d) None = InProgress
+status_of None None = NotStarted

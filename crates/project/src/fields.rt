@@ -3,7 +3,7 @@ ghost use Rattle.std.specs.Prelude.{◌≡◌, ℕ, ◌+◌, ◌≤◌, length};
 ghost use Rattle.number.specs.Bytes.{byte_at};
 ghost use Rattle.project.specs.Records.{date_at, optional_date_at, remaining_at, constraint_of};
 
-use crate::{Constraint, OptionalDate, Remaining, codes};
+use crate::{Constraint, codes};
 use date::Date;
 
 // The day at a place.
@@ -15,26 +15,26 @@ pub fn read_date(sheet: &[u8], at: usize) -> Date
 }
 
 // The day at a place, or none for the absent mark.
-pub fn read_optional_date(sheet: &[u8], at: usize) -> OptionalDate
+pub fn read_optional_date(sheet: &[u8], at: usize) -> Option<Date>
     requires { at + 4 ≤ length sheet.now }
     ensures { result ≡ optional_date_at sheet.now at }
 {
     let day = number::read_biased(sheet, at);
     if day == 0 {
-        return OptionalDate::Absent;
+        return None;
     }
-    OptionalDate::On(read_date(sheet, at))
+    Some(read_date(sheet, at))
 }
 
 // The minutes of work left at a place, or none for the absent mark.
-pub fn read_remaining(sheet: &[u8], at: usize) -> Remaining
+pub fn read_remaining(sheet: &[u8], at: usize) -> Option<i32>
     requires { at + 4 ≤ length sheet.now }
     ensures { result ≡ remaining_at sheet.now at }
 {
     if number::read_biased(sheet, at) == 0 {
-        return Remaining::Absent;
+        return None;
     }
-    Remaining::Minutes(number::read_i32(sheet, at))
+    Some(number::read_i32(sheet, at))
 }
 
 // The constraint at a place: its code, then its day.

@@ -33,20 +33,6 @@ pub enum Constraint {
     AsLateAsPossible,
 }
 
-// A day that a record may leave out.
-#[derive(Clone, Copy)]
-pub enum OptionalDate {
-    On(Date),
-    Absent,
-}
-
-// Minutes of work left that a record may leave out.
-#[derive(Clone, Copy)]
-pub enum Remaining {
-    Minutes(i32),
-    Absent,
-}
-
 #[derive(Clone, Copy)]
 pub struct Activity {
     pub id: u32,
@@ -54,13 +40,13 @@ pub struct Activity {
     pub calendar: u8,
     pub parent: u32,
     pub minutes: i32,
-    pub actual_start: OptionalDate,
-    pub actual_finish: OptionalDate,
-    pub remaining: Remaining,
-    pub expected_finish: OptionalDate,
+    pub actual_start: Option<Date>,
+    pub actual_finish: Option<Date>,
+    pub remaining: Option<i32>,
+    pub expected_finish: Option<Date>,
     pub constraint: Constraint,
     pub secondary_constraint: Constraint,
-    pub levelled: OptionalDate,
+    pub levelled: Option<Date>,
 }
 
 // Which ends a link ties.
@@ -125,8 +111,8 @@ pub enum CriticalBy {
 #[derive(Clone, Copy)]
 pub struct Project {
     pub start: Date,
-    pub data_date: OptionalDate,
-    pub must_finish_by: OptionalDate,
+    pub data_date: Option<Date>,
+    pub must_finish_by: Option<Date>,
     pub lag_calendar: LagCalendar,
     pub float_kind: FloatKind,
     pub progress_mode: ProgressMode,
@@ -191,13 +177,13 @@ pub fn bounds_start(constraint: Constraint) -> bool
 }
 
 // The status that two recorded days give an activity that is no summary.
-pub fn status_of(actual_start: OptionalDate, actual_finish: OptionalDate) -> Status
+pub fn status_of(actual_start: Option<Date>, actual_finish: Option<Date>) -> Status
     ensures { result ≡ status_of actual_start actual_finish }
 {
-    let OptionalDate::Absent = actual_finish else {
+    let None = actual_finish else {
         return Status::Completed;
     };
-    let OptionalDate::Absent = actual_start else {
+    let None = actual_start else {
         return Status::InProgress;
     };
     Status::NotStarted

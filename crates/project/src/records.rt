@@ -4,9 +4,10 @@ ghost use Rattle.project.specs.Records.{activity_at, relationship_at, project_at
 ghost use Rattle.project.specs.Status.{status_of};
 
 use crate::{
-    Activity, ActivityKind, Constraint, LagKind, OptionalDate, Project, Relationship,
-    RelationshipType, Remaining, Status, codes, fields, status_of,
+    Activity, ActivityKind, Constraint, LagKind, Project, Relationship, RelationshipType, Status,
+    codes, fields, status_of,
 };
+use date::Date;
 
 // ---- an activity
 pub fn read_id(sheet: &[u8], at: usize) -> u64
@@ -44,28 +45,28 @@ pub fn read_minutes(sheet: &[u8], at: usize) -> i32
     number::read_i32(sheet, at + 11)
 }
 
-pub fn read_actual_start(sheet: &[u8], at: usize) -> OptionalDate
+pub fn read_actual_start(sheet: &[u8], at: usize) -> Option<Date>
     requires { at + 45 ≤ length sheet.now }
     ensures { result ≡ (activity_at sheet.now at).actual_start }
 {
     fields::read_optional_date(sheet, at + 15)
 }
 
-pub fn read_actual_finish(sheet: &[u8], at: usize) -> OptionalDate
+pub fn read_actual_finish(sheet: &[u8], at: usize) -> Option<Date>
     requires { at + 45 ≤ length sheet.now }
     ensures { result ≡ (activity_at sheet.now at).actual_finish }
 {
     fields::read_optional_date(sheet, at + 19)
 }
 
-pub fn read_remaining_minutes(sheet: &[u8], at: usize) -> Remaining
+pub fn read_remaining_minutes(sheet: &[u8], at: usize) -> Option<i32>
     requires { at + 45 ≤ length sheet.now }
     ensures { result ≡ (activity_at sheet.now at).remaining }
 {
     fields::read_remaining(sheet, at + 23)
 }
 
-pub fn read_expected_finish(sheet: &[u8], at: usize) -> OptionalDate
+pub fn read_expected_finish(sheet: &[u8], at: usize) -> Option<Date>
     requires { at + 45 ≤ length sheet.now }
     ensures { result ≡ (activity_at sheet.now at).expected_finish }
 {
@@ -86,7 +87,7 @@ pub fn read_secondary_constraint(sheet: &[u8], at: usize) -> Constraint
     fields::read_constraint(sheet, at + 36)
 }
 
-pub fn read_levelled(sheet: &[u8], at: usize) -> OptionalDate
+pub fn read_levelled(sheet: &[u8], at: usize) -> Option<Date>
     requires { at + 45 ≤ length sheet.now }
     ensures { result ≡ (activity_at sheet.now at).levelled }
 {

@@ -1,17 +1,12 @@
 -- One law for each way to what is recorded of an activity and to its work left, and how much that can be.
-use Rattle.std.specs.Prelude.{◌≡◌, refl, Bool, true, false, ℕ, ◌-◌, ◌^◌, ◌<◌, max, ℤ}
+use Rattle.std.specs.Prelude.{◌≡◌, refl, Bool, true, false, ℕ, ◌-◌, ◌^◌, ◌<◌, max, ℤ, Result, Ok, Err, Option, Some, None}
+use Rattle.worktime.specs.declared.ClockError.{ClockError}
 use Rattle.std.proofs.Common.{sym, ◌∙◌, arith}
 use Rattle.std.proofs.Math.Path.{ap}
 use Rattle.number.specs.Zed.{up}
-use Rattle.worktime.specs.declared.Walk.TheVariants.{At, Refused}
-use Rattle.worktime.specs.declared.Work.{Work}
-use Rattle.worktime.specs.declared.Work.TheVariants.{Minutes}
 use Rattle.worktime.specs.Walks.{between}
 use Rattle.worktime.specs.Reads.{on_true, on_false}
 use Rattle.date.specs.declared.Date.{Date}
-use Rattle.project.specs.declared.OptionalDate.{OptionalDate}
-use Rattle.project.specs.declared.OptionalDate.TheVariants.{On, Absent}
-use Rattle.project.specs.declared.Remaining.{Remaining}
 use Rattle.project.specs.declared.Status.TheVariants.{NotStarted}
 use Rattle.project.specs.Status.{status_of}
 use Rattle.placing.specs.declared.Actual.{Actual}
@@ -26,12 +21,12 @@ use Rattle.dates.specs.Bounds.{ActualBelow, recorded_below}
 use Rattle.remaining.specs.Rows.{start_of, finish_of, settled_by}
 
 -- with neither day recorded work has not begun
-unstarted_by : (w : ℕ → Bool) (a b : OptionalDate) → status_of a b ≡ NotStarted → actual w a b ≡ Unstarted
+unstarted_by : (w : ℕ → Bool) (a b : Option Date) → status_of a b ≡ NotStarted → actual w a b ≡ Unstarted
 unfolding status_of actual
-unstarted_by w Absent Absent e = refl
-unstarted_by w (On d) Absent e = clash (cc)
-unstarted_by w Absent (On f) e = clash (cc)
-unstarted_by w (On d) (On f) e = clash (cc)
+unstarted_by w None None e = refl
+unstarted_by w (Some d) None e = clash (cc)
+unstarted_by w None (Some f) e = clash (cc)
+unstarted_by w (Some d) (Some f) e = clash (cc)
 
 module _ (p : Plan) (i : ℕ) where
   -- ---- what is recorded, and the minutes
@@ -59,41 +54,41 @@ module _ (p : Plan) (i : ℕ) where
   unfolding left_of
   left_is x e = ap (left_by p i) (sym e)
 
-  pub left_unstarted : recorded p i ≡ Unstarted → left_of p i ≡ At (full p i)
+  pub left_unstarted : recorded p i ≡ Unstarted → left_of p i ≡ Ok (full p i)
   left_unstarted e = left_is Unstarted (sym e)
 
   pub left_begun : (x : Actual) (s : ℕ) → x ≡ Begun s → left_by p i x ≡ still_left p i s (p.activity i).remaining
   left_begun x s e = ap (left_by p i) e
 
   pub left_settled : (x : Actual) (whole : ℕ) → whole ≡ full p i → ((s : ℕ) → x ≡ Begun s → ⊥) → left_by p i x ≡ settled_by x whole
-  left_settled Unstarted whole e n = ap At (sym e)
+  left_settled Unstarted whole e n = ap Ok (sym e)
   left_settled (Begun s) whole e n = absurd (n s refl)
   left_settled (Completed s f) whole e n = refl
   left_settled (Actual.Refused k) whole e n = refl
 
   -- a refusal leaves none
-  pub left_answers : (x : Actual) (m k : ℕ) → left_by p i x ≡ At m → x ≡ Actual.Refused k → ⊥
-  left_answers x m k e f = let d : Refused k ≡ At m = sym (ap (left_by p i) f) ∙ e in clash (cc)
+  pub left_answers : (x : Actual) (m : ℕ) (k : ClockError) → left_by p i x ≡ Ok m → x ≡ Actual.Refused k → ⊥
+  left_answers x m k e f = let d : Err k ≡ Ok m = sym (ap (left_by p i) f) ∙ e in clash (cc)
 
   -- ---- of work under way since s
   module _ (s : ℕ) where
-    pub still_told : (x : Remaining) (m : ℤ) → x ≡ Remaining.Minutes m → still_left p i s x ≡ At (to_minutes p m)
+    pub still_told : (x : Option ℤ) (m : ℤ) → x ≡ Some m → still_left p i s x ≡ Ok (to_minutes p m)
     still_told x m e = ap (still_left p i s) e
 
-    pub still_untold : (x : Remaining) → x ≡ Remaining.Absent → still_left p i s x ≡ since_start p i s p.project.data_date
+    pub still_untold : (x : Option ℤ) → x ≡ None → still_left p i s x ≡ since_start p i s p.project.data_date
     still_untold x e = ap (still_left p i s) e
 
-    pub since_none : (d : OptionalDate) (whole : ℕ) → d ≡ Absent → whole ≡ full p i → since_start p i s d ≡ At whole
-    since_none d whole e f = ap (since_start p i s) e ∙ ap At (sym f)
+    pub since_none : (d : Option Date) (whole : ℕ) → d ≡ None → whole ≡ full p i → since_start p i s d ≡ Ok whole
+    since_none d whole e f = ap (since_start p i s) e ∙ ap Ok (sym f)
 
-    pub since_done : (d : OptionalDate) (day : Date) (whole : ℕ) (z : ℤ) → d ≡ On day → whole ≡ full p i
-        → between (own p i) s (max (midnight_of day) s) ≡ Minutes z → since_start p i s d ≡ At (whole - up z)
+    pub since_done : (d : Option Date) (day : Date) (whole : ℕ) (z : ℤ) → d ≡ Some day → whole ≡ full p i
+        → between (own p i) s (max (midnight_of day) s) ≡ Ok z → since_start p i s d ≡ Ok (whole - up z)
     since_done d day whole z e f b =
-        ap (since_start p i s) e ∙ ap (λ (x : Work). counted Refused x (λ n. At (full p i - n))) b ∙ ap (λ (n : ℕ). At (n - up z)) (sym f)
+        ap (since_start p i s) e ∙ ap (λ (x : Result ℤ ClockError). counted Err x (λ n. Ok (full p i - n))) b ∙ ap (λ (n : ℕ). Ok (n - up z)) (sym f)
 
-    pub since_refused : (d : OptionalDate) (day : Date) (k : ℕ) → d ≡ On day → between (own p i) s (max (midnight_of day) s) ≡ Work.Refused k
-        → since_start p i s d ≡ Refused k
-    since_refused d day k e b = ap (since_start p i s) e ∙ ap (λ (x : Work). counted Refused x (λ n. At (full p i - n))) b
+    pub since_refused : (d : Option Date) (day : Date) (k : ClockError) → d ≡ Some day → between (own p i) s (max (midnight_of day) s) ≡ Err k
+        → since_start p i s d ≡ Err k
+    since_refused d day k e b = ap (since_start p i s) e ∙ ap (λ (x : Result ℤ ClockError). counted Err x (λ n. Ok (full p i - n))) b
 
 -- ---- how much it can be, and how late what is recorded
 pub start_below : (x : Actual) → ActualBelow x → start_of x < 2 ^ 63
@@ -111,23 +106,23 @@ finish_below (Actual.Refused k) h = omega arith
 pub is_below : (p : Plan) (i : ℕ) (x : Actual) → x ≡ recorded p i → ActualBelow x
 is_below p i x e = rw e (recorded_below p i)
 
-same_left : (m n : ℕ) → At n ≡ At m → n ≡ m
+same_left : (m n : ℕ) → ◌≡◌ {A = Result ℕ ClockError} (Ok n) (Ok m) → n ≡ m
 same_left m n e = cc
 
 module _ (p : Plan) (i : ℕ) (fits : full p i < 2 ^ 63) where
-  counted_below : (x : Work) (m : ℕ) → counted Refused x (λ n. At (full p i - n)) ≡ At m → m < 2 ^ 63
-  counted_below (Minutes z) m e = omega (arith, same_left m (full p i - up z) e)
-  counted_below (Work.Refused k) m e = clash (cc)
+  counted_below : (x : Result ℤ ClockError) (m : ℕ) → counted Err x (λ n. Ok (full p i - n)) ≡ Ok m → m < 2 ^ 63
+  counted_below (Ok z) m e = omega (arith, same_left m (full p i - up z) e)
+  counted_below (Err k) m e = clash (cc)
 
-  since_below : (s : ℕ) (d : OptionalDate) (m : ℕ) → since_start p i s d ≡ At m → m < 2 ^ 63
-  since_below s Absent m e = omega (arith, same_left m (full p i) e)
-  since_below s (On day) m e = counted_below (between (own p i) s (max (midnight_of day) s)) m e
+  since_below : (s : ℕ) (d : Option Date) (m : ℕ) → since_start p i s d ≡ Ok m → m < 2 ^ 63
+  since_below s None m e = omega (arith, same_left m (full p i) e)
+  since_below s (Some day) m e = counted_below (between (own p i) s (max (midnight_of day) s)) m e
 
-  still_below : (s : ℕ) (x : Remaining) (m : ℕ) → still_left p i s x ≡ At m → m < 2 ^ 63
-  still_below s (Remaining.Minutes z) m e = omega (arith, same_left m (to_minutes p z) e)
-  still_below s Remaining.Absent m e = since_below s p.project.data_date m e
+  still_below : (s : ℕ) (x : Option ℤ) (m : ℕ) → still_left p i s x ≡ Ok m → m < 2 ^ 63
+  still_below s (Some z) m e = omega (arith, same_left m (to_minutes p z) e)
+  still_below s None m e = since_below s p.project.data_date m e
 
-  pub left_below : (x : Actual) (m : ℕ) → left_by p i x ≡ At m → m < 2 ^ 63
+  pub left_below : (x : Actual) (m : ℕ) → left_by p i x ≡ Ok m → m < 2 ^ 63
   left_below Unstarted m e = omega (arith, same_left m (full p i) e)
   left_below (Begun s) m e = still_below s (p.activity i).remaining m e
   left_below (Completed s f) m e = omega (arith, same_left m 0 e)

@@ -1,12 +1,11 @@
 -- A row that is kept, one that is refused, and the rows of a loop over all activities.
-use Rattle.std.specs.Prelude.{◌≡◌, refl, ◌≢◌, pos}
+use Rattle.std.specs.Prelude.{◌≡◌, refl, ◌≢◌, pos, Result, Ok, Err}
+use Rattle.worktime.specs.declared.ClockError.{ClockError}
 use Rattle.std.proofs.Math.Path.{sym, ap}
 use Rattle.std.proofs.Common.{◌∙◌, arith, add-one}
 use Rattle.std.proofs.Math.Logic.{⊎_elim}
 use Prim.Native.Nat.{ℕ, zero, suc, ◌+◌, ◌≤◌, ◌<◌}
 use Rattle.number.specs.Order.{eq_or_ne}
-use Rattle.worktime.specs.declared.Walk.{Walk}
-use Rattle.worktime.specs.declared.Walk.TheVariants.{At, Refused}
 use Rattle.placing.specs.declared.Actual.{Actual}
 use Rattle.placing.specs.declared.Actual.TheVariants.{Unstarted, Begun, Completed}
 use Rattle.placing.specs.Placing.{via}
@@ -20,15 +19,13 @@ use Rattle.passes.specs.Plan.{recorded}
 use Rattle.passes.specs.Dates.{Pass, leaves, refused, put}
 use Rattle.passes.specs.Forward.{left_of, left_below}
 use Rattle.passes.specs.Run.{remaining}
-use Rattle.dates.specs.declared.Step.{Step}
-use Rattle.dates.specs.declared.Step.TheVariants.{Done}
 use Rattle.dates.specs.Columns.{left_in, ended}
 use Rattle.dates.specs.ColumnLaws.{column_none, column_same, column_more}
 use Rattle.dates.specs.Standing.{actual_of, actual_in, Recorded}
 use Rattle.remaining.specs.Rows.{how_of, start_of, finish_of, kept, left_to, Row, Passed}
 
 -- the three cells say what is recorded
-cells_are : (x : Actual) → ((k : ℕ) → x ≡ Actual.Refused k → ⊥) → actual_of (how_of x) (start_of x) (finish_of x) ≡ x
+cells_are : (x : Actual) → ((k : ClockError) → x ≡ Actual.Refused k → ⊥) → actual_of (how_of x) (start_of x) (finish_of x) ≡ x
 unfolding actual_of
 cells_are Unstarted n = refl
 cells_are (Begun s) n = refl
@@ -51,7 +48,7 @@ module _ (S : State) (i : ℕ) (x : Actual) (m : ℕ) where
   kept_left =
       column_more i (λ j. 0) work_left ended' m ∙ ap (λ (f : ℕ → ℕ). put f i m) (column_same i (λ j. 0) work_left S ended' refl)
 
-  kept_here : ((k : ℕ) → x ≡ Actual.Refused k → ⊥) → actual_in (kept S i x m) i ≡ x
+  kept_here : ((k : ClockError) → x ≡ Actual.Refused k → ⊥) → actual_in (kept S i x m) i ≡ x
   unfolding kept how began ended'
   kept_here n =
       (λ z.
@@ -88,20 +85,20 @@ kept_steps S T U X Y i x h s f m t u v w eh es ef =
 
 -- ---- the two ways of a row
 module _ (p : Plan) (i : ℕ) (S : State) where
-  pub row_kept : (T : State) (x : Actual) (m : ℕ) → T ≡ kept S i x m → x ≡ recorded p i → ((k : ℕ) → x ≡ Actual.Refused k → ⊥)
-      → left_of p i ≡ At m → Row p i S T Done
+  pub row_kept : (T : State) (x : Actual) (m : ℕ) → T ≡ kept S i x m → x ≡ recorded p i → ((k : ClockError) → x ≡ Actual.Refused k → ⊥)
+      → left_of p i ≡ Ok m → Row p i S T (Ok tt)
   row_kept T x m t e n l = record {
     left =
         ap (λ (U : State). leaves (left_to (i + 1) U)) t ∙ ap leaves (kept_left S i x m)
-        ∙ sym (ap (λ (w : Walk). via refused w (λ q. leaves (put (left_to i S) i q))) l);
+        ∙ sym (ap (λ (w : Result ℕ ClockError). via refused w (λ q. leaves (put (left_to i S) i q))) l);
     here = λ d. ap (λ (U : State). actual_in U i) t ∙ kept_here S i x m n ∙ e;
     others = λ j h. ap (λ (U : State). actual_in U j) t ∙ kept_others S i x m j h;
     frame = rw t (kept_frame S i x m);
   }
 
-  pub row_refused : (k : ℕ) → left_of p i ≡ Refused k → Row p i S S (Step.Refused k)
+  pub row_refused : (k : ClockError) → left_of p i ≡ Err k → Row p i S S (Err k)
   row_refused k l = record {
-    left = sym (ap (λ (w : Walk). via refused w (λ q. leaves (put (left_to i S) i q))) l);
+    left = sym (ap (λ (w : Result ℕ ClockError). via refused w (λ q. leaves (put (left_to i S) i q))) l);
     here = λ d. let z : ◌≡◌ {A = ℕ} 0 1 = cc in absurd (omega arith);
     others = λ j h. refl;
     frame = frame_refl 14 20 0 0 S;
@@ -113,7 +110,7 @@ module _ (p : Plan) where
   unfolding left_below
   passed_start S = record { left = ap leaves (sym (column_none (λ j. 0) S work_left)); recorded = λ j l. absurd (omega arith) }
 
-  module _ (i : ℕ) (S T : State) (P : Passed p i S) (r : Step) (R : Row p i S T r) where
+  module _ (i : ℕ) (S T : State) (P : Passed p i S) (r : Result Unit ClockError) (R : Row p i S T r) where
     next : left_below p (i + 1) ≡ ended (left_to (i + 1) T) r
     unfolding left_below
     next =
@@ -121,7 +118,7 @@ module _ (p : Plan) where
         ∙ ap (λ (x : Pass (ℕ → ℕ)). elim x [ leaves f ↦ via refused (left_of p i) (λ m. leaves (put f i m)) | refused k ↦ refused k ]) P.left
         ∙ sym R.left
 
-    pub passed_turn : r ≡ Done → Passed p (i + 1) T
+    pub passed_turn : r ≡ (Ok tt) → Passed p (i + 1) T
     passed_turn d = record {
       left = next ∙ ap (ended (left_to (i + 1) T)) d;
       recorded = λ j l.
@@ -131,7 +128,7 @@ module _ (p : Plan) where
         below : (j : ℕ) → j < i + 1 → j ≢ i → j < i
         below j l n = omega (arith, n)
 
-    stays : (k : ℕ) → r ≡ Step.Refused k → (n : ℕ) → i + 1 ≤ n → left_below p n ≡ refused k
+    stays : (k : ClockError) → r ≡ Err k → (n : ℕ) → i + 1 ≤ n → left_below p n ≡ refused k
     unfolding left_below
     stays k d zero l = absurd (omega arith)
     stays k d (suc n) l =
@@ -144,7 +141,7 @@ module _ (p : Plan) where
         above n l h = omega (arith, h)
 
     -- whatever stands in the memory then
-    pub passed_stop : (k : ℕ) → r ≡ Step.Refused k → i < p.activities → refused k ≡ left_below p p.activities
+    pub passed_stop : (k : ClockError) → r ≡ Err k → i < p.activities → refused k ≡ left_below p p.activities
     passed_stop k d l = sym (stays k d p.activities (omega arith))
 
   pub passed_end : (i : ℕ) (S : State) → i ≡ p.activities → Passed p i S → (leaves (left_in p S) ≡ remaining p) × Recorded p S

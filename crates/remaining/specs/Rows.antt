@@ -1,7 +1,6 @@
 -- What one activity's row holds once its recorded dates are placed and its work left is found.
-use Rattle.std.specs.Prelude.{◌≡◌, ◌≢◌, ℕ, ◌+◌, ◌<◌}
-use Rattle.worktime.specs.declared.Walk.{Walk}
-use Rattle.worktime.specs.declared.Walk.TheVariants.{At, Refused}
+use Rattle.std.specs.Prelude.{◌≡◌, ◌≢◌, ℕ, ◌+◌, ◌<◌, Result, Ok, Err}
+use Rattle.worktime.specs.declared.ClockError.{ClockError}
 use Rattle.placing.specs.declared.Actual.{Actual}
 use Rattle.placing.specs.declared.Actual.TheVariants.{Unstarted, Begun, Completed}
 use Rattle.placing.specs.Placing.{via}
@@ -12,8 +11,6 @@ use Rattle.order.specs.Plan.{Plan}
 use Rattle.passes.specs.Plan.{recorded}
 use Rattle.passes.specs.Dates.{leaves, refused, put}
 use Rattle.passes.specs.Forward.{left_of, left_below}
-use Rattle.dates.specs.declared.Step.{Step}
-use Rattle.dates.specs.declared.Step.TheVariants.{Done}
 use Rattle.dates.specs.Columns.{column, ended}
 use Rattle.dates.specs.Standing.{actual_in}
 
@@ -42,20 +39,20 @@ kept S i x left =
     put_act (put_act (put_act (put_act S recorded_as i (how_of x)) recorded_start i (start_of x)) recorded_finish i (finish_of x)) work_left i left
 
 -- the work left of `whole` minutes where work is not under way
-abbrev pub settled_by : Actual → ℕ → Walk
-settled_by Unstarted whole = At whole
-settled_by (Begun s) whole = At whole
-settled_by (Completed s f) whole = At 0
-settled_by (Actual.Refused k) whole = Refused k
+abbrev pub settled_by : Actual → ℕ → Result ℕ ClockError
+settled_by Unstarted whole = Ok whole
+settled_by (Begun s) whole = Ok whole
+settled_by (Completed s f) whole = Ok 0
+settled_by (Actual.Refused k) whole = Err k
 
 -- the work left of the first n activities, and none past them
 abbrev pub left_to : ℕ → State → ℕ → ℕ
 left_to n S = column n (λ i. 0) S work_left
 
 -- from S on activity i is done: T is what it leaves, and r what it answers
-pub record Row (p : Plan) (i : ℕ) (S T : State) (r : Step) : Type 0 where
+pub record Row (p : Plan) (i : ℕ) (S T : State) (r : Result Unit ClockError) : Type 0 where
   pub left : ended (left_to (i + 1) T) r ≡ via refused (left_of p i) (λ m. leaves (put (left_to i S) i m))
-  pub here : r ≡ Done → actual_in T i ≡ recorded p i
+  pub here : r ≡ (Ok tt) → actual_in T i ≡ recorded p i
   pub others : (j : ℕ) → j ≢ i → actual_in T j ≡ actual_in S j
   pub frame : Frame 14 20 0 0 S T
 

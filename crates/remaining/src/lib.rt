@@ -1,7 +1,7 @@
 // Before the forward pass: recorded dates are placed and the work left of each activity is found.
 #![tactic(auto)]
 
-ghost use Rattle.std.specs.Prelude.{◌≡◌, false, ◌-◌, ◌^◌, ◌<◌, max, min, length};
+ghost use Rattle.std.specs.Prelude.{◌≡◌, false, ◌-◌, ◌^◌, ◌<◌, max, min, length, Ok};
 ghost use Rattle.number.specs.Zed.{up};
 ghost use Rattle.sheet.specs.Known.{SheetRead};
 ghost use Rattle.memory.specs.State.{Room, state_of};
@@ -13,18 +13,16 @@ ghost use Rattle.passes.specs.Plan.{full};
 ghost use Rattle.passes.specs.Forward.{since_start, still_left, left_by};
 ghost use Rattle.passes.specs.Run.{remaining};
 ghost use Rattle.calendars.specs.Calendars.{IsCalendar, Places};
-ghost use Rattle.dates.specs.declared.Step.TheVariants.{Done};
 ghost use Rattle.dates.specs.Columns.{left_in, ended};
 ghost use Rattle.dates.specs.Standing.{Ready, Recorded};
 ghost use Rattle.dates.specs.Bounds.{ActualBelow};
 ghost use Rattle.remaining.specs.Rows.{how_of, start_of, finish_of, settled_by, kept, Row};
 
 use calendar::Period;
-use dates::Step;
 use placing::Actual;
-use project::{Activity, OptionalDate, Remaining, Status};
+use project::{Activity, Status};
 use sheet::Contents;
-use worktime::{Walk, Work};
+use worktime::ClockError;
 
 // The most minutes of work left that an activity may tell.
 const MOST: u64 = 144000000;
@@ -77,24 +75,16 @@ fn since_start(
     n: usize,
     start: u64,
     whole: u64,
-) -> Walk
+) -> Result<u64, ClockError>
     requires { SheetRead sheet.now contents × IsCalendar sheet.now contents (calendar_of (plan_of sheet.now contents) i) week at n × (whole ≡ full (plan_of sheet.now contents) i) }
     ensures { result ≡ since_start (plan_of sheet.now contents) i start (plan_of sheet.now contents).project.data_date }
 {
     match project::fields::read_optional_date(sheet, 5) {
-        OptionalDate::Absent => {
-            return Walk::At(whole);
-        }
-        OptionalDate::On(day) => {
+        None => Ok(whole),
+        Some(day) => {
             let by = later(day.midnight(), start);
-            match clock::between(week, sheet, at, n, start, by) {
-                Work::Minutes(done) => {
-                    return Walk::At(less(whole, number::sign::upward(done)));
-                }
-                Work::Refused(k) => {
-                    return Walk::Refused(k);
-                }
-            }
+            let done = clock::between(week, sheet, at, n, start, by)?;
+            Ok(less(whole, number::sign::upward(done)))
         }
     }
 }
@@ -110,30 +100,26 @@ fn still_left(
     n: usize,
     start: u64,
     whole: u64,
-) -> Walk
+) -> Result<u64, ClockError>
     requires { SheetRead sheet.now contents × (activity ≡ (plan_of sheet.now contents).activity i) × IsCalendar sheet.now contents (calendar_of (plan_of sheet.now contents) i) week at n × (whole ≡ full (plan_of sheet.now contents) i) }
     ensures { result ≡ still_left (plan_of sheet.now contents) i start ((plan_of sheet.now contents).activity i).remaining }
 {
     let told = activity.remaining;
     match told {
-        Remaining::Minutes(minutes) => {
-            return Walk::At(clamped(minutes));
-        }
-        Remaining::Absent => {
-            return since_start(sheet, contents, i, week, at, n, start, whole);
-        }
+        Some(minutes) => Ok(clamped(minutes)),
+        None => since_start(sheet, contents, i, week, at, n, start, whole),
     }
 }
 
 // The work left of work that is not under way: all of it, or none once completed.
-fn settled(actual: Actual, whole: u64) -> Walk
+fn settled(actual: Actual, whole: u64) -> Result<u64, ClockError>
     ensures { result ≡ settled_by actual whole }
 {
     match actual {
-        Actual::Unstarted => Walk::At(whole),
-        Actual::Begun(_) => Walk::At(whole),
-        Actual::Completed(_, _) => Walk::At(0),
-        Actual::Refused(k) => Walk::Refused(k),
+        Actual::Unstarted => Ok(whole),
+        Actual::Begun(_) => Ok(whole),
+        Actual::Completed(_, _) => Ok(0),
+        Actual::Refused(k) => Err(k),
     }
 }
 
@@ -148,7 +134,7 @@ fn left_of(
     n: usize,
     actual: Actual,
     whole: u64,
-) -> Walk
+) -> Result<u64, ClockError>
     requires { SheetRead sheet.now contents × (activity ≡ (plan_of sheet.now contents).activity i) × IsCalendar sheet.now contents (calendar_of (plan_of sheet.now contents) i) week at n × (whole ≡ full (plan_of sheet.now contents) i) }
     ensures { result ≡ left_by (plan_of sheet.now contents) i actual }
 {
@@ -226,7 +212,7 @@ fn record_dated(
     i: usize,
     activity: Activity,
     whole: u64,
-) -> Step
+) -> Result<(), ClockError>
     requires { SheetRead sheet.now contents × Places sheet.now contents places.now × Room contents.activities contents.links work.old × (i < contents.activities) × (activity ≡ (plan_of sheet.now contents).activity i) × (summary (plan_of sheet.now contents) i ≡ false) × (whole ≡ full (plan_of sheet.now contents) i) × (whole < 2 ^ 63) }
     ensures { Row (plan_of sheet.now contents) i (state_of contents.activities contents.links work.old) (state_of contents.activities contents.links work.new) result × (length work.new ≡ length work.old) }
 {
@@ -234,15 +220,9 @@ fn record_dated(
     let week = calendars::week_of(sheet, contents, places, k);
     let e = calendars::exceptions_of(sheet, contents, places, k);
     let actual = placing::dates::actual(activity, week, sheet, e.at, e.n);
-    match left_of(sheet, contents, i, activity, week, e.at, e.n, actual, whole) {
-        Walk::At(left) => {
-            keep(work, contents.activities, contents.links, i, actual, left);
-            return Step::Done;
-        }
-        Walk::Refused(r) => {
-            return Step::Refused(r);
-        }
-    }
+    let left = left_of(sheet, contents, i, activity, week, e.at, e.n, actual, whole)?;
+    keep(work, contents.activities, contents.links, i, actual, left);
+    Ok(())
 }
 
 // Activity `i`: a summary's dates are unread, and work of which nothing is recorded asks no calendar.
@@ -253,7 +233,7 @@ fn record_one(
     t: usize,
     work: &mut [i64],
     i: usize,
-) -> Step
+) -> Result<(), ClockError>
     requires { Ready sheet.now contents places.now t work.old × (i < contents.activities) }
     ensures { Row (plan_of sheet.now contents) i (state_of contents.activities contents.links work.old) (state_of contents.activities contents.links work.new) result × (length work.new ≡ length work.old) }
 {
@@ -262,7 +242,7 @@ fn record_one(
     let mark = memory::get_act(work, a, l, i, memory::fields::IS_SUMMARY);
     if mark != 0 {
         keep(work, a, l, i, Actual::Unstarted, 0);
-        return Step::Done;
+        return Ok(());
     }
     let activity = dates::activity_of(sheet, contents, i);
     let whole = minutes_of(activity.minutes);
@@ -273,7 +253,7 @@ fn record_one(
         return record_dated(sheet, contents, places, work, i, activity, whole);
     };
     keep(work, a, l, i, Actual::Unstarted, whole);
-    Step::Done
+    Ok(())
 }
 
 // Places the recorded dates and finds the work left of all activities, in sheet order.
@@ -283,20 +263,15 @@ pub fn remaining(
     places: &[u64],
     t: usize,
     work: &mut [i64],
-) -> Step
+) -> Result<(), ClockError>
     requires { Ready sheet.now contents places.now t work.old }
-    ensures { (ended (left_in (plan_of sheet.now contents) (state_of contents.activities contents.links work.new)) result ≡ remaining (plan_of sheet.now contents)) × (result ≡ Done → Recorded (plan_of sheet.now contents) (state_of contents.activities contents.links work.new)) × Frame 14 20 0 0 (state_of contents.activities contents.links work.old) (state_of contents.activities contents.links work.new) × (length work.new ≡ length work.old) }
+    ensures { (ended (left_in (plan_of sheet.now contents) (state_of contents.activities contents.links work.new)) result ≡ remaining (plan_of sheet.now contents)) × (result ≡ (Ok tt) → Recorded (plan_of sheet.now contents) (state_of contents.activities contents.links work.new)) × Frame 14 20 0 0 (state_of contents.activities contents.links work.old) (state_of contents.activities contents.links work.new) × (length work.new ≡ length work.old) }
 {
     let a = contents.activities;
     let mut i: usize = 0;
     while i < a {
-        match record_one(sheet, contents, places, t, work, i) {
-            Step::Done => {}
-            Step::Refused(k) => {
-                return Step::Refused(k);
-            }
-        }
+        record_one(sheet, contents, places, t, work, i)?;
         i += 1;
     }
-    Step::Done
+    Ok(())
 }

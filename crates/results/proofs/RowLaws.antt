@@ -1,5 +1,6 @@
 -- The rows of the memory give what the definition shows, one after the other.
-use Rattle.std.specs.Prelude.{◌≡◌, Bool, List, ltb, ℤ, length}
+use Rattle.std.specs.Prelude.{◌≡◌, Bool, List, ltb, ℤ, length, Result, Ok, Err}
+use Rattle.worktime.specs.declared.ClockError.{ClockError}
 use Rattle.std.proofs.Common.{sym, ◌∙◌, ⊎_elim, add-one, arith}
 use Rattle.std.proofs.Math.Path.{ap}
 use Prim.Native.Nat.{ℕ, zero, suc, ◌+◌, ◌≤◌, ◌<◌}
@@ -18,16 +19,12 @@ use Rattle.passes.specs.Dates.{Pass, leaves, refused}
 use Rattle.passes.specs.Floats.{day_of}
 use Rattle.passes.specs.Run.{Ran}
 use Rattle.calendars.specs.Calendars.{Lengths}
-use Rattle.dates.specs.declared.Step.{Step}
-use Rattle.dates.specs.declared.Step.TheVariants.{Done}
 use Rattle.dates.specs.Columns.{ended}
 use Rattle.dates.specs.Standing.{Ready, Recorded}
 use Rattle.dates.specs.FineLaws.{checked_fine}
 use Rattle.dates.specs.KeptLaws.{recorded_kept}
 use Rattle.results.specs.declared.Shown.{Shown}
 use Rattle.results.specs.declared.Times.{Times}
-use Rattle.results.specs.declared.Showing.{Showing}
-use Rattle.results.specs.declared.Showing.TheVariants.{Is}
 use Rattle.results.specs.Results.{shown, shown_below}
 use Rattle.results.specs.View.{ran_in, times_in, shown_to, put_shown}
 use Rattle.results.specs.ViewLaws.{times_in_lem, to_none, to_more}
@@ -88,10 +85,10 @@ module _ (p : Plan) where
         path = ap (ltb 0) (kept longest_path (omega arith)) z;
       }
 
-pub next_done : (S : State) (i : ℕ) (r : Showing) (x : Shown) (T : State) → r ≡ Is x → T ≡ put_shown S i x → ended (shown_to (i + 1) T) Done ≡ shown_next (showing r) (shown_to i S) i
+pub next_done : (S : State) (i : ℕ) (r : Result Shown ClockError) (x : Shown) (T : State) → r ≡ Ok x → T ≡ put_shown S i x → ended (shown_to (i + 1) T) (Ok tt) ≡ shown_next (showing r) (shown_to i S) i
 next_done S i r x T e f = rw (e, f) (ap leaves (to_more i S x))
 
-pub next_refused : (S : State) (i : ℕ) (r : Showing) (k : ℕ) (T : State) → r ≡ Showing.Refused k → ended (shown_to (i + 1) T) (Step.Refused k) ≡ shown_next (showing r) (shown_to i S) i
+pub next_refused : (S : State) (i : ℕ) (r : Result Shown ClockError) (k : ClockError) (T : State) → r ≡ Err k → ended (shown_to (i + 1) T) (Err k) ≡ shown_next (showing r) (shown_to i S) i
 next_refused S i r k T e = rw e
 
 pub shown_frame : (S : State) (i : ℕ) (x : Shown) → Frame 20 30 0 0 S (put_shown S i x)
@@ -108,7 +105,7 @@ shown_frame S i x =
     (by shown_finish (omega arith) (omega arith) _ _ (frame_put 20 30 0 0 shown_start (omega arith) (omega arith) S i _)))))))))
 
 -- a refusal stays one, whatever comes after
-below_refused : (p : Plan) (r : Ran) (k n : ℕ) → shown_below p r n ≡ refused k → (m : ℕ) → n ≤ m → shown_below p r m ≡ refused k
+below_refused : (p : Plan) (r : Ran) (k : ClockError) (n : ℕ) → shown_below p r n ≡ refused k → (m : ℕ) → n ≤ m → shown_below p r m ≡ refused k
 unfolding shown_below
 below_refused p r k n e zero l = let z : n ≡ 0 = omega arith in rw z at e
 below_refused p r k n e (suc m) l =
@@ -128,10 +125,10 @@ module _ (p : Plan) (r : Ran) where
     unfolding shown_below
     on = rw (add-one n, W)
 
-    pub so_more : (g : ℕ → Shown) (a : Step) → ended g a ≡ shown_next (shown p r n) f n → a ≡ Done → ShownSo g (n + 1)
+    pub so_more : (g : ℕ → Shown) (a : Result Unit ClockError) → ended g a ≡ shown_next (shown p r n) f n → a ≡ (Ok tt) → ShownSo g (n + 1)
     so_more g a e d = on ∙ sym e ∙ ap (ended g) d
 
-    pub so_stop : (g h : ℕ → Shown) (k m : ℕ) → ended g (Step.Refused k) ≡ shown_next (shown p r n) f n → n + 1 ≤ m → ended h (Step.Refused k) ≡ shown_below p r m
+    pub so_stop : (g h : ℕ → Shown) (k : ClockError) (m : ℕ) → ended g (Err k) ≡ shown_next (shown p r n) f n → n + 1 ≤ m → ended h (Err k) ≡ shown_below p r m
     so_stop g h k m e l = sym (below_refused p r k (n + 1) (on ∙ sym e) m l)
 
 -- ---- the parts of a row in hand
@@ -150,22 +147,22 @@ module _ (p : Plan) (S₀ : State) where
   pub shows_start : Shows p S₀ S₀ 0
   shows_start = record { frame = frame_refl 20 30 0 0 S₀; so = λ e other. so_none p (ran_in p S₀ e other) S₀ }
 
-  module _ (S T : State) (i : ℕ) (W : Shows p S₀ S i) (b : i < p.activities) (r : Step)
+  module _ (S T : State) (i : ℕ) (W : Shows p S₀ S i) (b : i < p.activities) (r : Result Unit ClockError)
       (h : ended (shown_to (i + 1) T) r ≡ shown_next (row_shown p S i) (shown_to i S) i) where
     by_ran : (e : ℕ) (other : ℕ → Bool) → ended (shown_to (i + 1) T) r ≡ shown_next (shown p (ran_in p S₀ e other) i) (shown_to i S) i
     by_ran e other =
         h ∙ ap (λ (x : Pass Shown). shown_next x (shown_to i S) i) (row_kept p (omega arith) W.frame i ∙ row_shown_lem p S₀ e other i b)
 
-    pub shows_turn : Frame 20 30 0 0 S T → r ≡ Done → Shows p S₀ T (i + 1)
+    pub shows_turn : Frame 20 30 0 0 S T → r ≡ (Ok tt) → Shows p S₀ T (i + 1)
     shows_turn F d = record {
       frame = frame_then 20 30 0 0 W.frame F;
       so = λ e other. so_more p (ran_in p S₀ e other) (shown_to i S) i (W.so e other) (shown_to (i + 1) T) r (by_ran e other) d;
     }
 
-    pub shows_stop : (k : ℕ) → r ≡ Step.Refused k → (f : ℕ → Shown) (e : ℕ) (other : ℕ → Bool) → ended f (Step.Refused k) ≡ shown_below p (ran_in p S₀ e other) p.activities
+    pub shows_stop : (k : ClockError) → r ≡ Err k → (f : ℕ → Shown) (e : ℕ) (other : ℕ → Bool) → ended f (Err k) ≡ shown_below p (ran_in p S₀ e other) p.activities
     shows_stop k d f e other =
         so_stop p (ran_in p S₀ e other) (shown_to i S) i (W.so e other) (shown_to (i + 1) T) f k p.activities
         (ap (ended (shown_to (i + 1) T)) (sym d) ∙ by_ran e other) (omega arith)
 
-  pub shows_end : (S : State) (i : ℕ) → Shows p S₀ S i → i ≡ p.activities → (e : ℕ) (other : ℕ → Bool) → ended (shown_to p.activities S) Done ≡ shown_below p (ran_in p S₀ e other) p.activities
+  pub shows_end : (S : State) (i : ℕ) → Shows p S₀ S i → i ≡ p.activities → (e : ℕ) (other : ℕ → Bool) → ended (shown_to p.activities S) (Ok tt) ≡ shown_below p (ran_in p S₀ e other) p.activities
   shows_end S i W d e other = sym (rw d at (W.so e other))

@@ -1,5 +1,7 @@
 -- What is shown of an activity is what its parts give.
-use Rattle.std.specs.Prelude.{◌≡◌, refl, Bool, ◌&&◌, not, pos, nat_abs, ◌*ℤ◌}
+use Rattle.std.specs.Prelude.{◌≡◌, refl, Bool, ◌&&◌, not, pos, nat_abs, ◌*ℤ◌, Result, Ok, Err}
+use Rattle.worktime.specs.declared.ClockError.{ClockError}
+use Rattle.worktime.specs.declared.ClockError.TheVariants.{TooLong}
 use Rattle.std.proofs.Math.Path.{sym}
 use Rattle.std.proofs.Common.{ap, ◌∙◌, arith, mul-le-mul, to_z-of_z, SFits, to_z, of_z}
 use Rattle.std.proofs.Math.Bool.{true, false}
@@ -11,9 +13,7 @@ use Rattle.number.specs.ZedLaws.{abs_is, up_fits, dn_fits}
 use Rattle.number.specs.QuotLaws.{abs_mul, fits_abs}
 use Rattle.number.specs.Tests.{and_both}
 use Rattle.date.specs.Years.{in_years, years_in}
-use Rattle.worktime.specs.declared.Work.{Work}
-use Rattle.worktime.specs.declared.Work.TheVariants.{Minutes}
-use Rattle.worktime.specs.Walks.{too_long, reads, between}
+use Rattle.worktime.specs.Walks.{reads, between}
 use Rattle.project.specs.declared.ActivityKind.{ActivityKind}
 use Rattle.project.specs.declared.ActivityKind.TheVariants.{Task, StartMilestone, FinishMilestone}
 use Rattle.project.specs.declared.FloatKind.{FloatKind}
@@ -34,11 +34,11 @@ use Rattle.results.specs.View.{times_of}
 use Rattle.results.specs.Showing.{all_in_years, readable, critical_in, total_work, days_of, critical_of, shown_of, shown_by, shown_from}
 
 -- two counts of worked minutes, joined
-measured_two : (x y : Work) (h : ℤ → ℤ → ℤ) (go : ℤ → Pass Shown)
-    → measured refused (measured Work.Refused x (λ a. measured Work.Refused y (λ b. Minutes (h a b)))) go ≡ measured refused x (λ a. measured refused y (λ b. go (h a b)))
-measured_two (Minutes a) (Minutes b) h go = refl
-measured_two (Minutes a) (Work.Refused k) h go = refl
-measured_two (Work.Refused k) y h go = refl
+measured_two : (x y : Result ℤ ClockError) (h : ℤ → ℤ → ℤ) (go : ℤ → Pass Shown)
+    → measured refused (measured Err x (λ a. measured Err y (λ b. Ok (h a b)))) go ≡ measured refused x (λ a. measured refused y (λ b. go (h a b)))
+measured_two (Ok a) (Ok b) h go = refl
+measured_two (Ok a) (Err k) h go = refl
+measured_two (Err k) y h go = refl
 
 -- four days in turn, or all at once
 four_days : (ef es ls lf : ℕ) (go : ℕ → ℕ → ℕ → ℕ → Pass Shown)
@@ -51,10 +51,10 @@ four_days ef es ls lf go = by (in_years (ef / 1440)) (in_years (es / 1440)) (in_
         → ◌≡◌ {A = Pass Shown} (readable (a && b && c && d) x)
         (elim a [
           | true ↦ elim b [
-            | true ↦ elim c [ true ↦ elim d [ true ↦ x | false ↦ refused too_long ] | false ↦ refused too_long ]
-            | false ↦ refused too_long
+            | true ↦ elim c [ true ↦ elim d [ true ↦ x | false ↦ refused TooLong ] | false ↦ refused TooLong ]
+            | false ↦ refused TooLong
           ]
-          | false ↦ refused too_long
+          | false ↦ refused TooLong
         ])
     by true true true true x = refl
     by true true true false x = refl
@@ -114,15 +114,15 @@ module _ (d : Days) where
 
 -- ---- the ways of the total float
 module _ (p : Plan) (w : ℕ → Bool) (kind : FloatKind) (a : Actual) (t : Times) where
-  pub total_both : (f s : ℤ) → between w t.ef t.lf ≡ Minutes f → between w t.es t.ls ≡ Minutes s → Minutes (total_by a (float_by p kind f s)) ≡ total_work p w kind a t
+  pub total_both : (f s : ℤ) → between w t.ef t.lf ≡ Ok f → between w t.es t.ls ≡ Ok s → Ok (total_by a (float_by p kind f s)) ≡ total_work p w kind a t
   unfolding total_work
   total_both f s d e = rw (d, e)
 
-  pub total_finish : (k : ℕ) → between w t.ef t.lf ≡ Work.Refused k → Work.Refused k ≡ total_work p w kind a t
+  pub total_finish : (k : ClockError) → between w t.ef t.lf ≡ Err k → Err k ≡ total_work p w kind a t
   unfolding total_work
   total_finish k d = rw d
 
-  pub total_start : (f : ℤ) (k : ℕ) → between w t.ef t.lf ≡ Minutes f → between w t.es t.ls ≡ Work.Refused k → Work.Refused k ≡ total_work p w kind a t
+  pub total_start : (f : ℤ) (k : ClockError) → between w t.ef t.lf ≡ Ok f → between w t.es t.ls ≡ Err k → Err k ≡ total_work p w kind a t
   unfolding total_work
   total_start f k d e = rw (d, e)
 
@@ -144,17 +144,17 @@ module _ (days : ℤ) (day_length : ℕ) (f : SFits w32 days) (l : day_length �
 
 -- ---- the ways of what is shown
 module _ (p : Plan) (project : Project) (kind : ActivityKind) (day_length : ℕ) (w : ℕ → Bool) (a : Actual) (t : Times) where
-  pub shown_refused : (k : ℕ) → total_work p w project.float_kind a t ≡ Work.Refused k → refused k ≡ shown_from p project kind day_length w a t
+  pub shown_refused : (k : ClockError) → total_work p w project.float_kind a t ≡ Err k → refused k ≡ shown_from p project kind day_length w a t
   unfolding shown_from
   shown_refused k e = rw e
 
-  pub shown_out : (z : ℤ) (d : Days) → total_work p w project.float_kind a t ≡ Minutes z → d ≡ days_of p kind a t → all_in_years d ≡ false → refused too_long ≡ shown_from p project kind day_length w a t
+  pub shown_out : (z : ℤ) (d : Days) → total_work p w project.float_kind a t ≡ Ok z → d ≡ days_of p kind a t → all_in_years d ≡ false → refused TooLong ≡ shown_from p project kind day_length w a t
   unfolding shown_from
   shown_out z d e f g =
       let h : all_in_years (days_of p kind a t) ≡ false = rw f at g in
       rw e (sym (ap (λ (b : Bool). readable b (leaves (shown_of p (days_of p kind a t) z (critical_of p a project.critical_by day_length z t.path) t))) h))
 
-  pub shown_in_lem : (z : ℤ) (d : Days) (critical : Bool) → total_work p w project.float_kind a t ≡ Minutes z → d ≡ days_of p kind a t → all_in_years d ≡ true
+  pub shown_in_lem : (z : ℤ) (d : Days) (critical : Bool) → total_work p w project.float_kind a t ≡ Ok z → d ≡ days_of p kind a t → all_in_years d ≡ true
       → critical ≡ critical_of p a project.critical_by day_length z t.path → leaves (shown_of p d z critical t) ≡ shown_from p project kind day_length w a t
   unfolding shown_from
   shown_in_lem z d critical e f g k =

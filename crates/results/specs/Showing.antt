@@ -1,10 +1,10 @@
 -- What is shown of an activity, in the parts that the code computes: its total float, its four days and whether it is critical.
-use Rattle.std.specs.Prelude.{Bool, true, false, ◌&&◌, not, ℕ, ◌/◌, ◌<◌, ◌^◌, ℤ, pos, ◌*ℤ◌}
+use Rattle.std.specs.Prelude.{Bool, true, false, ◌&&◌, not, ℕ, ◌/◌, ◌<◌, ◌^◌, ℤ, pos, ◌*ℤ◌, Result, Ok, Err}
+use Rattle.worktime.specs.declared.ClockError.{ClockError}
+use Rattle.worktime.specs.declared.ClockError.TheVariants.{TooLong}
 use Rattle.std.specs.Int.Signed.{le_z}
 use Rattle.date.specs.Years.{in_years}
-use Rattle.worktime.specs.declared.Work.{Work}
-use Rattle.worktime.specs.declared.Work.TheVariants.{Minutes}
-use Rattle.worktime.specs.Walks.{too_long, between}
+use Rattle.worktime.specs.Walks.{between}
 use Rattle.project.specs.declared.ActivityKind.{ActivityKind}
 use Rattle.project.specs.declared.FloatKind.{FloatKind}
 use Rattle.project.specs.declared.CriticalBy.{CriticalBy}
@@ -18,14 +18,12 @@ use Rattle.passes.specs.Floats.{measured, float_by, is_completed}
 use Rattle.results.specs.declared.Shown.{Shown}
 use Rattle.results.specs.declared.Times.{Times}
 use Rattle.results.specs.declared.Days.{Days}
-use Rattle.results.specs.declared.Showing.{Showing}
-use Rattle.results.specs.declared.Showing.TheVariants.{Is}
 use Rattle.results.specs.Results.{start_minute, finish_minute, total_by}
 
 -- the code's answer as the definition's
-abbrev pub showing : Showing → Pass Shown
-showing (Is x) = leaves x
-showing (Showing.Refused k) = refused k
+abbrev pub showing : Result Shown ClockError → Pass Shown
+showing (Ok x) = leaves x
+showing (Err k) = refused k
 
 -- what memory can hold
 pub record Holds (x : Shown) : Type 0 where
@@ -43,9 +41,9 @@ pub record DaysHold (d : Days) : Type 0 where
   pub ls : d.ls < 2 ^ 63
   pub lf : d.lf < 2 ^ 63
 
-abbrev pub HoldsIf : Showing → Type 0
-HoldsIf (Is x) = Holds x
-HoldsIf (Showing.Refused k) = Unit {0}
+abbrev pub HoldsIf : Result Shown ClockError → Type 0
+HoldsIf (Ok x) = Holds x
+HoldsIf (Err k) = Unit {0}
 
 -- all four days lie in the years that may be read
 abbrev pub all_in_years : Days → Bool
@@ -54,7 +52,7 @@ all_in_years d = in_years d.ef && in_years d.es && in_years d.ls && in_years d.l
 -- x, where the days may be read
 abbrev pub readable : Bool → Pass Shown → Pass Shown
 readable true x = x
-readable false x = refused too_long
+readable false x = refused TooLong
 
 -- what is critical, by the day length
 abbrev pub critical_in : CriticalBy → ℕ → ℤ → Bool → Bool
@@ -63,10 +61,10 @@ critical_in LongestPath day_length total path = path
 
 -- none of these asks anything of the plan p
 module _ (p : Plan) where
-  unfoldable pub total_work : (ℕ → Bool) → FloatKind → Actual → Times → Work
+  unfoldable pub total_work : (ℕ → Bool) → FloatKind → Actual → Times → Result ℤ ClockError
   total_work w kind a t =
-      measured Work.Refused (between w t.ef t.lf)
-      (λ finish_float. measured Work.Refused (between w t.es t.ls) (λ start_float. Minutes (total_by a (float_by p kind finish_float start_float))))
+      measured Err (between w t.ef t.lf)
+      (λ finish_float. measured Err (between w t.es t.ls) (λ start_float. Ok (total_by a (float_by p kind finish_float start_float))))
 
   abbrev pub days_of : ActivityKind → Actual → Times → Days
   days_of kind a t = record {

@@ -17,11 +17,10 @@ ghost use Rattle.results.specs.View.{ran_in, shown_to, shown_at, days_in, times_
 ghost use Rattle.results.specs.Showing.{Holds, DaysHold, HoldsIf, showing, all_in_years, critical_in, total_work, days_of, critical_of, shown_from};
 
 use calendar::Period;
-use dates::Step;
 use placing::Actual;
 use project::{ActivityKind, CriticalBy, FloatKind, Project};
 use sheet::Contents;
-use worktime::Work;
+use worktime::ClockError;
 
 // Days counted from the first that an i32 can name, floats in minutes, and for the roll-up the early and the late finish.
 #[derive(Clone, Copy)]
@@ -36,13 +35,6 @@ pub struct Shown {
     pub path: bool,
     pub finish: u64,
     pub late: u64,
-}
-
-// What is shown of an activity, or the refusal of a walk.
-#[derive(Clone, Copy)]
-pub enum Showing {
-    Is(Shown),
-    Refused(u64),
 }
 
 // What the passes leave of an activity.
@@ -98,17 +90,13 @@ fn total_of(
     sheet: &[u8],
     at: usize,
     n: usize,
-) -> Work
+) -> Result<i64, ClockError>
     requires { Valid week sheet.now at n }
     ensures { (p : Plan) → result ≡ total_work p (worked_on week sheet.now at n) kind actual t }
 {
-    match clock::between(week, sheet, at, n, t.ef, t.lf) {
-        Work::Minutes(finish) => match clock::between(week, sheet, at, n, t.es, t.ls) {
-            Work::Minutes(start) => Work::Minutes(total_by(actual, float_by(kind, finish, start))),
-            Work::Refused(k) => Work::Refused(k),
-        },
-        Work::Refused(k) => Work::Refused(k),
-    }
+    let finish = clock::between(week, sheet, at, n, t.ef, t.lf)?;
+    let start = clock::between(week, sheet, at, n, t.es, t.ls)?;
+    Ok(total_by(actual, float_by(kind, finish, start)))
 }
 
 // ---- days
@@ -218,36 +206,30 @@ fn shown_of(
     sheet: &[u8],
     at: usize,
     n: usize,
-) -> Showing
+) -> Result<Shown, ClockError>
     requires { Valid week sheet.now at n × (day_length ≤ 1440) × (t.ef < 2 ^ 63) × (t.lf < 2 ^ 63) × (t.free < 2 ^ 63) }
     ensures { ((p : Plan) → showing result ≡ shown_from p project kind day_length (worked_on week sheet.now at n) actual t) × HoldsIf result }
 {
     let float = project.float_kind;
     let by = project.critical_by;
-    match total_of(float, actual, t, week, sheet, at, n) {
-        Work::Minutes(total) => {
-            let days = days_of(kind, actual, t);
-            if all_in_years(days) {
-                let critical = critical_of(actual, by, day_length, total, t.path);
-                return Showing::Is(Shown {
-                    es: days.es,
-                    ef: days.ef,
-                    ls: days.ls,
-                    lf: days.lf,
-                    total,
-                    free: t.free,
-                    critical,
-                    path: t.path,
-                    finish: t.ef,
-                    late: t.lf,
-                });
-            }
-            return Showing::Refused(clock::TOO_LONG);
-        }
-        Work::Refused(k) => {
-            return Showing::Refused(k);
-        }
+    let total = total_of(float, actual, t, week, sheet, at, n)?;
+    let days = days_of(kind, actual, t);
+    if all_in_years(days) {
+        let critical = critical_of(actual, by, day_length, total, t.path);
+        return Ok(Shown {
+            es: days.es,
+            ef: days.ef,
+            ls: days.ls,
+            lf: days.lf,
+            total,
+            free: t.free,
+            critical,
+            path: t.path,
+            finish: t.ef,
+            late: t.lf,
+        });
     }
+    Err(ClockError::TooLong)
 }
 
 // ---- an activity's row of the memory
@@ -374,7 +356,7 @@ fn row_of(
     project: Project,
     work: &[i64],
     i: usize,
-) -> Showing
+) -> Result<Shown, ClockError>
     requires { ToShow sheet.now contents places.now lengths.now work.now × (i < contents.activities) × (project ≡ (plan_of sheet.now contents).project) }
     ensures { (showing result ≡ row_shown (plan_of sheet.now contents) (state_of contents.activities contents.links work.now) i) × HoldsIf result }
 {
@@ -397,20 +379,14 @@ fn show_one(
     project: Project,
     work: &mut [i64],
     i: usize,
-) -> Step
+) -> Result<(), ClockError>
     requires { ToShow sheet.now contents places.now lengths.now work.old × (i < contents.activities) × (project ≡ (plan_of sheet.now contents).project) }
     ensures { (ended (shown_to (i + 1) (state_of contents.activities contents.links work.new)) result ≡ shown_next (row_shown (plan_of sheet.now contents) (state_of contents.activities contents.links work.old) i) (shown_to i (state_of contents.activities contents.links work.old)) i) × Frame 20 30 0 0 (state_of contents.activities contents.links work.old) (state_of contents.activities contents.links work.new) × (length work.new ≡ length work.old) }
 {
     let row = row_of(sheet, contents, places, lengths, project, work, i);
-    match row {
-        Showing::Is(x) => {
-            put_shown(work, contents.activities, contents.links, i, x);
-            return Step::Done;
-        }
-        Showing::Refused(k) => {
-            return Step::Refused(k);
-        }
-    }
+    let x = row?;
+    put_shown(work, contents.activities, contents.links, i, x);
+    Ok(())
 }
 
 // Puts what is shown of each activity into its row, in sheet order.
@@ -420,7 +396,7 @@ pub fn show_all(
     places: &[u64],
     lengths: &[u64],
     work: &mut [i64],
-) -> Step
+) -> Result<(), ClockError>
     requires { ToShow sheet.now contents places.now lengths.now work.old }
     ensures { ((e : ℕ) (other : ℕ → Bool) → ended (shown_to contents.activities (state_of contents.activities contents.links work.new)) result ≡ shown_below (plan_of sheet.now contents) (ran_in (plan_of sheet.now contents) (state_of contents.activities contents.links work.old) e other) contents.activities) × Frame 20 30 0 0 (state_of contents.activities contents.links work.old) (state_of contents.activities contents.links work.new) × (length work.new ≡ length work.old) }
 {
@@ -428,13 +404,8 @@ pub fn show_all(
     let mut i: usize = 0;
     while i < contents.activities {
         let step = show_one(sheet, contents, places, lengths, project, work, i);
-        match step {
-            Step::Refused(k) => {
-                return Step::Refused(k);
-            }
-            Step::Done => {}
-        }
+        step?;
         i += 1;
     }
-    Step::Done
+    Ok(())
 }

@@ -1,5 +1,6 @@
 -- The preparation gives the roll-up what it needs.
-use Rattle.std.specs.Prelude.{◌≡◌, Bool, List, eqb, ltb, ℤ}
+use Rattle.std.specs.Prelude.{◌≡◌, Bool, List, eqb, ltb, ℤ, Result, Ok, Err}
+use Rattle.worktime.specs.declared.ClockError.{ClockError}
 use Rattle.std.proofs.Math.Path.{refl, ap}
 use Rattle.std.proofs.Common.{sym, ◌∙◌, subst, arith}
 use Rattle.std.proofs.Math.Bool.{true, false}
@@ -17,8 +18,6 @@ use Rattle.order.specs.ParentLaws.{parent_le}
 use Rattle.order.specs.Ids.{parent_of, summary}
 use Rattle.passes.specs.Dates.{Pass, after, through}
 use Rattle.passes.specs.Run.{Ran}
-use Rattle.dates.specs.declared.Step.{Step}
-use Rattle.dates.specs.declared.Step.TheVariants.{Done}
 use Rattle.dates.specs.Columns.{ended}
 use Rattle.dates.specs.Standing.{Ready}
 use Rattle.dates.specs.FineLaws.{checked_fine}
@@ -124,10 +123,10 @@ to_roll {s} {c} R = record {
 }
 
 module _ (p : Plan) (r : Ran) where
-  pub results_stop : (f g : ℕ → Shown) (a : Step) (k : ℕ) → ended f a ≡ shown_below p r p.activities → a ≡ Step.Refused k → ended g (Step.Refused k) ≡ results p r
+  pub results_stop : (f g : ℕ → Shown) (a : Result Unit ClockError) (k : ClockError) → ended f a ≡ shown_below p r p.activities → a ≡ Err k → ended g (Err k) ≡ results p r
   unfolding results
   results_stop f g a k e d = ap (λ (x : Pass (ℕ → Shown)). after x (through (rolled p r) (deepest_first p r p.activities))) (ap (ended f) (sym d) ∙ e)
 
-  pub results_on : (f g : ℕ → Shown) (a b : Step) → ended f a ≡ shown_below p r p.activities → a ≡ Done → ended g b ≡ through (rolled p r) (deepest_first p r p.activities) f → ended g b ≡ results p r
+  pub results_on : (f g : ℕ → Shown) (a b : Result Unit ClockError) → ended f a ≡ shown_below p r p.activities → a ≡ (Ok tt) → ended g b ≡ through (rolled p r) (deepest_first p r p.activities) f → ended g b ≡ results p r
   unfolding results
   results_on f g a b e d h = h ∙ ap (λ (x : Pass (ℕ → Shown)). after x (through (rolled p r) (deepest_first p r p.activities))) (ap (ended f) (sym d) ∙ e)

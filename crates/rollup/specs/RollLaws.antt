@@ -9,8 +9,6 @@ use Rattle.std.proofs.Math.Dec.{eqb}
 use Rattle.number.specs.Bit.{bit}
 use Rattle.cells.specs.Chain.{keyed, after, Stands}
 use Rattle.cells.specs.ChainLaws.{after_hit, after_end}
-use Rattle.worktime.specs.declared.Work.{Work}
-use Rattle.worktime.specs.declared.Work.TheVariants.{Minutes}
 use Rattle.worktime.specs.Walks.{between}
 use Rattle.memory.specs.State.{State}
 use Rattle.memory.specs.Fields.{parent, is_summary, depth_of, first_child}

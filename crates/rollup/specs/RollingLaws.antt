@@ -1,5 +1,6 @@
 -- The turns of the roll-up.
-use Rattle.std.specs.Prelude.{◌≡◌, refl, Bool, true, false, ◌&&◌, eqb, ℤ}
+use Rattle.std.specs.Prelude.{◌≡◌, refl, Bool, true, false, ◌&&◌, eqb, ℤ, Result, Ok, Err}
+use Rattle.worktime.specs.declared.ClockError.{ClockError}
 use Rattle.std.proofs.Math.Path.{sym, ap}
 use Rattle.std.proofs.Common.{◌∙◌, subst}
 use mathlib.Core.List.{List, [], ◌∷◌, ◌++◌}
@@ -7,8 +8,6 @@ use Prim.Native.Nat.{ℕ, zero, suc, ◌+◌, ◌-◌, ◌≤◌, ◌<◌}
 use native.Mathlib.Omega.{arith}
 use Rattle.cells.specs.Chain.{after, Stands}
 use Rattle.cells.specs.ChainLaws.{after_hit, after_end}
-use Rattle.worktime.specs.declared.Work.{Work}
-use Rattle.worktime.specs.declared.Work.TheVariants.{Minutes}
 use Rattle.worktime.specs.Walks.{between}
 use Rattle.memory.specs.State.{State}
 use Rattle.memory.specs.Fields.{parent, depth_of, first_deep, next_deep, first_child, next_child}
@@ -21,12 +20,8 @@ use Rattle.passes.specs.Dates.{Pass, leaves, refused, put, through}
 use Rattle.passes.specs.Dates as pass
 use Rattle.passes.specs.Floats.{measured, day_of}
 use Rattle.passes.specs.Run.{Ran}
-use Rattle.dates.specs.declared.Step.{Step}
-use Rattle.dates.specs.declared.Step.TheVariants.{Done}
 use Rattle.dates.specs.Columns.{ended}
 use Rattle.results.specs.declared.Shown.{Shown}
-use Rattle.results.specs.declared.Showing.{Showing}
-use Rattle.results.specs.declared.Showing.TheVariants.{Is}
 use Rattle.results.specs.Results.{summaries_at, deepest_first, rolled}
 use Rattle.results.specs.View.{shown_to, shown_in, put_shown}
 use Rattle.results.specs.ViewLaws.{to_put}
@@ -39,12 +34,12 @@ use Rattle.rollup.specs.Rolling.{deep_of, Deep, summed_pass}
 abbrev pub put_pass : Pass Shown → (ℕ → Shown) → ℕ → Pass (ℕ → Shown)
 put_pass x f s = pass.after x (λ y. leaves (put f s y))
 
-measured_put : (w : Work) (g : ℤ → Shown) (f : ℕ → Shown) (s : ℕ) → put_pass (measured refused w (λ t. leaves (g t))) f s ≡ measured refused w (λ t. leaves (put f s (g t)))
-measured_put (Minutes z) g f s = refl
-measured_put (Work.Refused k) g f s = refl
+measured_put : (w : Result ℤ ClockError) (g : ℤ → Shown) (f : ℕ → Shown) (s : ℕ) → put_pass (measured refused w (λ t. leaves (g t))) f s ≡ measured refused w (λ t. leaves (put f s (g t)))
+measured_put (Ok z) g f s = refl
+measured_put (Err k) g f s = refl
 
 module _ (p : Plan) (S : State) (D : Deep p S) (s : ℕ) (b : s < p.activities) where
-  pub one_none : p.activities ≤ S.act first_child s → (q : Ran) → ended (shown_in p S) Done ≡ rolled p q (shown_in p S) s
+  pub one_none : p.activities ≤ S.act first_child s → (q : Ran) → ended (shown_in p S) (Ok tt) ≡ rolled p q (shown_in p S) s
   one_none l q = roll_none p q S s D.parents (D.children.heads s b) l (shown_in p S)
 
   one_some : S.act first_child s < p.activities → (q : Ran) → put_pass (summed_pass p s (child_sum S p.activities s)) (shown_in p S) s ≡ rolled p q (shown_in p S) s
@@ -53,16 +48,16 @@ module _ (p : Plan) (S : State) (D : Deep p S) (s : ℕ) (b : s < p.activities) 
       let J : Shown = child_sum S p.activities s in
       measured_put (between (own p s) J.finish J.late) (λ t. summed p s t J) (shown_in p S) s ∙ roll_some p q S s D.parents (D.children.heads s b) l
 
-  module _ (l : S.act first_child s < p.activities) (r : Showing) (x : Shown) (e : x ≡ child_sum S p.activities s) (h : showing r ≡ summed_pass p s x) where
+  module _ (l : S.act first_child s < p.activities) (r : Result Shown ClockError) (x : Shown) (e : x ≡ child_sum S p.activities s) (h : showing r ≡ summed_pass p s x) where
     by_sum : (q : Ran) → put_pass (showing r) (shown_in p S) s ≡ rolled p q (shown_in p S) s
     by_sum q = ap (λ (y : Pass Shown). put_pass y (shown_in p S) s) (h ∙ ap (summed_pass p s) e) ∙ one_some l q
 
-    pub one_done : (y : Shown) (T : State) → r ≡ Is y → T ≡ put_shown S s y → (q : Ran) → ended (shown_in p T) Done ≡ rolled p q (shown_in p S) s
+    pub one_done : (y : Shown) (T : State) → r ≡ Ok y → T ≡ put_shown S s y → (q : Ran) → ended (shown_in p T) (Ok tt) ≡ rolled p q (shown_in p S) s
     one_done y T d f q =
-        ap (λ (U : State). leaves (shown_in p U)) f ∙ ap leaves (to_put p.activities S s y b) ∙ ap (λ (z : Showing). put_pass (showing z) (shown_in p S) s) (sym d) ∙ by_sum q
+        ap (λ (U : State). leaves (shown_in p U)) f ∙ ap leaves (to_put p.activities S s y b) ∙ ap (λ (z : Result Shown ClockError). put_pass (showing z) (shown_in p S) s) (sym d) ∙ by_sum q
 
-    pub one_refused : (k : ℕ) (g : ℕ → Shown) → r ≡ Showing.Refused k → (q : Ran) → ended g (Step.Refused k) ≡ rolled p q (shown_in p S) s
-    one_refused k g d q = ap (λ (z : Showing). put_pass (showing z) (shown_in p S) s) (sym d) ∙ by_sum q
+    pub one_refused : (k : ClockError) (g : ℕ → Shown) → r ≡ Err k → (q : Ran) → ended g (Err k) ≡ rolled p q (shown_in p S) s
+    one_refused k g d q = ap (λ (z : Result Shown ClockError). put_pass (showing z) (shown_in p S) s) (sym d) ∙ by_sum q
 
 -- ---- the roll-up's fields stay while days and floats are put
 pub deep_kept : (p : Plan) (S T : State) → Frame 20 30 0 0 S T → Deep p S → Deep p T
@@ -93,14 +88,14 @@ module _ (p : Plan) (S₀ : State) (d : ℕ) where
     left = λ q. ap (λ (ks : List ℕ). through (rolled p q) ks (shown_in p S₀)) (sym T.rest);
   }
 
-  module _ (S T : State) (k : ℕ) (W : Rolls S k) (b : k < p.activities) (r : Step) (h : (q : Ran) → ended (shown_in p T) r ≡ rolled p q (shown_in p S) k) where
+  module _ (S T : State) (k : ℕ) (W : Rolls S k) (b : k < p.activities) (r : Result Unit ClockError) (h : (q : Ran) → ended (shown_in p T) r ≡ rolled p q (shown_in p S) k) where
     on : (q : Ran) → pass.after (ended (shown_in p T) r) (through (rolled p q) (after key₀ p.activities d (k + 1))) ≡ through (rolled p q) (after key₀ p.activities d 0) (shown_in p S₀)
     unfolding through
     on q =
         ap (λ (x : Pass (ℕ → Shown)). pass.after x (through (rolled p q) (after key₀ p.activities d (k + 1)))) (h q)
         ∙ sym (ap (λ (ks : List ℕ). through (rolled p q) ks (shown_in p S)) (after_hit key₀ p.activities d k b (W.hits b))) ∙ W.left q
 
-    pub rolls_turn : (m : ℕ) (U : State) → U ≡ T → r ≡ Done → Frame 20 30 0 0 S₀ U → Stands key₀ p.activities (key₀ k) (k + 1) m → Rolls U m
+    pub rolls_turn : (m : ℕ) (U : State) → U ≡ T → r ≡ (Ok tt) → Frame 20 30 0 0 S₀ U → Stands key₀ p.activities (key₀ k) (k + 1) m → Rolls U m
     rolls_turn m U u e F G =
         let c = rw (W.hits b) at G in record {
           top = c.top;
@@ -108,13 +103,13 @@ module _ (p : Plan) (S₀ : State) (d : ℕ) where
           frame = F;
           left = λ q.
               (λ z. through (rolled p q) (sym c.rest z) (shown_in p (u z)))
-              ∙ ap (λ (x : Step). pass.after (ended (shown_in p T) x) (through (rolled p q) (after key₀ p.activities d (k + 1)))) (sym e) ∙ on q;
+              ∙ ap (λ (x : Result Unit ClockError). pass.after (ended (shown_in p T) x) (through (rolled p q) (after key₀ p.activities d (k + 1)))) (sym e) ∙ on q;
         }
 
-    pub rolls_stop : (n : ℕ) (g : ℕ → Shown) → r ≡ Step.Refused n → (q : Ran) → ended g (Step.Refused n) ≡ through (rolled p q) (after key₀ p.activities d 0) (shown_in p S₀)
-    rolls_stop n g e q = ap (λ (x : Step). pass.after (ended (shown_in p T) x) (through (rolled p q) (after key₀ p.activities d (k + 1)))) (sym e) ∙ on q
+    pub rolls_stop : (n : ClockError) (g : ℕ → Shown) → r ≡ Err n → (q : Ran) → ended g (Err n) ≡ through (rolled p q) (after key₀ p.activities d 0) (shown_in p S₀)
+    rolls_stop n g e q = ap (λ (x : Result Unit ClockError). pass.after (ended (shown_in p T) x) (through (rolled p q) (after key₀ p.activities d (k + 1)))) (sym e) ∙ on q
 
-  pub rolls_end : (S : State) (k : ℕ) → Rolls S k → p.activities ≤ k → (q : Ran) → ended (shown_in p S) Done ≡ through (rolled p q) (after key₀ p.activities d 0) (shown_in p S₀)
+  pub rolls_end : (S : State) (k : ℕ) → Rolls S k → p.activities ≤ k → (q : Ran) → ended (shown_in p S) (Ok tt) ≡ through (rolled p q) (after key₀ p.activities d 0) (shown_in p S₀)
   unfolding through
   rolls_end S k W l q = sym (ap (λ (ks : List ℕ). through (rolled p q) ks (shown_in p S)) (after_end key₀ p.activities d k l)) ∙ W.left q
 
@@ -137,7 +132,7 @@ module _ (p : Plan) (S₀ : State) where
     pub frame : Frame 20 30 0 0 S₀ S
     pub left : (q : Ran) → through (rolled p q) (deepest_first p q d) (shown_in p S) ≡ through (rolled p q) (deepest_first p q p.activities) (shown_in p S₀)
 
-  module _ (S T : State) (d : ℕ) (W : Rising S (d + 1)) (r : Step) (h : (q : Ran) → ended (shown_in p T) r ≡ through (rolled p q) (summaries_at p q (d + 1) p.activities) (shown_in p S)) where
+  module _ (S T : State) (d : ℕ) (W : Rising S (d + 1)) (r : Result Unit ClockError) (h : (q : Ran) → ended (shown_in p T) r ≡ through (rolled p q) (summaries_at p q (d + 1) p.activities) (shown_in p S)) where
     rest : (q : Ran) → pass.after (ended (shown_in p T) r) (through (rolled p q) (deepest_first p q d)) ≡ through (rolled p q) (deepest_first p q p.activities) (shown_in p S₀)
     unfolding deepest_first
     rest q =
@@ -147,26 +142,26 @@ module _ (p : Plan) (S₀ : State) where
         ∙ ap (λ (n : ℕ). through (rolled p q) (summaries_at p q n p.activities ++ deepest_first p q d) (shown_in p S)) e
         ∙ sym (ap (λ (n : ℕ). through (rolled p q) (deepest_first p q n) (shown_in p S)) e) ∙ W.left q
 
-    pub rising_turn : r ≡ Done → Frame 20 30 0 0 S₀ T → Rising T d
+    pub rising_turn : r ≡ (Ok tt) → Frame 20 30 0 0 S₀ T → Rising T d
     rising_turn e F = record {
       frame = F;
-      left = λ q. ap (λ (x : Step). pass.after (ended (shown_in p T) x) (through (rolled p q) (deepest_first p q d))) (sym e) ∙ rest q;
+      left = λ q. ap (λ (x : Result Unit ClockError). pass.after (ended (shown_in p T) x) (through (rolled p q) (deepest_first p q d))) (sym e) ∙ rest q;
     }
 
-    pub rising_stop : (n : ℕ) (g : ℕ → Shown) → r ≡ Step.Refused n → (q : Ran) → ended g (Step.Refused n) ≡ through (rolled p q) (deepest_first p q p.activities) (shown_in p S₀)
-    rising_stop n g e q = ap (λ (x : Step). pass.after (ended (shown_in p T) x) (through (rolled p q) (deepest_first p q d))) (sym e) ∙ rest q
+    pub rising_stop : (n : ClockError) (g : ℕ → Shown) → r ≡ Err n → (q : Ran) → ended g (Err n) ≡ through (rolled p q) (deepest_first p q p.activities) (shown_in p S₀)
+    rising_stop n g e q = ap (λ (x : Result Unit ClockError). pass.after (ended (shown_in p T) x) (through (rolled p q) (deepest_first p q d))) (sym e) ∙ rest q
 
-  pub rising_end : (S : State) → Rising S 0 → (q : Ran) → ended (shown_in p S) Done ≡ through (rolled p q) (deepest_first p q p.activities) (shown_in p S₀)
+  pub rising_end : (S : State) → Rising S 0 → (q : Ran) → ended (shown_in p S) (Ok tt) ≡ through (rolled p q) (deepest_first p q p.activities) (shown_in p S₀)
   unfolding through deepest_first
   rising_end S W q = W.left q
 
 -- ---- a sum with its float, by its ways
 module _ (p : Plan) (s : ℕ) (x : Shown) where
-  pub summed_at : (z total : ℤ) (critical : Bool) → between (own p s) x.finish x.late ≡ Minutes z → total ≡ z → critical ≡ critical_in p.project.critical_by (day_of p s) z x.path
+  pub summed_at : (z total : ℤ) (critical : Bool) → between (own p s) x.finish x.late ≡ Ok z → total ≡ z → critical ≡ critical_in p.project.critical_by (day_of p s) z x.path
       → leaves (record { es = x.es; ef = x.ef; ls = x.ls; lf = x.lf; total = total; free = 0; critical = critical; path = x.path; finish = x.finish; late = x.late }) ≡ summed_pass p s x
   unfolding summed_pass
   summed_at z total critical e f g = rw (e, f, g)
 
-  pub summed_refused : (k : ℕ) → between (own p s) x.finish x.late ≡ Work.Refused k → refused k ≡ summed_pass p s x
+  pub summed_refused : (k : ClockError) → between (own p s) x.finish x.late ≡ Err k → refused k ≡ summed_pass p s x
   unfolding summed_pass
   summed_refused k e = rw e

@@ -24,11 +24,10 @@ ghost use Rattle.rollup.specs.Rolling.{Deep, ToRoll, summed_pass};
 ghost use Rattle.rollup.specs.Depths.{depth_key, DepthsTo};
 ghost use Rattle.rollup.specs.Roll.{joined, child_sum};
 
-use dates::Step;
 use project::Project;
-use results::{Showing, Shown};
+use results::Shown;
 use sheet::Contents;
-use worktime::Work;
+use worktime::ClockError;
 
 // ---- chains through the activities
 // Puts activity `c` before those with its key.
@@ -187,7 +186,7 @@ fn summed_of(
     project: Project,
     s: usize,
     x: Shown,
-) -> Showing
+) -> Result<Shown, ClockError>
     requires { SheetRead sheet.now contents × Places sheet.now contents places.now × Lengths (plan_of sheet.now contents) lengths.now × (s < contents.activities) × (calendar_of (plan_of sheet.now contents) s < contents.calendars) × (project ≡ (plan_of sheet.now contents).project) × Holds x }
     ensures { (showing result ≡ summed_pass (plan_of sheet.now contents) s x) × HoldsIf result }
 {
@@ -196,26 +195,20 @@ fn summed_of(
     let k = activity.calendar as usize;
     let week = calendars::week_of(sheet, contents, places, k);
     let e = calendars::exceptions_of(sheet, contents, places, k);
-    match clock::between(week, sheet, e.at, e.n, x.finish, x.late) {
-        Work::Minutes(total) => {
-            let critical = results::is_critical(by, lengths[k], total, x.path);
-            return Showing::Is(Shown {
-                es: x.es,
-                ef: x.ef,
-                ls: x.ls,
-                lf: x.lf,
-                total,
-                free: 0,
-                critical,
-                path: x.path,
-                finish: x.finish,
-                late: x.late,
-            });
-        }
-        Work::Refused(n) => {
-            return Showing::Refused(n);
-        }
-    }
+    let total = clock::between(week, sheet, e.at, e.n, x.finish, x.late)?;
+    let critical = results::is_critical(by, lengths[k], total, x.path);
+    Ok(Shown {
+        es: x.es,
+        ef: x.ef,
+        ls: x.ls,
+        lf: x.lf,
+        total,
+        free: 0,
+        critical,
+        path: x.path,
+        finish: x.finish,
+        late: x.late,
+    })
 }
 
 // Rolls summary `s` up from its children.
@@ -227,7 +220,7 @@ fn roll_one(
     project: Project,
     work: &mut [i64],
     s: usize,
-) -> Step
+) -> Result<(), ClockError>
     requires { ToShow sheet.now contents places.now lengths.now work.old × Deep (plan_of sheet.now contents) (state_of contents.activities contents.links work.old) × (s < contents.activities) × (project ≡ (plan_of sheet.now contents).project) }
     ensures { ((q : Ran) → ended (shown_in (plan_of sheet.now contents) (state_of contents.activities contents.links work.new)) result ≡ rolled (plan_of sheet.now contents) q (shown_in (plan_of sheet.now contents) (state_of contents.activities contents.links work.old)) s) × Frame 20 30 0 0 (state_of contents.activities contents.links work.old) (state_of contents.activities contents.links work.new) × (length work.new ≡ length work.old) }
 {
@@ -239,19 +232,13 @@ fn roll_one(
         memory::fields::FIRST_CHILD,
     ) as usize;
     if first >= contents.activities {
-        return Step::Done;
+        return Ok(());
     }
     let x = sum_children(work, contents.activities, contents.links, s, first);
     let sum = summed_of(sheet, contents, places, lengths, project, s, x);
-    match sum {
-        Showing::Is(y) => {
-            results::put_shown(work, contents.activities, contents.links, s, y);
-            return Step::Done;
-        }
-        Showing::Refused(k) => {
-            return Step::Refused(k);
-        }
-    }
+    let y = sum?;
+    results::put_shown(work, contents.activities, contents.links, s, y);
+    Ok(())
 }
 
 // ---- all summaries, deepest first
@@ -264,7 +251,7 @@ fn roll_depth(
     project: Project,
     work: &mut [i64],
     d: usize,
-) -> Step
+) -> Result<(), ClockError>
     requires { ToShow sheet.now contents places.now lengths.now work.old × Deep (plan_of sheet.now contents) (state_of contents.activities contents.links work.old) × (0 < d) × (d ≤ contents.activities) × (project ≡ (plan_of sheet.now contents).project) }
     ensures { ((q : Ran) → ended (shown_in (plan_of sheet.now contents) (state_of contents.activities contents.links work.new)) result ≡ through (rolled (plan_of sheet.now contents) q) (summaries_at (plan_of sheet.now contents) q d contents.activities) (shown_in (plan_of sheet.now contents) (state_of contents.activities contents.links work.old))) × Frame 20 30 0 0 (state_of contents.activities contents.links work.old) (state_of contents.activities contents.links work.new) × (length work.new ≡ length work.old) }
 {
@@ -277,12 +264,7 @@ fn roll_depth(
     ) as usize;
     while k < contents.activities {
         let step = roll_one(sheet, contents, places, lengths, project, work, k);
-        match step {
-            Step::Refused(n) => {
-                return Step::Refused(n);
-            }
-            Step::Done => {}
-        }
+        step?;
         k = memory::get_act(
             work,
             contents.activities,
@@ -291,7 +273,7 @@ fn roll_depth(
             memory::fields::NEXT_DEEP,
         ) as usize;
     }
-    Step::Done
+    Ok(())
 }
 
 fn roll_all(
@@ -301,22 +283,17 @@ fn roll_all(
     lengths: &[u64],
     project: Project,
     work: &mut [i64],
-) -> Step
+) -> Result<(), ClockError>
     requires { ToShow sheet.now contents places.now lengths.now work.old × Deep (plan_of sheet.now contents) (state_of contents.activities contents.links work.old) × (project ≡ (plan_of sheet.now contents).project) }
     ensures { ((q : Ran) → ended (shown_in (plan_of sheet.now contents) (state_of contents.activities contents.links work.new)) result ≡ through (rolled (plan_of sheet.now contents) q) (deepest_first (plan_of sheet.now contents) q contents.activities) (shown_in (plan_of sheet.now contents) (state_of contents.activities contents.links work.old))) × Frame 20 30 0 0 (state_of contents.activities contents.links work.old) (state_of contents.activities contents.links work.new) × (length work.new ≡ length work.old) }
 {
     let mut d = contents.activities;
     while d > 0 {
         let step = roll_depth(sheet, contents, places, lengths, project, work, d);
-        match step {
-            Step::Refused(n) => {
-                return Step::Refused(n);
-            }
-            Step::Done => {}
-        }
+        step?;
         d -= 1;
     }
-    Step::Done
+    Ok(())
 }
 
 // Finds depths and chains for the roll-up.
@@ -348,7 +325,7 @@ fn roll_up(
     places: &[u64],
     lengths: &[u64],
     work: &mut [i64],
-) -> Step
+) -> Result<(), ClockError>
     requires { ToShow sheet.now contents places.now lengths.now work.old × ToRoll (plan_of sheet.now contents) (state_of contents.activities contents.links work.old) }
     ensures { ((q : Ran) → ended (shown_in (plan_of sheet.now contents) (state_of contents.activities contents.links work.new)) result ≡ through (rolled (plan_of sheet.now contents) q) (deepest_first (plan_of sheet.now contents) q contents.activities) (shown_in (plan_of sheet.now contents) (state_of contents.activities contents.links work.old))) × Frame 20 35 0 0 (state_of contents.activities contents.links work.old) (state_of contents.activities contents.links work.new) × (length work.new ≡ length work.old) }
 {
@@ -365,17 +342,11 @@ pub fn results(
     lengths: &[u64],
     t: usize,
     work: &mut [i64],
-) -> Step
+) -> Result<(), ClockError>
     requires { Ready sheet.now contents places.now t work.old × Recorded (plan_of sheet.now contents) (state_of contents.activities contents.links work.old) × Lengths (plan_of sheet.now contents) lengths.now }
     ensures { ((e : ℕ) (other : ℕ → Bool) → ended (shown_in (plan_of sheet.now contents) (state_of contents.activities contents.links work.new)) result ≡ results (plan_of sheet.now contents) (ran_in (plan_of sheet.now contents) (state_of contents.activities contents.links work.old) e other)) × Frame 20 35 0 0 (state_of contents.activities contents.links work.old) (state_of contents.activities contents.links work.new) × (length work.new ≡ length work.old) }
 {
     let step = results::show_all(sheet, contents, places, lengths, work);
-    match step {
-        Step::Refused(k) => {
-            return Step::Refused(k);
-        }
-        Step::Done => {
-            return roll_up(sheet, contents, places, lengths, work);
-        }
-    }
+    step?;
+    roll_up(sheet, contents, places, lengths, work)
 }

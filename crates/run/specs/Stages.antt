@@ -1,5 +1,6 @@
 -- The run in the stages of its code: early dates, late dates, floats and the longest path.
-use Rattle.std.specs.Prelude.{◌≡◌, Bool, List, reverse, ℕ}
+use Rattle.std.specs.Prelude.{◌≡◌, Bool, List, reverse, ℕ, Result, Ok, Err}
+use Rattle.worktime.specs.declared.ClockError.{ClockError}
 use Rattle.memory.specs.State.{State}
 use Rattle.order.specs.Plan.{Plan}
 use Rattle.order.specs.Checks.{order}
@@ -8,8 +9,6 @@ use Rattle.passes.specs.Backward.{finish}
 use Rattle.passes.specs.Floats.{free_float, last_ones}
 use Rattle.passes.specs.Run.{Ran, remaining, forward_pass, backward_pass, path_pass, run}
 use Rattle.dates.specs.Columns.{early_in, late_in, free_in, path_in}
-use Rattle.run.specs.declared.Late as code
-use Rattle.run.specs.declared.Late.TheVariants.{By}
 
 -- the early dates with the free floats and the longest path
 pub record Floated : Type 0 where
@@ -31,9 +30,9 @@ module _ (p : Plan) where
 
   -- ---- what stands in the memory after a stage
   -- the late dates, with the end past the activities
-  abbrev pub LateIn : Early → State → code.Late → Type 0
-  LateIn d T (code.Late.Refused k) = backward_pass p d ≡ refused k
-  LateIn d T (By e) = backward_pass p d ≡ leaves (late_in p T e)
+  abbrev pub LateIn : Early → State → Result ℕ ClockError → Type 0
+  LateIn d T (Err k) = backward_pass p d ≡ refused k
+  LateIn d T (Ok e) = backward_pass p d ≡ leaves (late_in p T e)
 
   -- past the activities the marks of the longest path are those of what finishes the project
   abbrev pub floated_in : ℕ → State → Floated
@@ -47,6 +46,6 @@ module _ (p : Plan) where
     pub other : ℕ → Bool
     pub is : run p ≡ leaves (ran_in T e other)
 
-  abbrev pub RunIn : State → code.Late → Type 0
-  RunIn T (code.Late.Refused k) = run p ≡ refused k
-  RunIn T (By e) = RanTo T e
+  abbrev pub RunIn : State → Result ℕ ClockError → Type 0
+  RunIn T (Err k) = run p ≡ refused k
+  RunIn T (Ok e) = RanTo T e

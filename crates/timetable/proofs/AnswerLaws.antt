@@ -1,14 +1,12 @@
 -- The walks of the timetable rules always have an answer, on calendars whose walks do: so that a link holds of its one lagged time, and a start has
 -- its one finish.
-use Rattle.std.specs.Prelude.{◌≡◌, refl, Bool, false, ◌↔◌, ℕ, suc, ◌+◌, ◌*◌, ◌≤◌, ◌<◌, ℤ, pos, negsuc, get_or}
+use Rattle.std.specs.Prelude.{◌≡◌, refl, Bool, false, ◌↔◌, ℕ, suc, ◌+◌, ◌*◌, ◌≤◌, ◌<◌, ℤ, pos, negsuc, get_or, Option, Some, None}
 use Rattle.std.proofs.Common.{arith}
 use Rattle.number.specs.Zed.{up, dn}
 use Rattle.date.specs.declared.Date.{Date}
 use Rattle.worktime.specs.Relations.{advance_after}
 use Rattle.worktime.specs.Worked.{IsNextStart, IsPreviousFinish, IsAdvance, IsRetreat}
 use Rattle.calendar.specs.Hours.{worked}
-use Rattle.project.specs.declared.OptionalDate.{OptionalDate}
-use Rattle.project.specs.declared.OptionalDate.TheVariants.{On, Absent}
 use Rattle.project.specs.declared.RelationshipType.{RelationshipType}
 use Rattle.project.specs.declared.RelationshipType.TheVariants.{FinishToStart, StartToStart, FinishToFinish, StartToFinish}
 use Rattle.project.specs.Ranges.{DayInRange, OptionalInRange, ActivityInRange, ProjectInRange}
@@ -83,18 +81,18 @@ module _ (p : Plan) (fine : (checked p).number ≡ 0) (answers : (k : ℕ) → k
 
 -- ---- in a timetable that obeys the rules no time lies before the first day that a sheet can name
 module _ (p : Plan) where
-  later_after : (t : ℕ) (x : OptionalDate) → t ≤ later p t x
-  later_after t (On d) = omega arith
-  later_after t Absent = omega arith
+  later_after : (t : ℕ) (x : Option Date) → t ≤ later p t x
+  later_after t (Some d) = omega arith
+  later_after t None = omega arith
 
   named_floor : ProjectInRange p.project → first_named ≤ floor p
   named_floor r = omega (arith, named_after p.project.start r.start, later_after (origin p) p.project.data_date)
 
-  completed_named : (i : ℕ) (x y : OptionalDate) (s f : ℕ) (R : Type 0) → OptionalInRange x → OptionalInRange y
+  completed_named : (i : ℕ) (x y : Option Date) (s f : ℕ) (R : Type 0) → OptionalInRange x → OptionalInRange y
       → (R → (first_named ≤ s) × (first_named ≤ f)) → CompletedAt p i x y s f R → (first_named ≤ s) × (first_named ≤ f)
-  completed_named i x Absent s f R a b g c = g c
-  completed_named i Absent (On e) s f R a b g c = let h = c.later.0 in omega (arith, named_after e (b e refl), c.start.after)
-  completed_named i (On d) (On e) s f R a b g c = let h = c.later.0 in omega (arith, named_after d (a d refl), c.start.after)
+  completed_named i x None s f R a b g c = g c
+  completed_named i None (Some e) s f R a b g c = let h = c.later.0 in omega (arith, named_after e (b e refl), c.start.after)
+  completed_named i (Some d) (Some e) s f R a b g c = let h = c.later.0 in omega (arith, named_after d (a d refl), c.start.after)
 
   module _ (project : ProjectInRange p.project) (activities : (i : ℕ) → i < p.activities → ActivityInRange (p.activity i)) where
     pub obeyed_named : (s f : ℕ → ℕ) → Obeyed p s f → (i : ℕ) → i < p.activities → summary p i ≡ false → (first_named ≤ s i) × (first_named ≤ f i)

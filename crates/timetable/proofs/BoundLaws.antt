@@ -1,13 +1,12 @@
 -- A rule holds of a start and its finish just where the start that the forward pass takes for it is not later.
-use Rattle.std.specs.Prelude.{◌≡◌, refl, Bool, true, false, ◌⊎◌, ◌↔◌}
+use Rattle.std.specs.Prelude.{◌≡◌, refl, Bool, true, false, ◌⊎◌, ◌↔◌, Result, Ok, Err, Option, Some, None}
+use Rattle.worktime.specs.declared.ClockError.{ClockError}
 use Rattle.std.proofs.Math.Path.{sym}
 use Rattle.std.proofs.Common.{ap, ◌∙◌, inl, inr, ⊎_elim}
 use mathlib.Core.List.{List, [], ◌∷◌}
 use Prim.Native.Nat.{ℕ, zero, suc, ◌≤◌, max}
 use native.Mathlib.Omega.{arith}
 use Rattle.date.specs.declared.Date.{Date}
-use Rattle.worktime.specs.declared.Walk.{Walk}
-use Rattle.worktime.specs.declared.Walk.TheVariants.{At, Refused}
 use Rattle.worktime.specs.Walks.{shift}
 use Rattle.worktime.specs.Worked.{count, IsPreviousFinish, IsAdvance}
 use Rattle.worktime.specs.Count.{start_le}
@@ -18,14 +17,10 @@ use Rattle.project.specs.declared.ActivityKind.{ActivityKind}
 use Rattle.project.specs.declared.ActivityKind.TheVariants.{Task, StartMilestone, FinishMilestone}
 use Rattle.project.specs.declared.Constraint.{Constraint}
 use Rattle.project.specs.declared.Constraint.TheVariants.{Unconstrained, StartOnOrAfter, StartOnOrBefore, FinishOnOrAfter, FinishOnOrBefore, StartOn, FinishOn, MandatoryStart, MandatoryFinish, AsLateAsPossible}
-use Rattle.project.specs.declared.OptionalDate.{OptionalDate}
-use Rattle.project.specs.declared.OptionalDate.TheVariants.{On, Absent}
 use Rattle.project.specs.declared.RelationshipType.{RelationshipType}
 use Rattle.project.specs.declared.RelationshipType.TheVariants.{FinishToStart, StartToStart, FinishToFinish, StartToFinish}
 use Rattle.project.specs.declared.End.TheVariants.{Start, Finish}
 use Rattle.project.specs.Status.{on_start}
-use Rattle.placing.specs.declared.Moment.{Moment}
-use Rattle.placing.specs.declared.Moment.TheVariants.{Nowhere}
 use Rattle.placing.specs.Placing.{via, bounded, midnight_of, start_for_finish, day_start, constraint_time}
 use Rattle.order.specs.Plan.{Plan}
 use Rattle.order.specs.Ids.{summary}
@@ -45,7 +40,7 @@ pub record Starts (w : ℕ → Bool) (kind : ActivityKind) (n v g : ℕ) : Type 
 
 -- ---- a bound on the finish
 module _ (w : ℕ → Bool) where
-  worked_bound : (n b : ℕ) {x v g : ℕ} → w v ≡ true → IsAdvance w v n g → start_for_finish w n b ≡ At x → (count w b ≤ count w g) ↔ (x ≤ v)
+  worked_bound : (n b : ℕ) {x v g : ℕ} → w v ≡ true → IsAdvance w v n g → start_for_finish w n b ≡ Ok x → (count w b ≤ count w g) ↔ (x ≤ v)
   worked_bound zero b {x} {v} {g} h a e =
       let c = start_le w {t = b} h in
       let s = start_for_moment w b e in
@@ -53,11 +48,11 @@ module _ (w : ℕ → Bool) where
       (λ l. let r = c.1 (omega arith) in omega arith, λ l. let r = c.0 (omega arith) in omega arith)
   worked_bound (suc n) b h a e = let r = start_for_work w (suc n) b (omega arith) e in finish_galois w h (omega arith) a r.1 r.2
 
-  still_bound : (n b : ℕ) {x v g : ℕ} → n ≡ 0 → IsAdvance w v n g → start_for_finish w n b ≡ At x → (b ≤ g) ↔ (x ≤ v)
+  still_bound : (n b : ℕ) {x v g : ℕ} → n ≡ 0 → IsAdvance w v n g → start_for_finish w n b ≡ Ok x → (b ≤ g) ↔ (x ≤ v)
   still_bound zero b z a e = let s = start_for_moment w b e in let f = a.still refl in (λ l. omega arith, λ l. omega arith)
   still_bound (suc n) b z a e = absurd (omega arith)
 
-  pub finish_bound_lem : (kind : ActivityKind) (n b : ℕ) {x v g : ℕ} → Starts w kind n v g → start_for_finish w n b ≡ At x
+  pub finish_bound_lem : (kind : ActivityKind) (n b : ℕ) {x v g : ℕ} → Starts w kind n v g → start_for_finish w n b ≡ Ok x
       → FinishBound w kind b g ↔ (x ≤ v)
   finish_bound_lem Task n b c e = worked_bound n b c.may c.advanced e
   finish_bound_lem StartMilestone n b c e = worked_bound n b c.may c.advanced e
@@ -81,7 +76,7 @@ module _ (p : Plan) where
     pub second : Meets p i (p.activity i).secondary_constraint v g
     pub third : MeetsLevelled p i (p.activity i).levelled v
 
-  start_bound : (i n b : ℕ) (kind : RelationshipType) {x v g : ℕ} → Starts (own p i) (kind_of p i) n v g → start_for p i n kind b ≡ At x
+  start_bound : (i n b : ℕ) (kind : RelationshipType) {x v g : ℕ} → Starts (own p i) (kind_of p i) n v g → start_for p i n kind b ≡ Ok x
       → Bounds (own p i) (kind_of p i) kind b v g ↔ (x ≤ v)
   start_bound i n b FinishToStart {x} c e = let z : b ≡ x = cc in (λ l. omega arith, λ l. omega arith)
   start_bound i n b StartToStart {x} c e = let z : b ≡ x = cc in (λ l. omega arith, λ l. omega arith)
@@ -96,7 +91,7 @@ module _ (p : Plan) where
 
     module _ (i : ℕ) {v g : ℕ} (c : Starts (own p i) (kind_of p i) (d.left i) v g) where
       -- ---- links
-      pub link_bound_lem : (t : ℕ) {x : ℕ} → link_start p d i t ≡ At x → HeldAt i v g t ↔ (x ≤ v)
+      pub link_bound_lem : (t : ℕ) {x : ℕ} → link_start p d i t ≡ Ok x → HeldAt i v g t ↔ (x ≤ v)
       unfolding forward_bound
       link_bound_lem t {x} e =
           let k = tie p t in
@@ -111,7 +106,7 @@ module _ (p : Plan) where
             λ l. record { lagged = a.0; shifted = rw z s; bound = r.1 l },
           )
 
-      pub raised_bound : (ts : List ℕ) (a b : ℕ) → raised p d i ts a ≡ At b → ((a ≤ v) × Each (HeldAt i v g) ts) ↔ (b ≤ v)
+      pub raised_bound : (ts : List ℕ) (a b : ℕ) → raised p d i ts a ≡ Ok b → ((a ≤ v) × Each (HeldAt i v g) ts) ↔ (b ≤ v)
       unfolding raised
       raised_bound [] a b e = let z : a ≡ b = cc in (λ h. omega arith, λ l. (omega arith, tt))
       raised_bound (t ∷ ts) a b e =
@@ -123,40 +118,40 @@ module _ (p : Plan) where
           )
 
       -- ---- constraints
-      on_time_lem : (m : Moment) (x : Walk) (go : ℕ → Walk) {b : ℕ} → on_time p d m x go ≡ At b
-          → ((t : ℕ) × (m ≡ Moment.At t) × (go t ≡ At b)) ⊎ ((m ≡ Nowhere) × (x ≡ At b))
-      on_time_lem (Moment.At t) x go {b} e =
+      on_time_lem : (m : Result (Option ℕ) ClockError) (x : Result ℕ ClockError) (go : ℕ → Result ℕ ClockError) {b : ℕ} → on_time p d m x go ≡ Ok b
+          → ((t : ℕ) × (m ≡ (Ok (Some t))) × (go t ≡ Ok b)) ⊎ ((m ≡ (Ok None)) × (x ≡ Ok b))
+      on_time_lem (Ok (Some t)) x go {b} e =
           let r = via_answers (bounded (origin p) t) go b e in
           let z : r.0 ≡ t = bounded_at (origin p) t r.1 in
           inl (t, refl, ap go (sym z) ∙ r.2)
-      on_time_lem Nowhere x go e = inr (refl, e)
-      on_time_lem (Moment.Refused k) x go e = let z : ◌≡◌ {A = ℕ} 0 1 = cc in absurd (omega arith)
+      on_time_lem (Ok None) x go e = inr (refl, e)
+      on_time_lem (Err k) x go e = let z : ◌≡◌ {A = ℕ} 0 1 = cc in absurd (omega arith)
 
-      on_start_lem : (x : Date) (y : Walk) (go : ℕ → Walk) {b : ℕ} → on_time p d (constraint_time (own p i) (Start x)) y go ≡ At b
-          → go (day_start (own p i) (midnight_of x)) ≡ At b
+      on_start_lem : (x : Date) (y : Result ℕ ClockError) (go : ℕ → Result ℕ ClockError) {b : ℕ} → on_time p d (constraint_time (own p i) (Start x)) y go ≡ Ok b
+          → go (day_start (own p i) (midnight_of x)) ≡ Ok b
       on_start_lem x y go e =
           ⊎_elim (λ r. ap go (sym (start_time (own p i) x r.1)) ∙ r.2) (λ r. absurd (start_somewhere (own p i) x r.0))
           (on_time_lem (constraint_time (own p i) (Start x)) y go e)
 
-      on_finish : (x : Date) (y : Walk) (go : ℕ → Walk) {b : ℕ} → on_time p d (constraint_time (own p i) (Finish x)) y go ≡ At b
-          → (t : ℕ) × IsPreviousFinish (own p i) (evening (midnight_of x)) t × (go t ≡ At b)
+      on_finish : (x : Date) (y : Result ℕ ClockError) (go : ℕ → Result ℕ ClockError) {b : ℕ} → on_time p d (constraint_time (own p i) (Finish x)) y go ≡ Ok b
+          → (t : ℕ) × IsPreviousFinish (own p i) (evening (midnight_of x)) t × (go t ≡ Ok b)
       on_finish x y go e =
           ⊎_elim (λ r. (r.0, finish_time (own p i) x r.1, r.2)) (λ r. absurd (finish_somewhere (own p i) x r.0))
           (on_time_lem (constraint_time (own p i) (Finish x)) y go e)
 
-      start_date : (x : Date) (a : ℕ) {b : ℕ} → on_time p d (constraint_time (own p i) (Start x)) (At a) (λ t. At (max a t)) ≡ At b
+      start_date : (x : Date) (a : ℕ) {b : ℕ} → on_time p d (constraint_time (own p i) (Start x)) (Ok a) (λ t. Ok (max a t)) ≡ Ok b
           → ((a ≤ v) × (day_start (own p i) (midnight_of x) ≤ v)) ↔ (b ≤ v)
       start_date x a {b} e =
-          let q = on_start_lem x (At a) (λ t. At (max a t)) e in
+          let q = on_start_lem x (Ok a) (λ t. Ok (max a t)) e in
           let z : max a (day_start (own p i) (midnight_of x)) ≡ b = cc in
           (λ h. omega arith, λ l. omega arith)
 
       finish_date_lem : (x : Date) (a : ℕ) {b : ℕ}
-          → on_time p d (constraint_time (own p i) (Finish x)) (At a) (λ t. via Refused (start_for_finish (own p i) (d.left i) t) (λ s. At (max a s))) ≡ At b
+          → on_time p d (constraint_time (own p i) (Finish x)) (Ok a) (λ t. via Err (start_for_finish (own p i) (d.left i) t) (λ s. Ok (max a s))) ≡ Ok b
           → ((a ≤ v) × FinishDate p i x g) ↔ (b ≤ v)
       finish_date_lem x a {b} e =
-          let q = on_finish x (At a) (λ t. via Refused (start_for_finish (own p i) (d.left i) t) (λ s. At (max a s))) e in
-          let r = via_answers (start_for_finish (own p i) (d.left i) q.0) (λ s. At (max a s)) b q.2 in
+          let q = on_finish x (Ok a) (λ t. via Err (start_for_finish (own p i) (d.left i) t) (λ s. Ok (max a s))) e in
+          let r = via_answers (start_for_finish (own p i) (d.left i) q.0) (λ s. Ok (max a s)) b q.2 in
           let f : max a r.0 ≡ b = (let y = r.2 in cc) in
           let k = finish_bound_lem (own p i) (kind_of p i) (d.left i) q.0 c r.1 in (
             λ h.
@@ -166,35 +161,35 @@ module _ (p : Plan) where
             λ l. (omega arith, (q.0, q.1, k.1 (omega arith))),
           )
 
-      no_date : {a b : ℕ} → At a ≡ At b → ((a ≤ v) × Unit {0}) ↔ (b ≤ v)
+      no_date : {a b : ℕ} → Ok a ≡ Ok b → ((a ≤ v) × Unit {0}) ↔ (b ≤ v)
       no_date {a} {b} e = let z : a ≡ b = cc in (λ h. let m = h.0 in omega arith, λ l. (omega arith, tt))
 
-      pub constrained_bound : (k : Constraint) → Mild k → (a : ℕ) {b : ℕ} → constrained p d i k a ≡ At b → ((a ≤ v) × Meets p i k v g) ↔ (b ≤ v)
+      pub constrained_bound : (k : Constraint) → Mild k → (a : ℕ) {b : ℕ} → constrained p d i k a ≡ Ok b → ((a ≤ v) × Meets p i k v g) ↔ (b ≤ v)
       unfolding constrained on_start constraint_time
       constrained_bound Unconstrained m a e = no_date e
       constrained_bound (StartOnOrAfter x) m a e = start_date x a e
-      constrained_bound (StartOnOrBefore x) m a e = no_date (on_start_lem x (At a) (λ t. At a) e)
+      constrained_bound (StartOnOrBefore x) m a e = no_date (on_start_lem x (Ok a) (λ t. Ok a) e)
       constrained_bound (FinishOnOrAfter x) m a e = finish_date_lem x a e
-      constrained_bound (FinishOnOrBefore x) m a e = no_date (on_finish x (At a) (λ t. At a) e).2
+      constrained_bound (FinishOnOrBefore x) m a e = no_date (on_finish x (Ok a) (λ t. Ok a) e).2
       constrained_bound (StartOn x) m a e = start_date x a e
       constrained_bound (FinishOn x) m a e = finish_date_lem x a e
       constrained_bound (MandatoryStart x) m a e = absurd m
       constrained_bound (MandatoryFinish x) m a e = absurd m
       constrained_bound AsLateAsPossible m a e = absurd m
 
-      pub levelled_bound : (x : OptionalDate) (a : ℕ) {b : ℕ} → levelled p d i x a ≡ At b → ((a ≤ v) × MeetsLevelled p i x v) ↔ (b ≤ v)
-      levelled_bound Absent a e = no_date e
-      levelled_bound (On x) a e = start_date x a e
+      pub levelled_bound : (x : Option Date) (a : ℕ) {b : ℕ} → levelled p d i x a ≡ Ok b → ((a ≤ v) × MeetsLevelled p i x v) ↔ (b ≤ v)
+      levelled_bound None a e = no_date e
+      levelled_bound (Some x) a e = start_date x a e
 
       pub held_bound : summary p i ≡ false → Mild (p.activity i).constraint → Mild (p.activity i).secondary_constraint → (a : ℕ) {b : ℕ}
-          → held p d i a ≡ At b → ((a ≤ v) × MeetsAll i v g) ↔ (b ≤ v)
+          → held p d i a ≡ Ok b → ((a ≤ v) × MeetsAll i v g) ↔ (b ≤ v)
       unfolding held
       held_bound z m₁ m₂ a {b} e =
           let k₁ = (p.activity i).constraint in
           let k₂ = (p.activity i).secondary_constraint in
           let x = (p.activity i).levelled in
-          let rest : ℕ → Walk = λ s. via Refused (constrained p d i k₂ s) (levelled p d i x) in
-          let e₀ = sym (on_false (summary p i) (At a) (via Refused (constrained p d i k₁ a) rest) z) ∙ e in
+          let rest : ℕ → Result ℕ ClockError = λ s. via Err (constrained p d i k₂ s) (levelled p d i x) in
+          let e₀ = sym (on_false (summary p i) (Ok a) (via Err (constrained p d i k₁ a) rest) z) ∙ e in
           let r₁ = via_answers (constrained p d i k₁ a) rest b e₀ in
           let r₂ = via_answers (constrained p d i k₂ r₁.0) (levelled p d i x) b r₁.2 in
           let q₁ = constrained_bound k₁ m₁ a r₁.1 in

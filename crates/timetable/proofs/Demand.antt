@@ -1,6 +1,7 @@
 -- Demand 3 about the run: for a plan that fits, the early starts as the run ends obey the timetable rules, and in every timetable that does each
 -- activity starts at that minute or later.
-use Rattle.std.specs.Prelude.{◌≡◌, refl, Bool, true, false, ℤ}
+use Rattle.std.specs.Prelude.{◌≡◌, refl, Bool, true, false, ℤ, Option, Some, None}
+use Rattle.date.specs.declared.Date.{Date}
 use Rattle.std.proofs.Math.Path.{sym, ap}
 use Rattle.std.proofs.Common.{◌∙◌, arith}
 use Prim.Native.Nat.{ℕ, ◌≤◌, ◌<◌}
@@ -10,8 +11,6 @@ use Rattle.number.specs.ZedLaws.{lt_z_true, le_z_true}
 use Rattle.date.specs.Days.{signed_minute}
 use Rattle.project.specs.declared.ActivityKind.{ActivityKind}
 use Rattle.project.specs.declared.ActivityKind.TheVariants.{Task, StartMilestone, FinishMilestone}
-use Rattle.project.specs.declared.OptionalDate.{OptionalDate}
-use Rattle.project.specs.declared.OptionalDate.TheVariants.{On, Absent}
 use Rattle.project.specs.declared.Status.TheVariants.{InProgress}
 use Rattle.project.specs.Ranges.{ActivityInRange}
 use Rattle.project.specs.Status.{is_milestone, status_of}
@@ -43,22 +42,22 @@ milestones_momentary p h i l e = by (summary p i)
 -- "nothing in progress, no expected finish, no mandatory or as-late-as-possible mark", of every record
 pub record Plain (p : Plan) (i : ℕ) : Type 0 where
   pub still : status_of (p.activity i).actual_start (p.activity i).actual_finish ≡ InProgress → ⊥
-  pub expected : (p.activity i).expected_finish ≡ Absent
+  pub expected : (p.activity i).expected_finish ≡ None
   pub first : Mild (p.activity i).constraint
   pub second : Mild (p.activity i).secondary_constraint
 
-none_expected : (kind : ActivityKind) (x : OptionalDate) → x ≡ Absent → Unexpected kind x
-none_expected Task Absent e = tt
-none_expected Task (On d) e = let z : ◌≡◌ {A = ℕ} 0 1 = cc in absurd (omega arith)
+none_expected : (kind : ActivityKind) (x : Option Date) → x ≡ None → Unexpected kind x
+none_expected Task None e = tt
+none_expected Task (Some d) e = let z : ◌≡◌ {A = ℕ} 0 1 = cc in absurd (omega arith)
 none_expected StartMilestone x e = tt
 none_expected FinishMilestone x e = tt
 
-plain_by : (R : Type 0) (x y : OptionalDate) → (status_of x y ≡ InProgress → ⊥) → R → FitBy x y R
+plain_by : (R : Type 0) (x y : Option Date) → (status_of x y ≡ InProgress → ⊥) → R → FitBy x y R
 unfolding status_of
-plain_by R Absent Absent h r = r
-plain_by R (On d) Absent h r = absurd (h refl)
-plain_by R Absent (On e) h r = tt
-plain_by R (On d) (On e) h r = tt
+plain_by R None None h r = r
+plain_by R (Some d) None h r = absurd (h refl)
+plain_by R None (Some e) h r = tt
+plain_by R (Some d) (Some e) h r = tt
 
 pub plain_fits : (p : Plan) → ((i : ℕ) → i < p.activities → Plain p i) → Fit p
 plain_fits p h i l z =

@@ -1,6 +1,8 @@
 -- Without an as-late-as-possible mark no activity is moved: the early dates as the run ends are the forward pass's.
 use Rattle.std.proofs.Math.Path.{◌≡◌, sym}
-use Rattle.std.specs.Prelude.{refl, Bool, ◌&&◌, ◌||◌, not, length, get_or}
+use Rattle.std.specs.Prelude.{refl, Bool, ◌&&◌, ◌||◌, not, length, get_or, Result, Ok, Err, Option, Some, None}
+use Rattle.worktime.specs.declared.ClockError.{ClockError}
+use Rattle.date.specs.declared.Date.{Date}
 use Rattle.std.proofs.Common.{ap, ◌∙◌, arith}
 use Rattle.std.proofs.Math.Bool.{true, false}
 use mathlib.Core.List.{List, [], ◌∷◌, reverse}
@@ -8,15 +10,9 @@ use Prim.Native.Nat.{ℕ, zero, suc, ◌≤◌, ◌<◌}
 use Rattle.std.proofs.Math.Dec.{ltb}
 use Rattle.std.proofs.Math.IntN.{ℤ}
 use Rattle.number.specs.Sign.{min_z}
-use Rattle.worktime.specs.declared.Walk.{Walk}
-use Rattle.worktime.specs.declared.Walk.TheVariants.{At, Refused}
-use Rattle.worktime.specs.declared.Work.{Work}
-use Rattle.worktime.specs.declared.Work.TheVariants.{Minutes}
 use Rattle.worktime.specs.Walks.{next_start, previous_finish, between}
 use Rattle.project.specs.declared.Constraint.{Constraint}
 use Rattle.project.specs.declared.Constraint.TheVariants.{Unconstrained, StartOnOrAfter, StartOnOrBefore, FinishOnOrAfter, FinishOnOrBefore, StartOn, FinishOn, MandatoryStart, MandatoryFinish, AsLateAsPossible}
-use Rattle.project.specs.declared.OptionalDate.{OptionalDate}
-use Rattle.project.specs.declared.OptionalDate.TheVariants.{On, Absent}
 use Rattle.network.specs.Times.{times_at, times_place}
 use Rattle.network.specs.Placed.{times_reverse}
 use Rattle.placing.specs.declared.Actual.{Actual}
@@ -48,9 +44,9 @@ mild_late (MandatoryStart x) m = refl
 mild_late (MandatoryFinish x) m = refl
 mild_late AsLateAsPossible m = absurd m
 
-measured_leaves : {A : Type 0} (x : Work) (go : ℤ → Pass A) (y : A) → measured refused x go ≡ leaves y → (z : ℤ) × (go z ≡ leaves y)
-measured_leaves (Minutes z) go y e = (z, e)
-measured_leaves (Work.Refused k) go y e = let z : ◌≡◌ {A = ℕ} 0 1 = cc in absurd (omega arith)
+measured_leaves : {A : Type 0} (x : Result ℤ ClockError) (go : ℤ → Pass A) (y : A) → measured refused x go ≡ leaves y → (z : ℤ) × (go z ≡ leaves y)
+measured_leaves (Ok z) go y e = (z, e)
+measured_leaves (Err k) go y e = let z : ◌≡◌ {A = ℕ} 0 1 = cc in absurd (omega arith)
 
 either_none : (a b : Bool) → a ≡ false → b ≡ false → (a || b) ≡ false
 either_none a b e f = rw (e, f)
@@ -65,21 +61,21 @@ module _ (p : Plan) (d : Early) where
   abbrev late : ℕ → Bool
   late i = is_late (p.activity i).constraint || is_late (p.activity i).secondary_constraint
 
-  completed_begun : (i : ℕ) (x y : Walk) (l : Bool) → (not_begun p d (via Actual.Refused x (λ s. completed s y)) && l) ≡ false
-  completed_begun i (At t) (At u) l = refl
-  completed_begun i (At t) (Refused k) l = refl
-  completed_begun i (Refused k) y l = refl
+  completed_begun : (i : ℕ) (x y : Result ℕ ClockError) (l : Bool) → (not_begun p d (via Actual.Refused x (λ s. completed s y)) && l) ≡ false
+  completed_begun i (Ok t) (Ok u) l = refl
+  completed_begun i (Ok t) (Err k) l = refl
+  completed_begun i (Err k) y l = refl
 
-  not_late : (i : ℕ) (x y : OptionalDate) → FitBy x y (Marks p i)
+  not_late : (i : ℕ) (x y : Option Date) → FitBy x y (Marks p i)
       → (not_begun p d (actual (own p i) x y) && (late i)) ≡ false
   unfolding actual
-  not_late i Absent Absent m =
+  not_late i None None m =
       either_none (is_late (p.activity i).constraint) (is_late (p.activity i).secondary_constraint) (mild_late (p.activity i).constraint m.first)
       (mild_late (p.activity i).secondary_constraint m.second)
-  not_late i (On a) Absent m = absurd m
-  not_late i Absent (On b) m =
+  not_late i (Some a) None m = absurd m
+  not_late i None (Some b) m =
       completed_begun i (next_start (own p i) (midnight_of b)) (previous_finish (own p i) (evening (midnight_of b))) (late i)
-  not_late i (On a) (On b) m =
+  not_late i (Some a) (Some b) m =
       completed_begun i (next_start (own p i) (midnight_of a)) (previous_finish (own p i) (evening (midnight_of b))) (late i)
 
   pub none_held : Fit p → (i : ℕ) → i < p.activities → holds_late p d i ≡ false
@@ -93,10 +89,10 @@ module _ (p : Plan) (d : Early) where
   unfolding gap
   gap_leaves i t go y e = by (via_leaves (forward_bound p (tie p t) (begun p (recorded p i) (d.es i)) (d.ef i)) (λ b. measured refused (span b) go) y e)
     where
-      span : ℕ → Work
+      span : ℕ → Result ℤ ClockError
       span b = between (own p i) b (target_of p (tie p t).kind (d.es (tie p t).to) (d.ef (tie p t).to))
 
-      by : (b : ℕ) × (forward_bound p (tie p t) (begun p (recorded p i) (d.es i)) (d.ef i) ≡ At b) × (measured refused (span b) go ≡ leaves y) → (z : ℤ) × (go z ≡ leaves y)
+      by : (b : ℕ) × (forward_bound p (tie p t) (begun p (recorded p i) (d.es i)) (d.ef i) ≡ Ok b) × (measured refused (span b) go ≡ leaves y) → (z : ℤ) × (go z ≡ leaves y)
       by (b, h, k) = measured_leaves (span b) go y k
 
   slack_leaves : (i : ℕ) (ts : List ℕ) (slack : ℤ) (go : ℤ → Pass Freed) (y : Freed) → slack_by p d i ts slack go ≡ leaves y → (z : ℤ) × (go z ≡ leaves y)

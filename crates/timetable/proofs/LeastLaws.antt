@@ -1,13 +1,12 @@
 -- One activity that fits, where its predecessors have their dates: its early start is the least that its rules allow, and earlier predecessors only
 -- allow more.
-use Rattle.std.specs.Prelude.{◌≡◌, Bool, false, ℕ, ◌≤◌, ◌<◌}
+use Rattle.std.specs.Prelude.{◌≡◌, Bool, false, ℕ, ◌≤◌, ◌<◌, Option, Some, None}
+use Rattle.date.specs.declared.Date.{Date}
 use Rattle.std.proofs.Common.{sym, ◌∙◌, arith}
 use Rattle.worktime.specs.Worked.{IsAdvance}
 use Rattle.worktime.specs.Count.{count_mono}
 use Rattle.project.specs.declared.ActivityKind.{ActivityKind}
 use Rattle.project.specs.declared.ActivityKind.TheVariants.{Task, StartMilestone, FinishMilestone}
-use Rattle.project.specs.declared.OptionalDate.{OptionalDate}
-use Rattle.project.specs.declared.OptionalDate.TheVariants.{On, Absent}
 use Rattle.project.specs.declared.RelationshipType.{RelationshipType}
 use Rattle.project.specs.declared.RelationshipType.TheVariants.{FinishToStart, StartToStart, FinishToFinish, StartToFinish}
 use Rattle.order.specs.Plan.{Plan}
@@ -61,21 +60,21 @@ module _ (p : Plan) where
   of_held t s f h = record { lagged = h.lagged; shifted = h.shifted; bound = h.bound }
 
   -- what is not completed
-  pub fresh_rule : (i : ℕ) (x y : OptionalDate) (s f : ℕ) (R : Type 0) → y ≡ Absent → CompletedAt p i x y s f R → R
-  fresh_rule i x Absent s f R e c = c
-  fresh_rule i x (On a) s f R e c = let z : ◌≡◌ {A = ℕ} 0 1 = cc in absurd (omega arith)
+  pub fresh_rule : (i : ℕ) (x y : Option Date) (s f : ℕ) (R : Type 0) → y ≡ None → CompletedAt p i x y s f R → R
+  fresh_rule i x None s f R e c = c
+  fresh_rule i x (Some a) s f R e c = let z : ◌≡◌ {A = ℕ} 0 1 = cc in absurd (omega arith)
 
-  pub rule_fresh : (i : ℕ) (x y : OptionalDate) (s f : ℕ) (R : Type 0) → y ≡ Absent → R → CompletedAt p i x y s f R
-  rule_fresh i x Absent s f R e c = c
-  rule_fresh i x (On a) s f R e c = let z : ◌≡◌ {A = ℕ} 0 1 = cc in absurd (omega arith)
+  pub rule_fresh : (i : ℕ) (x y : Option Date) (s f : ℕ) (R : Type 0) → y ≡ None → R → CompletedAt p i x y s f R
+  rule_fresh i x None s f R e c = c
+  rule_fresh i x (Some a) s f R e c = let z : ◌≡◌ {A = ℕ} 0 1 = cc in absurd (omega arith)
 
-  pub fresh_unless : (y : OptionalDate) (R : Type 0) → y ≡ Absent → UnlessCompleted p y R → R
-  fresh_unless Absent R e c = c
-  fresh_unless (On a) R e c = let z : ◌≡◌ {A = ℕ} 0 1 = cc in absurd (omega arith)
+  pub fresh_unless : (y : Option Date) (R : Type 0) → y ≡ None → UnlessCompleted p y R → R
+  fresh_unless None R e c = c
+  fresh_unless (Some a) R e c = let z : ◌≡◌ {A = ℕ} 0 1 = cc in absurd (omega arith)
 
-  pub unless_fresh : (y : OptionalDate) (R : Type 0) → y ≡ Absent → R → UnlessCompleted p y R
-  unless_fresh Absent R e c = c
-  unless_fresh (On a) R e c = tt
+  pub unless_fresh : (y : Option Date) (R : Type 0) → y ≡ None → R → UnlessCompleted p y R
+  unless_fresh None R e c = c
+  unless_fresh (Some a) R e c = tt
 
   -- ---- one activity, where its predecessors have the dates es and ef
   -- the links into i hold of a start v with finish g
@@ -83,7 +82,7 @@ module _ (p : Plan) where
   LinksHold es ef i v g = (t : ℕ) → t < kept p → (tie p t).to ≡ i → HeldBy p (tie p t) i (es (tie p t).from) (ef (tie p t).from) v g
 
   pub record Least (es ef : ℕ → ℕ) (i : ℕ) : Type 0 where
-    pub unfinished : (p.activity i).actual_finish ≡ Absent
+    pub unfinished : (p.activity i).actual_finish ≡ None
     pub may : MayStart (own p i) (kind_of p i) (es i)
     pub advanced : IsAdvance (own p i) (es i) (full p i) (ef i)
     pub floored : floor p ≤ es i
@@ -98,7 +97,7 @@ module _ (p : Plan) where
   held_dates : (t : Tie) (i : ℕ) {s f s' f' v g : ℕ} → s ≡ s' → f ≡ f' → HeldBy p t i s f v g → HeldBy p t i s' f' v g
   held_dates t i a b h = rw a at (rw b at h)
 
-  pub step_least : (d x y : Early) (i : ℕ) (S : FreshStep p x y i) → summary p i ≡ false → Marks p i → (p.activity i).actual_finish ≡ Absent
+  pub step_least : (d x y : Early) (i : ℕ) (S : FreshStep p x y i) → summary p i ≡ false → Marks p i → (p.activity i).actual_finish ≡ None
       → d.es i ≡ S.s → d.ef i ≡ S.f → x.left i ≡ full p i → (kind_of p i ≡ FinishMilestone → full p i ≡ 0)
       → ((t : ℕ) → t < kept p → (tie p t).to ≡ i
       → (begun p (recorded p (tie p t).from) (x.es (tie p t).from) ≡ d.es (tie p t).from) × (x.ef (tie p t).from ≡ d.ef (tie p t).from))

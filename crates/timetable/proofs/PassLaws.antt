@@ -1,13 +1,12 @@
 -- The forward pass, place by place: the dates before each step, what later steps leave alone, the links into an activity and the work left.
 use Rattle.std.proofs.Math.Path.{◌≡◌, refl, ap}
 use Rattle.std.proofs.Common.{sym, ◌∙◌, true≢false, arith, eq-eqb, eqb-true}
-use Rattle.std.specs.Prelude.{Bool, true, false, ◌||◌, ◌≢◌, eqb, length}
+use Rattle.std.specs.Prelude.{Bool, true, false, ◌||◌, ◌≢◌, eqb, length, Ok}
 use mathlib.Core.List.{List, [], ◌∷◌}
 use Rattle.std.proofs.Math.Logic.{⊎_elim}
 use Prim.Native.Nat.{ℕ, zero, suc, ◌+◌, ◌≤◌, ◌<◌}
 use Rattle.std.proofs.Math.ListN.{get_or}
 use Rattle.number.specs.Order.{lt_or_le, eq_or_ne}
-use Rattle.worktime.specs.declared.Walk.TheVariants.{At}
 use Rattle.cells.specs.Chain.{keyed}
 use Rattle.network.specs.Links.{Link, no_link, Linked}
 use Rattle.network.specs.Outgoing.{to_at, incoming}
@@ -115,25 +114,25 @@ module _ (p : Plan) where
         ((tie_ends t l).1 ∙ e)
 
   -- ---- the work left
-  left_step : (n : ℕ) (g : ℕ → ℕ) {f : ℕ → ℕ} → ((j : ℕ) → j < n → left_of p j ≡ At (g j))
-      → (m : ℕ) × (left_of p n ≡ At m) × (leaves (put g n m) ≡ leaves f) → (j : ℕ) → j < suc n → left_of p j ≡ At (f j)
+  left_step : (n : ℕ) (g : ℕ → ℕ) {f : ℕ → ℕ} → ((j : ℕ) → j < n → left_of p j ≡ Ok (g j))
+      → (m : ℕ) × (left_of p n ≡ Ok m) × (leaves (put g n m) ≡ leaves f) → (j : ℕ) → j < suc n → left_of p j ≡ Ok (f j)
   left_step n g {f} h (m, e, z) j l =
       let y : put g n m ≡ f = cc in
-      ⊎_elim (λ k. rw k (e ∙ ap At (sym (put_here g n m) ∙ ap (λ (x : ℕ → ℕ). x n) y)))
-      (λ k. h j (omega arith) ∙ ap At (sym (put_there g n m j k) ∙ ap (λ (x : ℕ → ℕ). x j) y)) (eq_or_ne j n)
+      ⊎_elim (λ k. rw k (e ∙ ap Ok (sym (put_here g n m) ∙ ap (λ (x : ℕ → ℕ). x n) y)))
+      (λ k. h j (omega arith) ∙ ap Ok (sym (put_there g n m j k) ∙ ap (λ (x : ℕ → ℕ). x j) y)) (eq_or_ne j n)
 
-  pub left_of_lem : (n : ℕ) (f : ℕ → ℕ) → left_below p n ≡ leaves f → (j : ℕ) → j < n → left_of p j ≡ At (f j)
+  pub left_of_lem : (n : ℕ) (f : ℕ → ℕ) → left_below p n ≡ leaves f → (j : ℕ) → j < n → left_of p j ≡ Ok (f j)
   unfolding left_below
   left_of_lem zero f e = λ j l. absurd (omega arith)
   left_of_lem (suc n) f e = by (left_of_lem n) (left_below p n) refl e
     where
-      by : ((g : ℕ → ℕ) → left_below p n ≡ leaves g → (j : ℕ) → j < n → left_of p j ≡ At (g j)) → (x : Pass (ℕ → ℕ)) → left_below p n ≡ x
+      by : ((g : ℕ → ℕ) → left_below p n ≡ leaves g → (j : ℕ) → j < n → left_of p j ≡ Ok (g j)) → (x : Pass (ℕ → ℕ)) → left_below p n ≡ x
           → elim x [ leaves f ↦ via refused (left_of p n) (λ m. leaves (put f n m)) | refused k ↦ refused k ] ≡ leaves f
-          → (j : ℕ) → j < suc n → left_of p j ≡ At (f j)
+          → (j : ℕ) → j < suc n → left_of p j ≡ Ok (f j)
       by rest (leaves g) q e = left_step n g (rest g q) (via_leaves (left_of p n) (λ m. leaves (put g n m)) f e)
       by rest (refused k) q e = let z : ◌≡◌ {A = ℕ} 0 1 = cc in absurd (omega arith)
 
-  pub left_full : (j : ℕ) {m : ℕ} → recorded p j ≡ Unstarted → left_of p j ≡ At m → m ≡ full p j
+  pub left_full : (j : ℕ) {m : ℕ} → recorded p j ≡ Unstarted → left_of p j ≡ Ok m → m ≡ full p j
   unfolding left_of
   left_full j e h = let f = ap (left_by p j) e in cc
 

@@ -1,11 +1,10 @@
 -- What one step of the forward pass gives: a completed activity's recorded times, and the least start that meets every bound of another.
-use Rattle.std.specs.Prelude.{◌≡◌, Bool, false, ◌⊎◌, ◌≢◌, ℕ, ◌≤◌, ◌<◌, max, eqb}
+use Rattle.std.specs.Prelude.{◌≡◌, Bool, false, ◌⊎◌, ◌≢◌, ℕ, ◌≤◌, ◌<◌, max, eqb, Result, Ok, Err, Option, Some, None}
+use Rattle.worktime.specs.declared.ClockError.{ClockError}
 use Rattle.std.proofs.Math.Path.{refl, ap}
 use Rattle.std.proofs.Common.{sym, ◌∙◌, inl, inr, ⊎_elim, arith, eq-eqb, ne_eqb}
 use Rattle.number.specs.Order.{lt_or_le}
 use Rattle.date.specs.declared.Date.{Date}
-use Rattle.worktime.specs.declared.Walk.{Walk}
-use Rattle.worktime.specs.declared.Walk.TheVariants.{At, Refused}
 use Rattle.worktime.specs.Walks.{next_start, previous_finish, advance}
 use Rattle.worktime.specs.Worked.{IsAdvance}
 use Rattle.worktime.specs.Relations.{next_start_unique, previous_finish_unique}
@@ -14,8 +13,6 @@ use Rattle.worktime.proofs.Answers.{next_start_sound, previous_finish_sound}
 use Rattle.worktime.proofs.Shift.{advance_sound}
 use Rattle.project.specs.declared.ActivityKind.{ActivityKind}
 use Rattle.project.specs.declared.ActivityKind.TheVariants.{Task, StartMilestone, FinishMilestone}
-use Rattle.project.specs.declared.OptionalDate.{OptionalDate}
-use Rattle.project.specs.declared.OptionalDate.TheVariants.{On, Absent}
 use Rattle.placing.specs.declared.Actual.{Actual}
 use Rattle.placing.specs.declared.Actual.TheVariants.{Unstarted, Begun, Completed}
 use Rattle.placing.specs.Placing.{via, bounded, midnight_of, place_start, finish_of, completed, actual}
@@ -54,32 +51,32 @@ recorded_unique {w} x y =
 module _ (p : Plan) where
   module _ (i : ℕ) where
     -- what is completed, whatever binds the others
-    pub completed_any : (x y : OptionalDate) (s f : ℕ) (R : Type 0) → CompletedAt p i x y s f ⊥ → CompletedAt p i x y s f R
-    completed_any x Absent s f R c = absurd c
-    completed_any Absent (On e) s f R c = c
-    completed_any (On d) (On e) s f R c = c
+    pub completed_any : (x y : Option Date) (s f : ℕ) (R : Type 0) → CompletedAt p i x y s f ⊥ → CompletedAt p i x y s f R
+    completed_any x None s f R c = absurd c
+    completed_any None (Some e) s f R c = c
+    completed_any (Some d) (Some e) s f R c = c
 
-    pub completed_unique : (x y : OptionalDate) (s f s' f' : ℕ) (R : Type 0) → CompletedAt p i x y s f ⊥ → CompletedAt p i x y s' f' R → (s ≡ s') × (f ≡ f')
-    completed_unique x Absent s f s' f' R c c' = absurd c
-    completed_unique Absent (On e) s f s' f' R c c' = recorded_unique c c'
-    completed_unique (On d) (On e) s f s' f' R c c' = recorded_unique c c'
+    pub completed_unique : (x y : Option Date) (s f s' f' : ℕ) (R : Type 0) → CompletedAt p i x y s f ⊥ → CompletedAt p i x y s' f' R → (s ≡ s') × (f ≡ f')
+    completed_unique x None s f s' f' R c c' = absurd c
+    completed_unique None (Some e) s f s' f' R c c' = recorded_unique c c'
+    completed_unique (Some d) (Some e) s f s' f' R c c' = recorded_unique c c'
 
-    pub completed_unless : (x y : OptionalDate) (s f : ℕ) (R : Type 0) → CompletedAt p i x y s f ⊥ → UnlessCompleted p y R
-    completed_unless x Absent s f R c = absurd c
-    completed_unless Absent (On e) s f R c = tt
-    completed_unless (On d) (On e) s f R c = tt
+    pub completed_unless : (x y : Option Date) (s f : ℕ) (R : Type 0) → CompletedAt p i x y s f ⊥ → UnlessCompleted p y R
+    completed_unless x None s f R c = absurd c
+    completed_unless None (Some e) s f R c = tt
+    completed_unless (Some d) (Some e) s f R c = tt
 
   module _ (d d' : Early) (i : ℕ) where
     -- what a step makes of an activity that fits, by its recorded days
-    pub data Sort (x y : OptionalDate) : Type 0 where
-      fresh : actual (own p i) x y ≡ Unstarted → y ≡ Absent → Marks p i → forward_by p d i Unstarted ≡ leaves d' → Sort x y
+    pub data Sort (x y : Option Date) : Type 0 where
+      fresh : actual (own p i) x y ≡ Unstarted → y ≡ None → Marks p i → forward_by p d i Unstarted ≡ leaves d' → Sort x y
       done : (s f : ℕ) → actual (own p i) x y ≡ Completed s f → CompletedAt p i x y s f ⊥ → d' ≡ early p d i s f (d.left i) → Sort x y
 
-    completed_walks : (a b : Date) (x y : Walk) → next_start (own p i) (midnight_of a) ≡ x → previous_finish (own p i) (evening (midnight_of b)) ≡ y
+    completed_walks : (a b : Date) (x y : Result ℕ ClockError) → next_start (own p i) (midnight_of a) ≡ x → previous_finish (own p i) (evening (midnight_of b)) ≡ y
         → forward_by p d i (via Actual.Refused x (λ s. completed s y)) ≡ leaves d'
         → (s : ℕ) × (f : ℕ) × (via Actual.Refused x (λ s. completed s y) ≡ Completed s f) × Recorded (own p i) a b s f
         × (d' ≡ early p d i s f (d.left i))
-    completed_walks a b (At t) (At u) q r e = (
+    completed_walks a b (Ok t) (Ok u) q r e = (
       t,
       max u t,
       refl,
@@ -91,24 +88,24 @@ module _ (p : Plan) where
       },
       cc,
     )
-    completed_walks a b (At t) (Refused k) q r e = let z : ◌≡◌ {A = ℕ} 0 1 = cc in absurd (omega arith)
-    completed_walks a b (Refused k) y q r e = let z : ◌≡◌ {A = ℕ} 0 1 = cc in absurd (omega arith)
+    completed_walks a b (Ok t) (Err k) q r e = let z : ◌≡◌ {A = ℕ} 0 1 = cc in absurd (omega arith)
+    completed_walks a b (Err k) y q r e = let z : ◌≡◌ {A = ℕ} 0 1 = cc in absurd (omega arith)
 
-    pub sort : (x y : OptionalDate) → FitBy x y (Marks p i) → forward_by p d i (actual (own p i) x y) ≡ leaves d' → Sort x y
+    pub sort : (x y : Option Date) → FitBy x y (Marks p i) → forward_by p d i (actual (own p i) x y) ≡ leaves d' → Sort x y
     unfolding actual
-    sort Absent Absent m e = fresh refl refl m e
-    sort (On a) Absent m e = absurd m
-    sort Absent (On b) m e = let r = completed_walks b b (next_start (own p i) (midnight_of b)) (previous_finish (own p i) (evening (midnight_of b))) refl refl e in done r.0 r.1 r.2 r.3 r.4
-    sort (On a) (On b) m e = let r = completed_walks a b (next_start (own p i) (midnight_of a)) (previous_finish (own p i) (evening (midnight_of b))) refl refl e in done r.0 r.1 r.2 r.3 r.4
+    sort None None m e = fresh refl refl m e
+    sort (Some a) None m e = absurd m
+    sort None (Some b) m e = let r = completed_walks b b (next_start (own p i) (midnight_of b)) (previous_finish (own p i) (evening (midnight_of b))) refl refl e in done r.0 r.1 r.2 r.3 r.4
+    sort (Some a) (Some b) m e = let r = completed_walks a b (next_start (own p i) (midnight_of a)) (previous_finish (own p i) (evening (midnight_of b))) refl refl e in done r.0 r.1 r.2 r.3 r.4
 
     -- ---- an activity placed
     pub record PlacedFrom (r : ℕ) : Type 0 where
       pub s : ℕ
       pub m : ℕ
       pub f : ℕ
-      pub place : place_start (own p i) (kind_of p i) r ≡ At s
-      pub minutes : minutes_from p d i s ≡ At m
-      pub finish : advance (own p i) s m ≡ At f
+      pub place : place_start (own p i) (kind_of p i) r ≡ Ok s
+      pub minutes : minutes_from p d i s ≡ Ok m
+      pub finish : advance (own p i) s m ≡ Ok f
       pub gives : d' ≡ early p d i s f m
 
     finished : ℕ → ℕ → ℕ → Pass Early
@@ -125,25 +122,25 @@ module _ (p : Plan) where
     finished_parts s m g e =
         by (via_leaves (bounded (origin p) g) (λ f. leaves (early p d i s f m)) d' e)
       where
-        by : (f : ℕ) × (bounded (origin p) g ≡ At f) × (leaves (early p d i s f m) ≡ leaves d') → d' ≡ early p d i s g m
+        by : (f : ℕ) × (bounded (origin p) g ≡ Ok f) × (leaves (early p d i s f m) ≡ leaves d') → d' ≡ early p d i s g m
         by (f, h, k) = let z = bounded_at (origin p) g h in rw z at (let q : d' ≡ early p d i s f m = cc in q)
 
     pub placed_from : (r : ℕ) → placed p d i r ≡ leaves d' → PlacedFrom r
     unfolding placed finished worked_off begun_at
     placed_from r e = first (via_leaves (place_start (own p i) (kind_of p i) r) (λ t. via refused (bounded (origin p) t) begun_at) d' e)
       where
-        third : (s m : ℕ) → place_start (own p i) (kind_of p i) r ≡ At s → minutes_from p d i s ≡ At m
-            → (g : ℕ) × (finish_of (own p i) m s ≡ At g) × (finished s m g ≡ leaves d') → PlacedFrom r
+        third : (s m : ℕ) → place_start (own p i) (kind_of p i) r ≡ Ok s → minutes_from p d i s ≡ Ok m
+            → (g : ℕ) × (finish_of (own p i) m s ≡ Ok g) × (finished s m g ≡ leaves d') → PlacedFrom r
         third s m a b (g, h, k) = record { s = s; m = m; f = g; place = a; minutes = b; finish = h; gives = finished_parts s m g k }
 
-        second : (s : ℕ) → place_start (own p i) (kind_of p i) r ≡ At s → (m : ℕ) × (minutes_from p d i s ≡ At m) × (worked_off s m ≡ leaves d') → PlacedFrom r
+        second : (s : ℕ) → place_start (own p i) (kind_of p i) r ≡ Ok s → (m : ℕ) × (minutes_from p d i s ≡ Ok m) × (worked_off s m ≡ leaves d') → PlacedFrom r
         second s a (m, h, k) = third s m a h (via_leaves (finish_of (own p i) m s) (finished s m) d' k)
 
-        turn : (t : ℕ) → place_start (own p i) (kind_of p i) r ≡ At t → (s : ℕ) × (bounded (origin p) t ≡ At s) × (begun_at s ≡ leaves d') → PlacedFrom r
+        turn : (t : ℕ) → place_start (own p i) (kind_of p i) r ≡ Ok t → (s : ℕ) × (bounded (origin p) t ≡ Ok s) × (begun_at s ≡ leaves d') → PlacedFrom r
         turn t a (s, h, k) =
-            second s (a ∙ ap At (sym (bounded_at (origin p) t h))) (via_leaves (minutes_from p d i s) (worked_off s) d' k)
+            second s (a ∙ ap Ok (sym (bounded_at (origin p) t h))) (via_leaves (minutes_from p d i s) (worked_off s) d' k)
 
-        first : (t : ℕ) × (place_start (own p i) (kind_of p i) r ≡ At t) × (via refused (bounded (origin p) t) begun_at ≡ leaves d') → PlacedFrom r
+        first : (t : ℕ) × (place_start (own p i) (kind_of p i) r ≡ Ok t) × (via refused (bounded (origin p) t) begun_at ≡ leaves d') → PlacedFrom r
         first (t, h, k) = turn t h (via_leaves (bounded (origin p) t) begun_at d' k)
 
     -- every step changes one activity's dates
@@ -173,20 +170,20 @@ module _ (p : Plan) where
     step_changes e = step_by (recorded p i) e
 
     -- ---- one that is not begun
-    unexpected : (x : OptionalDate) → Unexpected Task x → x ≡ Absent
-    unexpected Absent u = refl
-    unexpected (On a) u = absurd u
+    unexpected : (x : Option Date) → Unexpected Task x → x ≡ None
+    unexpected None u = refl
+    unexpected (Some a) u = absurd u
 
-    none_expected : (k : ActivityKind) → Unexpected k (p.activity i).expected_finish → expected_on p d i k ≡ Absent
+    none_expected : (k : ActivityKind) → Unexpected k (p.activity i).expected_finish → expected_on p d i k ≡ None
     none_expected Task u = unexpected (p.activity i).expected_finish u
     none_expected StartMilestone u = refl
     none_expected FinishMilestone u = refl
 
-    minutes_left : summary p i ≡ false → Unexpected (kind_of p i) (p.activity i).expected_finish → (s : ℕ) {m : ℕ} → minutes_from p d i s ≡ At m → m ≡ d.left i
+    minutes_left : summary p i ≡ false → Unexpected (kind_of p i) (p.activity i).expected_finish → (s : ℕ) {m : ℕ} → minutes_from p d i s ≡ Ok m → m ≡ d.left i
     unfolding minutes_from
     minutes_left z u s {m} e =
-        let a = on_false (summary p i) (At (d.left i)) (work_to p d i s (expected_on p d i (kind_of p i))) z in
-        let b : work_to p d i s (expected_on p d i (kind_of p i)) ≡ At (d.left i) = ap (work_to p d i s) (none_expected (kind_of p i) u) in
+        let a = on_false (summary p i) (Ok (d.left i)) (work_to p d i s (expected_on p d i (kind_of p i))) z in
+        let b : work_to p d i s (expected_on p d i (kind_of p i)) ≡ Ok (d.left i) = ap (work_to p d i s) (none_expected (kind_of p i) u) in
         cc
 
     pub record FreshStep : Type 0 where
@@ -194,8 +191,8 @@ module _ (p : Plan) where
       pub r : ℕ
       pub s : ℕ
       pub f : ℕ
-      pub raises : raised p d i (ties_into p i) (floor p) ≡ At r₀
-      pub holds : held p d i r₀ ≡ At r
+      pub raises : raised p d i (ties_into p i) (floor p) ≡ Ok r₀
+      pub holds : held p d i r₀ ≡ Ok r
       pub place : IsPlace (own p i) (kind_of p i) r s
       pub finish : IsAdvance (own p i) s (d.left i) f
       pub gives : d' ≡ early p d i s f (d.left i)

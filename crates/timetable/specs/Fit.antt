@@ -1,11 +1,10 @@
 -- Which plans the claim of earliest starts is about: "nothing in progress, no expected finish, no mandatory or as-late-as-possible mark".
-use Rattle.std.specs.Prelude.{◌≡◌, false, ℕ, ◌<◌}
+use Rattle.std.specs.Prelude.{◌≡◌, false, ℕ, ◌<◌, Option, Some, None}
+use Rattle.date.specs.declared.Date.{Date}
 use Rattle.project.specs.declared.ActivityKind.{ActivityKind}
 use Rattle.project.specs.declared.ActivityKind.TheVariants.{Task, StartMilestone, FinishMilestone}
 use Rattle.project.specs.declared.Constraint.{Constraint}
 use Rattle.project.specs.declared.Constraint.TheVariants.{Unconstrained, StartOnOrAfter, StartOnOrBefore, FinishOnOrAfter, FinishOnOrBefore, StartOn, FinishOn, MandatoryStart, MandatoryFinish, AsLateAsPossible}
-use Rattle.project.specs.declared.OptionalDate.{OptionalDate}
-use Rattle.project.specs.declared.OptionalDate.TheVariants.{On, Absent}
 use Rattle.order.specs.Plan.{Plan}
 use Rattle.order.specs.Ids.{summary}
 
@@ -23,17 +22,17 @@ Mild (MandatoryFinish d) = ⊥
 Mild AsLateAsPossible = ⊥
 
 -- an expected finish that is read: a milestone's never is
-abbrev pub Unexpected : ActivityKind → OptionalDate → Type 0
-Unexpected Task Absent = Unit {0}
-Unexpected Task (On d) = ⊥
+abbrev pub Unexpected : ActivityKind → Option Date → Type 0
+Unexpected Task None = Unit {0}
+Unexpected Task (Some d) = ⊥
 Unexpected StartMilestone d = Unit {0}
 Unexpected FinishMilestone d = Unit {0}
 
 -- by what is recorded: completed work's marks and expected finish are never read, and work in progress does not fit
-abbrev pub FitBy : OptionalDate → OptionalDate → Type 0 → Type 0
-FitBy start (On e) rest = Unit {0}
-FitBy (On d) Absent rest = ⊥
-FitBy Absent Absent rest = rest
+abbrev pub FitBy : Option Date → Option Date → Type 0 → Type 0
+FitBy start (Some e) rest = Unit {0}
+FitBy (Some d) None rest = ⊥
+FitBy None None rest = rest
 
 pub record Marks (p : Plan) (i : ℕ) : Type 0 where
   pub first : Mild (p.activity i).constraint

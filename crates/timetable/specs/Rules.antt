@@ -1,5 +1,5 @@
 -- "Timetable rules": what it is for a timetable to obey them. Walks are the clock's relations, which know no limit of years.
-use Rattle.std.specs.Prelude.{◌≡◌, Bool, true, false, ◌⊎◌, ℕ, suc, ◌≤◌, ◌<◌, ℤ, pos, negsuc, length}
+use Rattle.std.specs.Prelude.{◌≡◌, Bool, true, false, ◌⊎◌, ℕ, suc, ◌≤◌, ◌<◌, ℤ, pos, negsuc, length, Option, Some, None}
 use Rattle.date.specs.declared.Date.{Date}
 use Rattle.date.specs.Days.{signed_minute}
 use Rattle.worktime.specs.Worked.{count, closing, IsNextStart, IsPreviousFinish, IsAdvance, IsRetreat}
@@ -7,8 +7,6 @@ use Rattle.project.specs.declared.ActivityKind.{ActivityKind}
 use Rattle.project.specs.declared.ActivityKind.TheVariants.{Task, StartMilestone, FinishMilestone}
 use Rattle.project.specs.declared.Constraint.{Constraint}
 use Rattle.project.specs.declared.Constraint.TheVariants.{Unconstrained, StartOnOrAfter, StartOnOrBefore, FinishOnOrAfter, FinishOnOrBefore, StartOn, FinishOn, MandatoryStart, MandatoryFinish, AsLateAsPossible}
-use Rattle.project.specs.declared.OptionalDate.{OptionalDate}
-use Rattle.project.specs.declared.OptionalDate.TheVariants.{On, Absent}
 use Rattle.project.specs.declared.RelationshipType.{RelationshipType}
 use Rattle.project.specs.declared.RelationshipType.TheVariants.{FinishToStart, StartToStart, FinishToFinish, StartToFinish}
 use Rattle.placing.specs.Placing.{midnight_of, day_start}
@@ -51,10 +49,10 @@ pub record Recorded (w : ℕ → Bool) (first last : Date) (s f : ℕ) : Type 0 
 
 module _ (p : Plan) where
   -- "000's tests on the sheet's fields [..] say what is completed"
-  abbrev pub CompletedAt : ℕ → OptionalDate → OptionalDate → ℕ → ℕ → Type 0 → Type 0
-  CompletedAt i start Absent s f others = others
-  CompletedAt i Absent (On e) s f others = Recorded (own p i) e e s f
-  CompletedAt i (On d) (On e) s f others = Recorded (own p i) d e s f
+  abbrev pub CompletedAt : ℕ → Option Date → Option Date → ℕ → ℕ → Type 0 → Type 0
+  CompletedAt i start None s f others = others
+  CompletedAt i None (Some e) s f others = Recorded (own p i) e e s f
+  CompletedAt i (Some d) (Some e) s f others = Recorded (own p i) d e s f
 
   -- "start on or after, start on, levelled: as SS at `constraint_time`; finish on or after, finish on: as FF"; "'Before' limits bind only the late pass"
   abbrev pub FinishDate : ℕ → Date → ℕ → Type 0
@@ -72,9 +70,9 @@ module _ (p : Plan) where
   Meets i (MandatoryFinish d) s f = Unit {0}
   Meets i AsLateAsPossible s f = Unit {0}
 
-  abbrev pub MeetsLevelled : ℕ → OptionalDate → ℕ → Type 0
-  MeetsLevelled i (On d) s = day_start (own p i) (midnight_of d) ≤ s
-  MeetsLevelled i Absent s = Unit {0}
+  abbrev pub MeetsLevelled : ℕ → Option Date → ℕ → Type 0
+  MeetsLevelled i (Some d) s = day_start (own p i) (midnight_of d) ≤ s
+  MeetsLevelled i None s = Unit {0}
 
   -- an activity that is not completed, by itself
   pub record Placed (i s f : ℕ) : Type 0 where
@@ -91,9 +89,9 @@ module _ (p : Plan) where
     pub shifted : IsShift (lag_own p t) (source_of p t.kind (s t.from) (f t.from)) t.lag lagged
     pub bound : Bounds (own p t.to) (kind_of p t.to) t.kind lagged (s t.to) (f t.to)
 
-  abbrev pub UnlessCompleted : OptionalDate → Type 0 → Type 0
-  UnlessCompleted Absent rule = rule
-  UnlessCompleted (On e) rule = Unit {0}
+  abbrev pub UnlessCompleted : Option Date → Type 0 → Type 0
+  UnlessCompleted None rule = rule
+  UnlessCompleted (Some e) rule = Unit {0}
 
   -- starts s with their finishes f
   pub record Obeyed (s f : ℕ → ℕ) : Type 0 where

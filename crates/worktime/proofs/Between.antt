@@ -1,15 +1,15 @@
 -- The worked minutes between two times, on a day and before a time of it are differences of counts, refused with 8 just outside the years.
-use Rattle.std.specs.Prelude.{◌≡◌, Bool, true, false, ◌⊎◌, ℕ, zero, suc, ◌+◌, ◌-◌, ◌*◌, ◌/◌, ◌%◌, ◌≤◌, ◌<◌, leb, ℤ, pos, negsuc, neg_ℤ, ◌+ℤ◌, ◌-ℤ◌}
+use Rattle.std.specs.Prelude.{◌≡◌, Bool, true, false, ◌⊎◌, ℕ, zero, suc, ◌+◌, ◌-◌, ◌*◌, ◌/◌, ◌%◌, ◌≤◌, ◌<◌, leb, ℤ, pos, negsuc, neg_ℤ, ◌+ℤ◌, ◌-ℤ◌, Result, Ok, Err}
+use Rattle.worktime.specs.declared.ClockError.{ClockError}
+use Rattle.worktime.specs.declared.ClockError.TheVariants.{TooLong}
 use Rattle.std.proofs.Common.{sym, ap, ◌∙◌, inl, inr, arith, le-leb, lt-ltb, le-ltb}
 use Rattle.std.proofs.Math.Logic.{⊎_elim}
 use Rattle.std.proofs.lemmas.Bool.{lt-leb}
 use Rattle.std.proofs.Math.IntN.{neg_ℤ-neg_ℤ, +ℤ_comm, +ℤ_assoc, -ℤ-+ℤ_cancel}
 use Rattle.date.specs.Years.{in_years}
 use Rattle.number.specs.Order.{cases, lt_or_le}
-use Rattle.worktime.specs.declared.Work.{Work}
-use Rattle.worktime.specs.declared.Work.TheVariants.{Minutes}
 use Rattle.worktime.specs.Worked.{count, IsAdvance, IsRetreat}
-use Rattle.worktime.specs.Walks.{too_long, first_minute, end_minute, spanned, work_from, between, day_work, worked_before}
+use Rattle.worktime.specs.Walks.{first_minute, end_minute, spanned, work_from, between, day_work, worked_before}
 use Rattle.worktime.specs.Count.{count_mono, count_spanned, spanned_to}
 use Rattle.worktime.specs.Reads.{minute_in, on_true, on_false, reads_in, reads_out}
 
@@ -27,7 +27,7 @@ less_down (suc x) y (suc n) e = let z : suc x - suc y ≡ n = omega arith in rw 
 less_add : (a b c : ℤ) → (b -ℤ a) +ℤ (c -ℤ b) ≡ c -ℤ a
 less_add a b c = +ℤ_comm (b -ℤ a) (c -ℤ b) ∙ sym (+ℤ_assoc (c -ℤ b) b (neg_ℤ a)) ∙ ap (λ x. x +ℤ neg_ℤ a) (-ℤ-+ℤ_cancel c b)
 
-minutes_or_refused : {x : Work} {z : ℤ} {k : ℕ} → x ≡ Minutes z → x ≡ Work.Refused k → ⊥
+minutes_or_refused : {x : Result ℤ ClockError} {z : ℤ} {k : ClockError} → x ≡ Ok z → x ≡ Err k → ⊥
 minutes_or_refused p q = let e : ◌≡◌ {A = ℕ} 0 1 = cc in omega arith
 
 module _ (w : ℕ → Bool) where
@@ -103,37 +103,37 @@ module _ (w : ℕ → Bool) where
 
   -- ---- between
 
-  pub between_out_first : (a b : ℕ) → in_years (a / 1440) ≡ false → between w a b ≡ Work.Refused too_long
+  pub between_out_first : (a b : ℕ) → in_years (a / 1440) ≡ false → between w a b ≡ Err TooLong
   unfolding between
-  between_out_first a b e = reads_out Work.Refused _ _ e
+  between_out_first a b e = reads_out Err _ _ e
 
-  pub between_out_second : (a b : ℕ) → in_years (b / 1440) ≡ false → between w a b ≡ Work.Refused too_long
+  pub between_out_second : (a b : ℕ) → in_years (b / 1440) ≡ false → between w a b ≡ Err TooLong
   unfolding between
   between_out_second a b e =
-      ⊎_elim (λ h. reads_in Work.Refused _ _ h ∙ reads_out Work.Refused _ _ e) (λ h. between_out_first a b h) (cases (in_years (a / 1440)))
+      ⊎_elim (λ h. reads_in Err _ _ h ∙ reads_out Err _ _ e) (λ h. between_out_first a b h) (cases (in_years (a / 1440)))
 
-  pub between_in : (a b : ℕ) → in_years (a / 1440) ≡ true → in_years (b / 1440) ≡ true → between w a b ≡ Minutes (work_from w a b)
+  pub between_in : (a b : ℕ) → in_years (a / 1440) ≡ true → in_years (b / 1440) ≡ true → between w a b ≡ Ok (work_from w a b)
   unfolding between
-  between_in a b e f = reads_in Work.Refused _ _ e ∙ reads_in Work.Refused _ _ f
+  between_in a b e f = reads_in Err _ _ e ∙ reads_in Err _ _ f
 
   pub between_up : (a b n : ℕ) → in_years (a / 1440) ≡ true → in_years (b / 1440) ≡ true → count w a + n ≡ count w b
-      → between w a b ≡ Minutes (pos n)
-  between_up a b n e f c = between_in a b e f ∙ ap Minutes (work_from_up a b n c)
+      → between w a b ≡ Ok (pos n)
+  between_up a b n e f c = between_in a b e f ∙ ap Ok (work_from_up a b n c)
 
   pub between_down : (a b n : ℕ) → in_years (a / 1440) ≡ true → in_years (b / 1440) ≡ true → count w b + n ≡ count w a
-      → between w a b ≡ Minutes (neg_ℤ (pos n))
-  between_down a b n e f c = between_in a b e f ∙ ap Minutes (work_from_down a b n c)
+      → between w a b ≡ Ok (neg_ℤ (pos n))
+  between_down a b n e f c = between_in a b e f ∙ ap Ok (work_from_down a b n c)
 
-  pub between_forward : (a b : ℕ) → first_minute ≤ a → a ≤ b → b < end_minute → between w a b ≡ Minutes (pos (count w b - count w a))
+  pub between_forward : (a b : ℕ) → first_minute ≤ a → a ≤ b → b < end_minute → between w a b ≡ Ok (pos (count w b - count w a))
   between_forward a b x l y =
-      between_in a b (minute_in a x (omega arith)) (minute_in b (omega arith) y) ∙ ap Minutes (work_from_forward a b l)
+      between_in a b (minute_in a x (omega arith)) (minute_in b (omega arith) y) ∙ ap Ok (work_from_forward a b l)
 
   pub between_back : (a b : ℕ) → first_minute ≤ b → b ≤ a → a < end_minute
-      → between w a b ≡ Minutes (neg_ℤ (pos (count w a - count w b)))
+      → between w a b ≡ Ok (neg_ℤ (pos (count w a - count w b)))
   between_back a b x l y =
-      between_in a b (minute_in a (omega arith) y) (minute_in b x (omega arith)) ∙ ap Minutes (work_from_back a b l)
+      between_in a b (minute_in a (omega arith) y) (minute_in b x (omega arith)) ∙ ap Ok (work_from_back a b l)
 
-  pub between_sound : (a b : ℕ) (z : ℤ) → between w a b ≡ Minutes z
+  pub between_sound : (a b : ℕ) (z : ℤ) → between w a b ≡ Ok z
       → (z ≡ work_from w a b) × (in_years (a / 1440) ≡ true) × (in_years (b / 1440) ≡ true)
   between_sound a b z e =
       ⊎_elim
@@ -142,33 +142,33 @@ module _ (w : ℕ → Bool) where
       (λ y. absurd (minutes_or_refused e (between_out_second a b y))) (cases (in_years (b / 1440))))
       (λ x. absurd (minutes_or_refused e (between_out_first a b x))) (cases (in_years (a / 1440)))
 
-  pub between_why : (a b k : ℕ) → between w a b ≡ Work.Refused k
-      → (k ≡ too_long) × ((in_years (a / 1440) ≡ false) ⊎ (in_years (b / 1440) ≡ false))
+  pub between_why : (a b : ℕ) (k : ClockError) → between w a b ≡ Err k
+      → (k ≡ TooLong) × ((in_years (a / 1440) ≡ false) ⊎ (in_years (b / 1440) ≡ false))
   between_why a b k e =
       ⊎_elim
       (λ x.
       ⊎_elim (λ y. absurd (minutes_or_refused (between_in a b x y) e)) (λ y. let f = between_out_second a b y in (cc, inr y))
       (cases (in_years (b / 1440)))) (λ x. let f = between_out_first a b x in (cc, inl x)) (cases (in_years (a / 1440)))
 
-  pub between_refused : (a b k : ℕ) → between w a b ≡ Work.Refused k → k ≡ too_long
+  pub between_refused : (a b : ℕ) (k : ClockError) → between w a b ≡ Err k → k ≡ TooLong
   between_refused a b k e = (between_why a b k e).0
 
   -- ---- the minutes worked on a day
 
-  pub day_work_out : (d : ℕ) → in_years d ≡ false → day_work w d ≡ Work.Refused too_long
+  pub day_work_out : (d : ℕ) → in_years d ≡ false → day_work w d ≡ Err TooLong
   unfolding day_work
-  day_work_out d e = reads_out Work.Refused _ _ e
+  day_work_out d e = reads_out Err _ _ e
 
-  day_work_in : (d : ℕ) → in_years d ≡ true → day_work w d ≡ Minutes (pos (spanned w (d * 1440) 1440))
+  day_work_in : (d : ℕ) → in_years d ≡ true → day_work w d ≡ Ok (pos (spanned w (d * 1440) 1440))
   unfolding day_work
-  day_work_in d e = reads_in Work.Refused _ _ e
+  day_work_in d e = reads_in Err _ _ e
 
-  pub day_work_at : (d n : ℕ) → in_years d ≡ true → count w (d * 1440) + n ≡ count w (d * 1440 + 1440) → day_work w d ≡ Minutes (pos n)
+  pub day_work_at : (d n : ℕ) → in_years d ≡ true → count w (d * 1440) + n ≡ count w (d * 1440 + 1440) → day_work w d ≡ Ok (pos n)
   day_work_at d n e c =
       let s : spanned w (d * 1440) 1440 ≡ n = omega (arith, count_spanned w (d * 1440) 1440) in
-      day_work_in d e ∙ ap (λ x. Minutes (pos x)) s
+      day_work_in d e ∙ ap (λ x. Ok (pos x)) s
 
-  pub day_work_sound : (d : ℕ) (z : ℤ) → day_work w d ≡ Minutes z
+  pub day_work_sound : (d : ℕ) (z : ℤ) → day_work w d ≡ Ok z
       → (z ≡ pos (count w (d * 1440 + 1440) - count w (d * 1440))) × (in_years d ≡ true)
   day_work_sound d z e =
       let c : count w (d * 1440) + (count w (d * 1440 + 1440) - count w (d * 1440)) ≡ count w (d * 1440 + 1440) =
@@ -176,31 +176,31 @@ module _ (w : ℕ → Bool) where
       ⊎_elim (λ x. let f = day_work_at d (count w (d * 1440 + 1440) - count w (d * 1440)) x c in (cc, x))
       (λ x. absurd (minutes_or_refused e (day_work_out d x))) (cases (in_years d))
 
-  pub day_work_why : (d k : ℕ) → day_work w d ≡ Work.Refused k → (k ≡ too_long) × (in_years d ≡ false)
+  pub day_work_why : (d : ℕ) (k : ClockError) → day_work w d ≡ Err k → (k ≡ TooLong) × (in_years d ≡ false)
   day_work_why d k e =
       ⊎_elim (λ x. absurd (minutes_or_refused (day_work_in d x) e)) (λ x. let f = day_work_out d x in (cc, x)) (cases (in_years d))
 
-  pub day_work_refused : (d k : ℕ) → day_work w d ≡ Work.Refused k → k ≡ too_long
+  pub day_work_refused : (d : ℕ) (k : ClockError) → day_work w d ≡ Err k → k ≡ TooLong
   day_work_refused d k e = (day_work_why d k e).0
 
   -- ---- the minutes worked on t's day before t
 
-  pub worked_before_out : (t : ℕ) → in_years (t / 1440) ≡ false → worked_before w t ≡ Work.Refused too_long
+  pub worked_before_out : (t : ℕ) → in_years (t / 1440) ≡ false → worked_before w t ≡ Err TooLong
   unfolding worked_before
-  worked_before_out t e = reads_out Work.Refused _ _ e
+  worked_before_out t e = reads_out Err _ _ e
 
-  worked_before_in : (t : ℕ) → in_years (t / 1440) ≡ true → worked_before w t ≡ Minutes (pos (spanned w (t / 1440 * 1440) (t % 1440)))
+  worked_before_in : (t : ℕ) → in_years (t / 1440) ≡ true → worked_before w t ≡ Ok (pos (spanned w (t / 1440 * 1440) (t % 1440)))
   unfolding worked_before
-  worked_before_in t e = reads_in Work.Refused _ _ e
+  worked_before_in t e = reads_in Err _ _ e
 
   pub worked_before_at : (t n : ℕ) → in_years (t / 1440) ≡ true → count w (t / 1440 * 1440) + n ≡ count w t
-      → worked_before w t ≡ Minutes (pos n)
+      → worked_before w t ≡ Ok (pos n)
   worked_before_at t n e c =
       let m : t / 1440 * 1440 + t % 1440 ≡ t = omega arith in
       let s : spanned w (t / 1440 * 1440) (t % 1440) ≡ n = omega (arith, count_spanned w (t / 1440 * 1440) (t % 1440), ap (count w) m) in
-      worked_before_in t e ∙ ap (λ x. Minutes (pos x)) s
+      worked_before_in t e ∙ ap (λ x. Ok (pos x)) s
 
-  pub worked_before_sound : (t : ℕ) (z : ℤ) → worked_before w t ≡ Minutes z
+  pub worked_before_sound : (t : ℕ) (z : ℤ) → worked_before w t ≡ Ok z
       → (z ≡ pos (count w t - count w (t / 1440 * 1440))) × (in_years (t / 1440) ≡ true)
   worked_before_sound t z e =
       let c : count w (t / 1440 * 1440) + (count w t - count w (t / 1440 * 1440)) ≡ count w t =
@@ -208,10 +208,10 @@ module _ (w : ℕ → Bool) where
       ⊎_elim (λ x. let f = worked_before_at t (count w t - count w (t / 1440 * 1440)) x c in (cc, x))
       (λ x. absurd (minutes_or_refused e (worked_before_out t x))) (cases (in_years (t / 1440)))
 
-  pub worked_before_why : (t k : ℕ) → worked_before w t ≡ Work.Refused k → (k ≡ too_long) × (in_years (t / 1440) ≡ false)
+  pub worked_before_why : (t : ℕ) (k : ClockError) → worked_before w t ≡ Err k → (k ≡ TooLong) × (in_years (t / 1440) ≡ false)
   worked_before_why t k e =
       ⊎_elim (λ x. absurd (minutes_or_refused (worked_before_in t x) e)) (λ x. let f = worked_before_out t x in (cc, x))
       (cases (in_years (t / 1440)))
 
-  pub worked_before_refused : (t k : ℕ) → worked_before w t ≡ Work.Refused k → k ≡ too_long
+  pub worked_before_refused : (t : ℕ) (k : ClockError) → worked_before w t ≡ Err k → k ≡ TooLong
   worked_before_refused t k e = (worked_before_why t k e).0

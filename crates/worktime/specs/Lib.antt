@@ -1,4 +1,5 @@
 -- Working time over any set of worked minutes.
+pub mod Number
 pub mod Worked
 pub mod Walks
 pub mod Count

@@ -1,11 +1,11 @@
 -- The limit of years in minutes: which times a walk may read, and the ways of an answer.
-use Rattle.std.specs.Prelude.{◌≡◌, Bool, true, false, ◌⊎◌, ℕ, ◌/◌, ◌≤◌, ◌<◌}
+use Rattle.std.specs.Prelude.{◌≡◌, Bool, true, false, ◌⊎◌, ℕ, ◌/◌, ◌≤◌, ◌<◌, Result, Ok, Err}
+use Rattle.worktime.specs.declared.ClockError.{ClockError}
+use Rattle.worktime.specs.declared.ClockError.TheVariants.{TooLong}
 use Rattle.std.proofs.Common.{inl, inr, ⊎_elim, arith}
 use Rattle.date.specs.Years.{in_years, years_before, years_after, years_within, years_in}
 use Rattle.number.specs.Order.{lt_or_le}
-use Rattle.worktime.specs.declared.Walk.{Walk}
-use Rattle.worktime.specs.declared.Walk.TheVariants.{At, Refused}
-use Rattle.worktime.specs.Walks.{too_long, first_minute, end_minute, reads}
+use Rattle.worktime.specs.Walks.{first_minute, end_minute, reads}
 
 -- ---- the days of times
 
@@ -34,33 +34,33 @@ on_true b x y e = rw e
 pub on_false : {A : Type 0} (b : Bool) (x y : A) → b ≡ false → elim b [ true ↦ x | false ↦ y ] ≡ y
 on_false b x y e = rw e
 
-module _ {A : Type 0} (refused : ℕ → A) where
+module _ {A : Type 0} (refused : ClockError → A) where
   pub reads_in : (d : ℕ) (x : A) → in_years d ≡ true → reads refused d x ≡ x
   unfolding reads
   reads_in d x e = rw (e, reads)
 
-  pub reads_out : (d : ℕ) (x : A) → in_years d ≡ false → reads refused d x ≡ refused too_long
+  pub reads_out : (d : ℕ) (x : A) → in_years d ≡ false → reads refused d x ≡ refused TooLong
   unfolding reads
   reads_out d x e = rw (e, reads)
 
 -- ---- the two ways of a walk: it answers a time of which P holds, or it is refused with 8 since R holds
 
-pub data Ways (x : Walk) (P : ℕ → Type 0) (R : Type 0) : Type 0 where
-  answers : (u : ℕ) → x ≡ At u → P u → Ways x P R
-  refuses : x ≡ Refused too_long → R → Ways x P R
+pub data Ways (x : Result ℕ ClockError) (P : ℕ → Type 0) (R : Type 0) : Type 0 where
+  answers : (u : ℕ) → x ≡ Ok u → P u → Ways x P R
+  refuses : x ≡ Err TooLong → R → Ways x P R
 
-pub at_or_refused : {x : Walk} {u k : ℕ} → x ≡ At u → x ≡ Refused k → ⊥
+pub at_or_refused : {x : Result ℕ ClockError} {u : ℕ} {k : ClockError} → x ≡ Ok u → x ≡ Err k → ⊥
 at_or_refused p q = let z : ◌≡◌ {A = ℕ} 0 1 = cc in omega arith
 
-module _ {x : Walk} {P : ℕ → Type 0} {R : Type 0} where
-  pub ways_sound : {u : ℕ} → Ways x P R → x ≡ At u → P u
+module _ {x : Result ℕ ClockError} {P : ℕ → Type 0} {R : Type 0} where
+  pub ways_sound : {u : ℕ} → Ways x P R → x ≡ Ok u → P u
   ways_sound {u} (answers v e p) f = let same : v ≡ u = cc in rw same at p
   ways_sound (refuses e r) f = absurd (at_or_refused f e)
 
-  pub ways_number : {k : ℕ} → Ways x P R → x ≡ Refused k → k ≡ too_long
+  pub ways_number : {k : ClockError} → Ways x P R → x ≡ Err k → k ≡ TooLong
   ways_number (answers v e p) f = absurd (at_or_refused e f)
   ways_number (refuses e r) f = cc
 
-  pub ways_refused : {k : ℕ} → Ways x P R → x ≡ Refused k → R
+  pub ways_refused : {k : ClockError} → Ways x P R → x ≡ Err k → R
   ways_refused (answers v e p) f = absurd (at_or_refused e f)
   ways_refused (refuses e r) f = r

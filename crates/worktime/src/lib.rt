@@ -1,23 +1,22 @@
-// The clock's answers: a time, a count of worked minutes or a test, or the number of the refusal.
+// Why the clock does not answer: its walks, counts and tests end in a time, a number or a bool, or in one of these.
 #![tactic(auto)]
 
-// A time, in minutes from the first day that an i32 can name.
-#[derive(Clone, Copy)]
-pub enum Walk {
-    At(u64),
-    Refused(u64),
+ghost use Rattle.std.specs.Prelude.{◌≡◌, ◌<◌};
+ghost use Rattle.worktime.specs.Number.{clock_number};
+
+// The walk leads out of the years that may be read, or a time out of the plan's span.
+#[derive(Clone, Copy, Debug, PartialEq, Eq)]
+pub enum ClockError {
+    TooLong,
 }
 
-// Worked minutes, negative where the second of two times comes first.
-#[derive(Clone, Copy)]
-pub enum Work {
-    Minutes(i64),
-    Refused(u64),
-}
-
-// Whether a minute is worked.
-#[derive(Clone, Copy)]
-pub enum Working {
-    Is(bool),
-    Refused(u64),
+impl ClockError {
+    // The row of the table of refusals.
+    pub fn number(self) -> u64
+        ensures { (result ≡ clock_number self) × (result < 16) }
+    {
+        match self {
+            ClockError::TooLong => 8,
+        }
+    }
 }

@@ -16,6 +16,7 @@ use Rattle.topology.specs.Frame.{Frame}
 use Rattle.memory.specs.State.{state_of}
 use Rattle.dates.specs.KeptLaws.{ready_kept, recorded_kept, early_kept}
 use Rattle.dates.specs.OrderLaws.{backward_length, backward_at, backward_below}
+use Rattle.number.specs.Exits.{handed_on}
 use Rattle.backward.proofs.backward_all.Goals as goal
 
 pub loop-q-init : goal.loop-q-init
@@ -44,12 +45,11 @@ backward_one-requires c =
     let R = ready_kept c.requires.0 L.invariant.2 L.invariant.1 (omega arith) in
     (R, recorded_kept L.invariant.2 p refl refl refl c.requires.1, omega (arith, c.get_act-i.ensures.0, backward_below R L.q c.loop-q-test.true))
 
-pub shape_of-work-in-Refused : goal.shape_of-work-in-Refused
-shape_of-work-in-Refused c = c.backward_one.ensures.2 ∙ c.loop-q.invariant.1
+pub shape_of-work-in_err-backward_one : goal.shape_of-work-in_err-backward_one
+shape_of-work-in_err-backward_one c = c.backward_one.ensures.2 ∙ c.loop-q.invariant.1
 
-pub returns-in-Refused : goal.returns-in-Refused
-returns-in-Refused c =
-    let C = c.args.contents in
+pub returns-in_err-backward_one : goal.returns-in_err-backward_one
+returns-in_err-backward_one c = rw (handed_on _ _ c.from_residual.ensures.1) (let C = c.args.contents in
     let p = plan_of c.args.sheet.now C in
     let S = state_of C.activities C.links c.args.work.now in
     let L = c.loop-q in
@@ -62,10 +62,10 @@ returns-in-Refused c =
     let at = c.get_act-i.ensures.0 ∙ backward_at R L.q c.loop-q-test.true in
     let l : L.q < length (reverse (order p)) = omega (arith, c.loop-q-test.true, backward_length R) in
     let e = b.0 ∙ ap (λ (d : Early). backward p d last (late_in p T last) i) (early_kept L.invariant.2 p refl refl refl) in (
-      through_stop (backward p (early_in p S) last) (reverse (order p)) (late_in p S last) L.invariant.3 i at l (late_in p U last) c.backward_one.result e (late_in p U last) _ c.in-Refused.is,
+      through_stop (backward p (early_in p S) last) (reverse (order p)) (late_in p S last) L.invariant.3 i at l (late_in p U last) c.backward_one.result e (late_in p U last) _ c.in_err-backward_one.was,
       frame_then 10 12 0 0 L.invariant.2 b.1,
       b.2 ∙ L.invariant.1,
-    )
+    ))
 
 pub overflow_add-q-in-loop-q : goal.overflow_add-q-in-loop-q
 overflow_add-q-in-loop-q c = omega (arith, c.loop-q-test.true, c.requires.0.read.activities_few)
@@ -91,7 +91,7 @@ loop-q-preserved c =
       omega (arith, c.loop-q-test.true),
       b.2 ∙ L.invariant.1,
       frame_then 10 12 0 0 L.invariant.2 b.1,
-      through_turn (backward p (early_in p S) last) (reverse (order p)) (late_in p S last) L.invariant.3 i at l (late_in p U last) c.backward_one.result e c.in-Done.is,
+      through_turn (backward p (early_in p S) last) (reverse (order p)) (late_in p S last) L.invariant.3 i at l (late_in p U last) c.backward_one.result e c.in_ok-backward_one.was,
     )
 
 pub shape_of-work : goal.shape_of-work

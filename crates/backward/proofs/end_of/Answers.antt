@@ -5,12 +5,12 @@ use Rattle.late.specs.PlaceLaws.{fits_at, bounded_fits}
 use Rattle.backward.specs.FinishLaws.{end_on, end_absent}
 use Rattle.backward.proofs.end_of.Goals as goal
 
-pub returns-in-On : goal.returns-in-On
-returns-in-On c = (
-  λ d q. c.bounded.ensures ∙ sym (end_on c.args.sheet.now c.args.contents d _ _ _ (sym c.read_optional_date.ensures ∙ c.in-On.is) c.origin_of-origin.ensures.0 c.midnight.ensures.0),
+pub returns-in-Some : goal.returns-in-Some
+returns-in-Some c = (
+  λ d q. c.bounded.ensures ∙ sym (end_on c.args.sheet.now c.args.contents d _ _ _ (sym c.read_optional_date.ensures ∙ c.in-Some.is) c.origin_of-origin.ensures.0 c.midnight.ensures.0),
   λ t e. bounded_fits _ _ t c.origin_of-origin.ensures.1 (sym c.bounded.ensures ∙ e),
 )
 
-pub returns-in-Absent : goal.returns-in-Absent
-returns-in-Absent c =
-    (λ d q. sym (end_absent c.args.sheet.now c.args.contents d _ (sym c.read_optional_date.ensures ∙ c.in-Absent.is) q), fits_at _ c.requires.1)
+pub returns-in-None : goal.returns-in-None
+returns-in-None c =
+    (λ d q. sym (end_absent c.args.sheet.now c.args.contents d _ (sym c.read_optional_date.ensures ∙ c.in-None.is) q), fits_at _ c.requires.1)

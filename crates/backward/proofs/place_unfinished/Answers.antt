@@ -11,16 +11,17 @@ use Rattle.order.specs.Plan.{plan_of}
 use Rattle.topology.specs.FrameLaws.{frame_refl}
 use Rattle.topology.specs.Frame.{Frame}
 use Rattle.memory.specs.State.{State, state_of}
+use Rattle.number.specs.Exits.{handed_on}
 use Rattle.backward.specs.BackLaws.{stored_late, stored_frame}
 use Rattle.backward.proofs.place_unfinished.Goals as goal
 
 pub store_late-requires : goal.store_late-requires
 store_late-requires c =
-    let f = c.late_of.ensures.1 _ _ c.in-Dates.is in
+    let f = c.late_of.ensures.1 _ _ c.in_ok-dates.was in
     (c.requires.0.room, c.requires.1, f.0, f.1)
 
-pub returns-in-Dates : goal.returns-in-Dates
-returns-in-Dates c =
+pub returns : goal.returns
+returns c =
     let C = c.args.contents in
     let p = plan_of c.args.sheet.now C in
     let S = state_of C.activities C.links c.args.work.now in
@@ -29,18 +30,17 @@ returns-in-Dates c =
     let T = state_of C.activities C.links c.store_late.new.work in
     let E = c.store_late.ensures.0 in
     let b : c.args.i < p.activities = omega (arith, c.requires.1, activities_are c.args.sheet.now C) in
-    let F : Frame 10 12 0 0 S T = rw E (stored_frame p S c.args.i c.in-Dates.start c.in-Dates.finish) in (
+    let F : Frame 10 12 0 0 S T = rw E (stored_frame p S c.args.i c.in_ok-dates.dates.start c.in_ok-dates.dates.finish) in (
       ap leaves (ap (λ (U : State). late_in p U c.args.last) E ∙ stored_late p S c.args.i _ _ d c.args.last b)
-          ∙ ap (dated p d m c.args.i) (sym c.in-Dates.is) ∙ c.late_of.ensures.0,
+          ∙ ap (dated p d m c.args.i) (sym c.in_ok-dates.was) ∙ c.late_of.ensures.0,
       F,
       c.store_late.ensures.1,
     )
 
-pub returns-in-Refused : goal.returns-in-Refused
-returns-in-Refused c =
-    let C = c.args.contents in
+pub returns-in_err-dates : goal.returns-in_err-dates
+returns-in_err-dates c = rw (handed_on _ _ c.from_residual.ensures.1) (let C = c.args.contents in
     let p = plan_of c.args.sheet.now C in
     let S = state_of C.activities C.links c.args.work.now in
     let d = early_in p S in
     let m = late_in p S c.args.last in
-    (ap (dated p d m c.args.i) (sym c.in-Refused.is) ∙ c.late_of.ensures.0, frame_refl 10 12 0 0 S, refl)
+    (ap (dated p d m c.args.i) (sym c.in_err-dates.was) ∙ c.late_of.ensures.0, frame_refl 10 12 0 0 S, refl))

@@ -1,4 +1,5 @@
 -- `clock::advance_from` meets its contract: the answer is a minute of the E record before which the walk stands, or of a day that goes by its weekday before that record.
+use Rattle.std.specs.Prelude.{Ok}
 use mathlib.Core.Path.{◌≡◌, sym, ap, ◌∙◌}
 use mathlib.Core.Logic.{⊎_elim}
 use mathlib.Core.List.{List, []}
@@ -9,7 +10,6 @@ use Rattle.number.specs.Order.{zero_or_pos}
 use Rattle.calendar.specs.declared.Period.{Period}
 use Rattle.calendar.specs.Records.{exception_day, hours_on}
 use Rattle.date.specs.Years.{end_day}
-use Rattle.worktime.specs.declared.Walk.TheVariants.{At}
 use Rattle.worktime.specs.Count.{count_mono}
 use Rattle.worktime.specs.Walks.{end_minute}
 use Rattle.worktime.proofs.Shift.{advance_at, advance_none}
@@ -51,7 +51,7 @@ returns-then-stand-work c =
     let day = c.exception_day-day.ensures.0 in
     let from = ap (λ q. q.from) c.exception_period-period.ensures in
     let stand = c.ahead-stand.ensures.0 a.week c.requires.0 c.sums_of-sums.ensures in
-    ap At (omega (arith, day, from))
+    ap Ok (omega (arith, day, from))
     ∙ sym (advance_at w (omega arith) (omega (arith, c.requires.2)) (omega (arith, m.high, day)) m.closes (omega (arith, m.full, stand.record_next (omega arith), f.0)))
 
 pub returns-then-sums-eq0 : goal.returns-then-sums-eq0

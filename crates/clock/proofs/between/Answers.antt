@@ -1,11 +1,11 @@
 -- `clock::between` meets its contract: each way out cites its law, by the order of the two times.
+use Rattle.std.specs.Prelude.{Ok}
 use mathlib.Core.Path.{sym, ap, ◌∙◌}
 use native.Mathlib.Omega.{arith}
 use lib.IntN.{pos}
 use mir.Syntax.{w64}
 use mir.Facts.{to_z_pos, to_z-of_z}
 use Rattle.number.specs.ZedLaws.{zero_minus}
-use Rattle.worktime.specs.declared.Work.TheVariants.{Minutes}
 use Rattle.worktime.specs.Reads.{minute_range}
 use Rattle.worktime.proofs.Between.{between_out_first, between_out_second, between_up, between_down}
 use Rattle.clock.specs.On.{worked_on}
@@ -22,7 +22,7 @@ returns-then-a-b c =
     let s = c.before.before.before.before.before.before.before in
     let a = s.args in
     let w = worked_on a.week a.sheet.now a.at a.n in
-    ap Minutes (to_z_pos w64 {n = c.work_to.result} (omega (arith, c.work_to.ensures.1)))
+    ap Ok (to_z_pos w64 {n = c.work_to.result} (omega (arith, c.work_to.ensures.1)))
     ∙ sym
     (between_up w a.a a.b _ (sym c.in_years.ensures ∙ c.if-in_years.true)
     (sym c.in_years-then-in_years.ensures ∙ c.if-in_years-2.true) c.work_to.ensures.0)
@@ -38,7 +38,7 @@ returns-then-in_years-2 c =
     let s = c.before.before.before.before.before.before.before.before in
     let a = s.args in
     let w = worked_on a.week a.sheet.now a.at a.n in
-    ap Minutes (to_z-of_z {w = w64} (record { sfits = c.difference.type_inv }) ∙ c.difference.ensures.0 ∙ zero_minus (pos c.work_to-then-in_years-2.result))
+    ap Ok (to_z-of_z {w = w64} (record { sfits = c.difference.type_inv }) ∙ c.difference.ensures.0 ∙ zero_minus (pos c.work_to-then-in_years-2.result))
     ∙ sym
     (between_down w a.a a.b _ (sym c.in_years.ensures ∙ c.if-in_years.true)
     (sym c.in_years-then-in_years.ensures ∙ c.if-in_years-2.true) c.work_to-then-in_years-2.ensures.0)

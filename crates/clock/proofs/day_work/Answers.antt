@@ -1,4 +1,5 @@
 -- `clock::day_work` meets its contract. The day's rank at its end.
+use Rattle.std.specs.Prelude.{Ok}
 use mathlib.Core.Path.{refl, sym, ap, ◌∙◌}
 use native.Mathlib.Omega.{arith}
 use Rattle.calendar.specs.Hours.{worked}
@@ -6,7 +7,6 @@ use Rattle.calendar.specs.Records.{hours_on}
 use Rattle.calendar.specs.ValidLaws.{hand_ordered}
 use mir.Syntax.{w64}
 use mir.Facts.{to_z_pos}
-use Rattle.worktime.specs.declared.Work.TheVariants.{Minutes}
 use Rattle.date.specs.Years.{years_before, years_after, years_within}
 use Rattle.worktime.proofs.Between.{day_work_out, day_work_at}
 use Rattle.clock.specs.Days.{hand_rank}
@@ -27,5 +27,5 @@ returns c =
     let a = s.args in
     let h = hours_on a.week a.sheet.now a.at a.n in
     let r = hand_rank h a.d (s.requires.ordered a.d) _ (c.hours_on-hours.ensures.is a.week refl) 1440 _ (omega arith) c.day_rank.ensures.0 in
-    ap Minutes (to_z_pos w64 {n = c.day_rank.result} (omega (arith, c.day_rank.ensures.1)))
+    ap Ok (to_z_pos w64 {n = c.day_rank.result} (omega (arith, c.day_rank.ensures.1)))
     ∙ sym (day_work_at (worked h) a.d _ (years_within _ (omega arith) (omega arith)) (omega (arith, r)))

@@ -1,4 +1,5 @@
 -- `clock::worked_before` meets its contract. The rank of `t`'s minute in its day.
+use Rattle.std.specs.Prelude.{Ok}
 use mathlib.Core.Path.{refl, sym, ap, ◌∙◌}
 use native.Mathlib.Omega.{arith}
 use Prim.Native.Nat.{◌/◌}
@@ -7,7 +8,6 @@ use Rattle.calendar.specs.Records.{hours_on}
 use Rattle.calendar.specs.ValidLaws.{hand_ordered}
 use mir.Syntax.{w64}
 use mir.Facts.{to_z_pos}
-use Rattle.worktime.specs.declared.Work.TheVariants.{Minutes}
 use Rattle.date.specs.Years.{years_before, years_after, years_within}
 use Rattle.worktime.proofs.Between.{worked_before_out, worked_before_at}
 use Rattle.clock.specs.Days.{hand_time}
@@ -28,5 +28,5 @@ returns c =
     let a = s.args in
     let h = hours_on a.week a.sheet.now a.at a.n in
     let r = hand_time h a.t (s.requires.ordered (a.t / 1440)) _ (c.hours_on-hours.ensures.is a.week refl) _ c.day_rank.ensures.0 in
-    ap Minutes (to_z_pos w64 {n = c.day_rank.result} (omega (arith, c.day_rank.ensures.1)))
+    ap Ok (to_z_pos w64 {n = c.day_rank.result} (omega (arith, c.day_rank.ensures.1)))
     ∙ sym (worked_before_at (worked h) a.t _ (years_within _ (omega arith) (omega arith)) (omega (arith, r)))

@@ -1,4 +1,5 @@
 -- `clock::working_at` meets its contract. The minute is worked if the next one of its day is it.
+use Rattle.std.specs.Prelude.{Ok}
 use mathlib.Core.Path.{◌≡◌, refl, sym, ap, ◌∙◌}
 use native.Mathlib.Omega.{arith}
 use Prim.Native.Nat.{◌/◌, ◌%◌}
@@ -6,7 +7,6 @@ use Rattle.calendar.specs.declared.Found.TheVariants.{At as FoundAt}
 use Rattle.calendar.specs.Hours.{worked}
 use Rattle.calendar.specs.Records.{hours_on}
 use Rattle.date.specs.Years.{years_before, years_after, years_within}
-use Rattle.worktime.specs.declared.Working.TheVariants.{Is}
 use Rattle.worktime.proofs.Answers.{working_at_out, working_at_in}
 use Rattle.clock.specs.Days.{hand_next, day_next_here, day_next_later, day_next_never, worked_time}
 use Rattle.clock.proofs.working_at.Goals as goal
@@ -25,7 +25,7 @@ returns-then-x-m c =
     let e = hand_next h (a.t / 1440) o _ (c.hours_on-hours.ensures.is a.week refl) (a.t % 1440) _ _ c.day_next.ensures c.in-At.is in
     let x : c.in-At.x ≡ a.t % 1440 = c.if-x-m.true in
     let t = day_next_here h (a.t / 1440) o (a.t % 1440) (omega arith) (e ∙ ap FoundAt x) in
-    sym (working_at_in (worked h) a.t (years_within _ (omega arith) (omega arith)) ∙ ap Is (sym (worked_time (worked h) a.t) ∙ t))
+    sym (working_at_in (worked h) a.t (years_within _ (omega arith) (omega arith)) ∙ ap Ok (sym (worked_time (worked h) a.t) ∙ t))
 
 pub returns-else-x-m : goal.returns-else-x-m
 returns-else-x-m c =
@@ -34,7 +34,7 @@ returns-else-x-m c =
     let o = c.requires.ordered (a.t / 1440) in
     let e = hand_next h (a.t / 1440) o _ (c.hours_on-hours.ensures.is a.week refl) (a.t % 1440) _ _ c.day_next.ensures c.in-At.is in
     let t = day_next_later h (a.t / 1440) o (a.t % 1440) _ (omega arith) e c.if-x-m.false in
-    sym (working_at_in (worked h) a.t (years_within _ (omega arith) (omega arith)) ∙ ap Is (sym (worked_time (worked h) a.t) ∙ t))
+    sym (working_at_in (worked h) a.t (years_within _ (omega arith) (omega arith)) ∙ ap Ok (sym (worked_time (worked h) a.t) ∙ t))
 
 pub returns-in-Nothing : goal.returns-in-Nothing
 returns-in-Nothing c =
@@ -43,4 +43,4 @@ returns-in-Nothing c =
     let o = c.requires.ordered (a.t / 1440) in
     let e = hand_next h (a.t / 1440) o _ (c.hours_on-hours.ensures.is a.week refl) (a.t % 1440) _ _ c.day_next.ensures c.in-Nothing.is in
     let t = day_next_never h (a.t / 1440) o (a.t % 1440) (omega arith) e in
-    sym (working_at_in (worked h) a.t (years_within _ (omega arith) (omega arith)) ∙ ap Is (sym (worked_time (worked h) a.t) ∙ t))
+    sym (working_at_in (worked h) a.t (years_within _ (omega arith) (omega arith)) ∙ ap Ok (sym (worked_time (worked h) a.t) ∙ t))

@@ -9,17 +9,17 @@ returns-then-start-t c =
     let r = c.read_optional_date.ensures in
     let o = c.origin_of-start.ensures.0 in
     let m = c.midnight-t.ensures in
-    (sym (floor_late _ _ _ _ _ (sym r ∙ c.in-On.is) o m.0 c.if-start-t.true), m.1)
+    (sym (floor_late _ _ _ _ _ (sym r ∙ c.in-Some.is) o m.0 c.if-start-t.true), m.1)
 
-pub returns-in-On : goal.returns-in-On
-returns-in-On c =
+pub returns-else-start-t : goal.returns-else-start-t
+returns-else-start-t c =
     let r = c.read_optional_date.ensures in
     let o = c.origin_of-start.ensures in
     let m = c.midnight-t.ensures.0 in
-    (sym (floor_early _ _ _ _ _ (sym r ∙ c.in-On.is) o.0 m c.if-start-t.false), o.1)
+    (sym (floor_early _ _ _ _ _ (sym r ∙ c.in-Some.is) o.0 m c.if-start-t.false), o.1)
 
-pub returns-in-Absent : goal.returns-in-Absent
-returns-in-Absent c =
+pub returns-in-None : goal.returns-in-None
+returns-in-None c =
     let r = c.read_optional_date.ensures in
     let o = c.origin_of-start.ensures in
-    (sym (floor_absent _ _ _ (sym r ∙ c.in-Absent.is) o.0), o.1)
+    (sym (floor_absent _ _ _ (sym r ∙ c.in-None.is) o.0), o.1)

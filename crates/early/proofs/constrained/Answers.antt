@@ -1,16 +1,18 @@
 -- `early::constrained` meets its contract. Each way out has its law.
-use mathlib.Core.Path.{sym, ◌∙◌}
+use Rattle.std.specs.Prelude.{Ok}
+use mathlib.Core.Path.{sym, ap, ◌∙◌}
+use Rattle.number.specs.Exits.{handed_on}
 use Rattle.early.specs.EarlyLaws.{constrained_at, constrained_far, constrained_nowhere, constrained_refused}
 use Rattle.early.proofs.constrained.Goals as goal
 
-pub returns-in-At-bounded : goal.returns-in-At-bounded
-returns-in-At-bounded c = λ p d i H T. c.at_early.ensures p d i H T ∙ sym (constrained_at H _ _ c.constraint_time.ensures _ _ c.in-At.is T.origin_is c.bounded.ensures _ c.in-At-bounded.is)
+pub returns-in_ok-t-in-Some : goal.returns-in_ok-t-in-Some
+returns-in_ok-t-in-Some c = λ p d i H T. c.at_early.ensures p d i H T ∙ sym (constrained_at H _ _ c.constraint_time.ensures _ _ (c.in_ok-x.was ∙ ap Ok c.in-Some.is) T.origin_is c.bounded.ensures _ c.in_ok-t-in-Some.was)
 
-pub returns-in-Refused-bounded : goal.returns-in-Refused-bounded
-returns-in-Refused-bounded c = λ p d i H T. sym (constrained_far H _ _ c.constraint_time.ensures _ _ c.in-At.is T.origin_is c.bounded.ensures _ c.in-Refused-bounded.is)
+pub returns-in_err-t-in-Some : goal.returns-in_err-t-in-Some
+returns-in_err-t-in-Some c = rw (handed_on _ _ c.from_residual-in_err-t-in-Some.ensures.1) (λ p d i H T. sym (constrained_far H _ _ c.constraint_time.ensures _ _ (c.in_ok-x.was ∙ ap Ok c.in-Some.is) T.origin_is c.bounded.ensures _ c.in_err-t-in-Some.was))
 
-pub returns-in-Nowhere : goal.returns-in-Nowhere
-returns-in-Nowhere c = λ p d i H T. sym (constrained_nowhere H _ _ c.constraint_time.ensures c.in-Nowhere.is)
+pub returns-in-None : goal.returns-in-None
+returns-in-None c = λ p d i H T. sym (constrained_nowhere H _ _ c.constraint_time.ensures (c.in_ok-x.was ∙ ap Ok c.in-None.is))
 
-pub returns-in-Refused : goal.returns-in-Refused
-returns-in-Refused c = λ p d i H T. sym (constrained_refused H _ _ c.constraint_time.ensures _ c.in-Refused.is)
+pub returns-in_err-x : goal.returns-in_err-x
+returns-in_err-x c = rw (handed_on _ _ c.from_residual.ensures.1) (λ p d i H T. sym (constrained_refused H _ _ c.constraint_time.ensures _ c.in_err-x.was))

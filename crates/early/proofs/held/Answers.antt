@@ -1,16 +1,17 @@
 -- `early::held` meets its contract. Each way out has its law.
 use mathlib.Core.Path.{sym, ◌∙◌}
+use Rattle.number.specs.Exits.{handed_on}
 use Rattle.early.specs.EarlyLaws.{held_summary, held_both, held_second_refused, held_first_refused}
 use Rattle.early.proofs.held.Goals as goal
 
 pub returns-then-is_summary : goal.returns-then-is_summary
 returns-then-is_summary c = λ p d i H T q. sym (held_summary H _ q c.if-is_summary.true)
 
-pub returns-in-At-constrained : goal.returns-in-At-constrained
-returns-in-At-constrained c = λ p d i H T q. c.levelled.ensures p d i H T ∙ sym (held_both H _ q c.if-is_summary.false (c.constrained.ensures p d i H T) _ c.in-At.is (c.constrained-in-At.ensures p d i H T) _ c.in-At-constrained.is)
+pub returns : goal.returns
+returns c = λ p d i H T q. c.levelled.ensures p d i H T ∙ sym (held_both H _ q c.if-is_summary.false (c.constrained.ensures p d i H T) _ c.in_ok-s.was (c.constrained-2.ensures p d i H T) _ c.in_ok-u.was)
 
-pub returns-in-Refused-constrained : goal.returns-in-Refused-constrained
-returns-in-Refused-constrained c = λ p d i H T q. sym (held_second_refused H _ q c.if-is_summary.false (c.constrained.ensures p d i H T) _ c.in-At.is (c.constrained-in-At.ensures p d i H T) _ c.in-Refused-constrained.is)
+pub returns-in_err-u : goal.returns-in_err-u
+returns-in_err-u c = rw (handed_on _ _ c.from_residual-in_err-u.ensures.1) (λ p d i H T q. sym (held_second_refused H _ q c.if-is_summary.false (c.constrained.ensures p d i H T) _ c.in_ok-s.was (c.constrained-2.ensures p d i H T) _ c.in_err-u.was))
 
-pub returns-in-Refused : goal.returns-in-Refused
-returns-in-Refused c = λ p d i H T q. sym (held_first_refused H _ q c.if-is_summary.false (c.constrained.ensures p d i H T) _ c.in-Refused.is)
+pub returns-in_err-s : goal.returns-in_err-s
+returns-in_err-s c = rw (handed_on _ _ c.from_residual.ensures.1) (λ p d i H T q. sym (held_first_refused H _ q c.if-is_summary.false (c.constrained.ensures p d i H T) _ c.in_err-s.was))

@@ -3,8 +3,8 @@ use mathlib.Core.Path.{sym, ◌∙◌}
 use Rattle.early.specs.EarlyLaws.{levelled_on, levelled_absent}
 use Rattle.early.proofs.levelled.Goals as goal
 
-pub returns-in-On : goal.returns-in-On
-returns-in-On c = λ p d i H T. c.constrained.ensures p d i H T ∙ sym (levelled_on H _ _ c.in-On.is)
+pub returns-in-Some : goal.returns-in-Some
+returns-in-Some c = λ p d i H T. c.constrained.ensures p d i H T ∙ sym (levelled_on H _ _ c.in-Some.is)
 
-pub returns-in-Absent : goal.returns-in-Absent
-returns-in-Absent c = λ p d i H T. sym (levelled_absent H _ c.in-Absent.is)
+pub returns-in-None : goal.returns-in-None
+returns-in-None c = λ p d i H T. sym (levelled_absent H _ c.in-None.is)

@@ -1,12 +1,13 @@
 -- `early::raised_to` meets its contract. Each way out has its law.
+use Rattle.std.specs.Prelude.{Ok, Err}
 use Prim.Native.Nat.{max}
 use mathlib.Core.Path.{refl, sym, ap, ◌∙◌}
-use Rattle.worktime.specs.declared.Walk.TheVariants.{At, Refused}
+use Rattle.number.specs.Exits.{handed_on}
 use Rattle.early.specs.EarlyLaws.{goes_on_lem, stops}
 use Rattle.early.proofs.raised_to.Goals as goal
 
-pub returns-in-At : goal.returns-in-At
-returns-in-At c = ap At c.later.ensures ∙ sym (goes_on_lem Refused (λ s. At (max _ s)) refl c.in-At.is)
+pub returns : goal.returns
+returns c = ap Ok c.later.ensures ∙ sym (goes_on_lem Err (λ s. Ok (max _ s)) refl c.in_ok-s.was)
 
-pub returns-in-Refused : goal.returns-in-Refused
-returns-in-Refused c = sym (stops Refused _ refl c.in-Refused.is)
+pub returns-in_err-s : goal.returns-in_err-s
+returns-in_err-s c = rw (handed_on _ _ c.from_residual.ensures.1) (sym (stops Err _ refl c.in_err-s.was))

@@ -4,10 +4,10 @@ use Rattle.early.specs.EarlyLaws.{resumed_retained, resumed_override, resumed_re
 use Rattle.early.proofs.resumed.Goals as goal
 
 pub returns-in-RetainedLogic : goal.returns-in-RetainedLogic
-returns-in-RetainedLogic c = λ p d T. sym (resumed_retained T d _ _ _ c.in-On.is c.in-RetainedLogic.is)
+returns-in-RetainedLogic c = λ p d T. sym (resumed_retained T d _ _ _ c.in-Some.is c.in-RetainedLogic.is)
 
 pub returns-in-ProgressOverride : goal.returns-in-ProgressOverride
-returns-in-ProgressOverride c = λ p d T. sym (resumed_override T d _ _ _ c.in-On.is c.in-ProgressOverride.is)
+returns-in-ProgressOverride c = λ p d T. sym (resumed_override T d _ _ _ c.in-Some.is c.in-ProgressOverride.is)
 
-pub returns-in-Absent : goal.returns-in-Absent
-returns-in-Absent c = λ p d T. sym (resumed_recorded T d _ _ c.in-Absent.is)
+pub returns-in-None : goal.returns-in-None
+returns-in-None c = λ p d T. sym (resumed_recorded T d _ _ c.in-None.is)

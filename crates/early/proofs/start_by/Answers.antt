@@ -1,6 +1,6 @@
 -- `early::start_by` meets its contract. Each way out has its law.
+use Rattle.std.specs.Prelude.{Ok}
 use mathlib.Core.Path.{sym, ap, ◌∙◌}
-use Rattle.worktime.specs.declared.Walk.TheVariants.{At}
 use Rattle.early.specs.EarlyLaws.{start_unstarted, start_begun, start_completed, start_refused}
 use Rattle.early.proofs.start_by.Goals as goal
 
@@ -8,7 +8,7 @@ pub returns-in-Unstarted : goal.returns-in-Unstarted
 returns-in-Unstarted c = λ p d i H T q. c.held.ensures p d i H T q ∙ sym (start_unstarted H _ _ c.in-Unstarted.is)
 
 pub returns-in-Begun : goal.returns-in-Begun
-returns-in-Begun c = λ p d i H T q. ap At (c.resumed.ensures p d T) ∙ sym (start_begun H _ _ _ c.in-Begun.is)
+returns-in-Begun c = λ p d i H T q. ap Ok (c.resumed.ensures p d T) ∙ sym (start_begun H _ _ _ c.in-Begun.is)
 
 pub returns-in-Completed : goal.returns-in-Completed
 returns-in-Completed c = λ p d i H T q. sym (start_completed H _ _ _ _ c.in-Completed.is)

@@ -7,6 +7,7 @@ use Rattle.memory.specs.State.{state_of}
 use Rattle.topology.specs.FrameLaws.{frame_refl}
 use Rattle.order.specs.Plan.{plan_of}
 use Rattle.bounds.specs.ReadyLaws.{activities_are}
+use Rattle.number.specs.Exits.{handed_on}
 use Rattle.floats.specs.StoreLaws.{free_found, free_refused}
 use Rattle.floats.specs.PassLaws.{own_is}
 use Rattle.floats.proofs.free_at.Goals as goal
@@ -32,23 +33,22 @@ use_float-requires c =
     let q = c.requires in
     let i : x.i < (plan_of x.sheet.now x.contents).activities = omega (arith, activities_are x.sheet.now x.contents, q.2) in
     let o = own_is x.sheet.now x.contents x.i _ _ _ _ c.activity_of-activity.ensures c.week_of-week.ensures c.exceptions_of-e.ensures.0 c.exceptions_of-e.ensures.1 in
-    (q.0.read, q.0.room, q.2, o, q.0.standing.marks x.i i, q.1 x.i i, c.free_of.ensures.1 _ c.in-At.is)
+    (q.0.read, q.0.room, q.2, o, q.0.standing.marks x.i i, q.1 x.i i, c.free_of.ensures.1 _ c.in_ok-free.was)
 
-pub returns-in-At : goal.returns-in-At
-returns-in-At c =
+pub returns : goal.returns
+returns c =
     let x = c.args in
     let q = c.requires in
     let p = plan_of x.sheet.now x.contents in
     let S = state_of x.contents.activities x.contents.links x.work.now in
     let i : x.i < p.activities = omega (arith, activities_are x.sheet.now x.contents, q.2) in
     let r = c.use_float.ensures in
-    (λ e. r.0 ∙ free_found p S x.i i x.finish e _ c.free_of.ensures.0 _ c.in-At.is, r.1, r.2)
+    (λ e. r.0 ∙ free_found p S x.i i x.finish e _ c.free_of.ensures.0 _ c.in_ok-free.was, r.1, r.2)
 
-pub returns-in-Refused : goal.returns-in-Refused
-returns-in-Refused c =
-    let x = c.args in
+pub returns-in_err-free : goal.returns-in_err-free
+returns-in_err-free c = rw (handed_on _ _ c.from_residual.ensures.1) (let x = c.args in
     let q = c.requires in
     let p = plan_of x.sheet.now x.contents in
     let S = state_of x.contents.activities x.contents.links x.work.now in
     let i : x.i < p.activities = omega (arith, activities_are x.sheet.now x.contents, q.2) in
-    (λ e. free_refused p S x.i i x.finish e _ c.free_of.ensures.0 _ c.in-Refused.is, frame_refl 12 16 0 0 S, refl)
+    (λ e. free_refused p S x.i i x.finish e _ c.free_of.ensures.0 _ c.in_err-free.was, frame_refl 12 16 0 0 S, refl))

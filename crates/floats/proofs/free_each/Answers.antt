@@ -15,6 +15,7 @@ use Rattle.dates.specs.Columns.{late_in}
 use Rattle.dates.specs.KeptLaws.{ready_kept, recorded_kept}
 use Rattle.dates.specs.OrderLaws.{backward_at, backward_below, backward_length}
 use Rattle.dates.specs.ThroughLaws.{Through, through_start, through_turn, through_stop, through_end}
+use Rattle.number.specs.Exits.{handed_on}
 use Rattle.floats.specs.Slack.{freed_in}
 use Rattle.floats.specs.PassLaws.{step_kept}
 use Rattle.floats.proofs.free_each.Goals as goal
@@ -42,12 +43,11 @@ free_at-requires c =
     let R = ready_kept c.requires.0 L.invariant.1 L.invariant.0 (omega arith) in
     (R, recorded_kept L.invariant.1 p refl refl refl c.requires.1, omega (arith, backward_below R L.q c.loop-q-test.true, c.get_act-i.ensures.0))
 
-pub shape_of-work-in-Refused : goal.shape_of-work-in-Refused
-shape_of-work-in-Refused c = c.free_at.ensures.2 ∙ c.loop-q.invariant.0
+pub shape_of-work-in_err-free_at : goal.shape_of-work-in_err-free_at
+shape_of-work-in_err-free_at c = c.free_at.ensures.2 ∙ c.loop-q.invariant.0
 
-pub returns-in-Refused : goal.returns-in-Refused
-returns-in-Refused c =
-    let x = c.args in
+pub returns-in_err-free_at : goal.returns-in_err-free_at
+returns-in_err-free_at c = rw (handed_on _ _ c.from_residual.ensures.1) (let x = c.args in
     let p = plan_of x.sheet.now x.contents in
     let S = state_of x.contents.activities x.contents.links x.work.now in
     let L = c.loop-q in
@@ -55,10 +55,10 @@ returns-in-Refused c =
     let y = freed_in p (state_of x.contents.activities x.contents.links c.free_at.new.work) in
     let r = c.free_at.result in (
       λ e. through_stop (free_float p x.finish (late_in p S e)) (reverse (order p)) (freed_in p S) (L.invariant.2 e) _ (c.get_act-i.ensures.0 ∙ backward_at R L.q c.loop-q-test.true) (omega (arith, backward_length R, c.loop-q-test.true)) y r
-          (step_kept L.invariant.1 p x.finish _ y r c.free_at.ensures.0 e) y _ c.in-Refused.is,
+          (step_kept L.invariant.1 p x.finish _ y r c.free_at.ensures.0 e) y _ c.in_err-free_at.was,
       frame_then 12 16 0 0 L.invariant.1 c.free_at.ensures.1,
       c.free_at.ensures.2 ∙ L.invariant.0,
-    )
+    ))
 
 pub loop-q-preserved : goal.loop-q-preserved
 loop-q-preserved c =
@@ -72,7 +72,7 @@ loop-q-preserved c =
       c.free_at.ensures.2 ∙ L.invariant.0,
       frame_then 12 16 0 0 L.invariant.1 c.free_at.ensures.1,
       λ e. through_turn (free_float p x.finish (late_in p S e)) (reverse (order p)) (freed_in p S) (L.invariant.2 e) _ (c.get_act-i.ensures.0 ∙ backward_at R L.q c.loop-q-test.true) (omega (arith, backward_length R, c.loop-q-test.true)) y r
-          (step_kept L.invariant.1 p x.finish _ y r c.free_at.ensures.0 e) c.in-Done.is,
+          (step_kept L.invariant.1 p x.finish _ y r c.free_at.ensures.0 e) c.in_ok-free_at.was,
     )
 
 pub shape_of-work : goal.shape_of-work

@@ -13,6 +13,7 @@ use Rattle.calendars.specs.CalendarLaws.{calendar_valid, calendar_worked}
 use Rattle.dates.specs.Columns.{early_in}
 use Rattle.bounds.specs.ReadyLaws.{activities_are}
 use Rattle.placing.proofs.PlacingSound.{same_time}
+use Rattle.number.specs.Exits.{handed_on}
 use Rattle.floats.specs.Slack.{free_of}
 use Rattle.floats.specs.StoreLaws.{ef_at}
 use Rattle.floats.specs.GapLaws.{free_of_found, free_of_late, free_of_refused}
@@ -33,8 +34,8 @@ between-requires c = let q = c.requires in calendar_valid q.3 q.0.read
 pub recorded_at-recorded-requires : goal.recorded_at-recorded-requires
 recorded_at-recorded-requires c = let q = c.requires in (q.0.room, q.2)
 
-pub returns-in-Minutes-between : goal.returns-in-Minutes-between
-returns-in-Minutes-between c =
+pub returns : goal.returns
+returns c =
     let x = c.args in
     let q = c.requires in
     let p = plan_of x.sheet.now x.contents in
@@ -43,35 +44,33 @@ returns-in-Minutes-between c =
     let w = worked_on x.week x.sheet.now x.at x.n in
     let i : x.i < p.activities = omega (arith, activities_are x.sheet.now x.contents, q.2) in
     let f =
-    rw (to_z-of_z {w = w64} {z = c.in-Minutes.slack} (record { sfits = search rules }), to_z-of_z {w = w64} {z = c.in-Minutes-between.total} (record { sfits = search rules }))
+    rw (to_z-of_z {w = w64} {z = c.in_ok-slack.slack} (record { sfits = search rules }), to_z-of_z {w = w64} {z = c.in_ok-total.total} (record { sfits = search rules }))
     at (c.free_by.ensures.0 p d)
     in (
-      free_of_found q.0 x.i x.finish _ c.slack_of.ensures _ _ c.in-Minutes.is _ w (calendar_worked q.3) (c.get_act-ef.ensures.0 ∙ sym (ef_at p S x.i i)) _
-          (sym c.between.ensures ∙ c.in-Minutes-between.is) _ (c.recorded_at-recorded.ensures ∙ q.1 x.i i) _ f
+      free_of_found q.0 x.i x.finish _ c.slack_of.ensures _ _ c.in_ok-slack.was _ w (calendar_worked q.3) (c.get_act-ef.ensures.0 ∙ sym (ef_at p S x.i i)) _
+          (sym c.between.ensures ∙ c.in_ok-total.was) _ (c.recorded_at-recorded.ensures ∙ q.1 x.i i) _ f
           ∙ ap (λ (u : ℕ). free_of p d x.finish u x.i) c.get_act-lf.ensures.0,
       λ m e. let k = same_time refl e in omega (arith, c.free_by.ensures.1),
     )
 
-pub returns-in-Refused-between : goal.returns-in-Refused-between
-returns-in-Refused-between c =
-    let x = c.args in
+pub returns-in_err-total : goal.returns-in_err-total
+returns-in_err-total c = rw (handed_on _ _ c.from_residual-in_err-total.ensures.1) (let x = c.args in
     let q = c.requires in
     let p = plan_of x.sheet.now x.contents in
     let S = state_of x.contents.activities x.contents.links x.work.now in
     let d = early_in p S in
     let w = worked_on x.week x.sheet.now x.at x.n in
     let i : x.i < p.activities = omega (arith, activities_are x.sheet.now x.contents, q.2) in (
-      free_of_late q.0 x.i x.finish _ c.slack_of.ensures _ _ c.in-Minutes.is _ w (calendar_worked q.3) (c.get_act-ef.ensures.0 ∙ sym (ef_at p S x.i i)) _
-          (sym c.between.ensures ∙ c.in-Refused-between.is)
+      free_of_late q.0 x.i x.finish _ c.slack_of.ensures _ _ c.in_ok-slack.was _ w (calendar_worked q.3) (c.get_act-ef.ensures.0 ∙ sym (ef_at p S x.i i)) _
+          (sym c.between.ensures ∙ c.in_err-total.was)
           ∙ ap (λ (u : ℕ). free_of p d x.finish u x.i) c.get_act-lf.ensures.0,
       λ m e. absurd (at_or_refused e refl),
-    )
+    ))
 
-pub returns-in-Refused : goal.returns-in-Refused
-returns-in-Refused c =
-    let x = c.args in
+pub returns-in_err-slack : goal.returns-in_err-slack
+returns-in_err-slack c = rw (handed_on _ _ c.from_residual.ensures.1) (let x = c.args in
     let q = c.requires in
     let p = plan_of x.sheet.now x.contents in
     let S = state_of x.contents.activities x.contents.links x.work.now in
     let d = early_in p S in
-    (free_of_refused q.0 x.i x.finish _ c.slack_of.ensures _ _ c.in-Refused.is, λ m e. absurd (at_or_refused e refl))
+    (free_of_refused q.0 x.i x.finish _ c.slack_of.ensures _ _ c.in_err-slack.was, λ m e. absurd (at_or_refused e refl)))

@@ -6,6 +6,7 @@ use Rattle.clock.specs.On.{worked_on}
 use Rattle.order.specs.Plan.{plan_of}
 use Rattle.bounds.specs.ReadyLaws.{kept_within}
 use Rattle.bounds.specs.LinkLaws.{to_in, lead_fits}
+use Rattle.number.specs.Exits.{handed_on}
 use Rattle.floats.specs.GapLaws.{gap_refused, gap_between}
 use Rattle.floats.proofs.gap_at.Goals as goal
 use Rattle.floats.proofs.gap_at.Tie as tie
@@ -23,16 +24,15 @@ get_act-target-requires c =
 pub between-requires : goal.between-requires
 between-requires c = c.requires.2
 
-pub returns-in-At : goal.returns-in-At
-returns-in-At c =
+pub returns : goal.returns
+returns c =
     let x = c.args in
     let w = worked_on x.week x.sheet.now x.at x.n in
     c.between.ensures
-    ∙ gap_between c.requires.0 x.k c.requires.1 _ c.tie_at-tie.ensures w x.start x.finish _ c.forward_bound.ensures _ _ _ c.in-At.is
+    ∙ gap_between c.requires.0 x.k c.requires.1 _ c.tie_at-tie.ensures w x.start x.finish _ c.forward_bound.ensures _ _ _ c.in_ok-b.was
     (c.target_field-field.ensures.0 (plan_of x.sheet.now x.contents)) c.get_act-target.ensures.0
 
-pub returns-in-Refused : goal.returns-in-Refused
-returns-in-Refused c =
-    let x = c.args in
+pub returns-in_err-b : goal.returns-in_err-b
+returns-in_err-b c = rw (handed_on _ _ c.from_residual.ensures.1) (let x = c.args in
     let w = worked_on x.week x.sheet.now x.at x.n in
-    gap_refused c.requires.0 x.k c.requires.1 _ c.tie_at-tie.ensures w x.start x.finish _ c.forward_bound.ensures _ c.in-Refused.is
+    gap_refused c.requires.0 x.k c.requires.1 _ c.tie_at-tie.ensures w x.start x.finish _ c.forward_bound.ensures _ c.in_err-b.was)

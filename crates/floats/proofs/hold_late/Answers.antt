@@ -10,6 +10,7 @@ use Rattle.memory.specs.State.{State, state_of}
 use Rattle.topology.specs.Frame.{Frame}
 use Rattle.topology.specs.FrameLaws.{frame_refl}
 use Rattle.bounds.specs.ReadyLaws.{activities_are}
+use Rattle.number.specs.Exits.{handed_on}
 use Rattle.floats.specs.Slack.{freed_in}
 use Rattle.floats.specs.FitLaws.{moved_bound}
 use Rattle.floats.specs.StoreLaws.{stored_frame, held_to, held_refused}
@@ -30,31 +31,30 @@ held_move-requires c = let q = c.requires in calendar_valid q.3.calendar q.0
 pub store_move-requires : goal.store_move-requires
 store_move-requires c =
     let q = c.requires in
-    let m = moved_bound _ _ _ _ _ _ _ _ (sym c.held_move.ensures ∙ c.in-To.is) in
+    let m = moved_bound _ _ _ _ _ _ _ _ (sym c.held_move.ensures ∙ c.in_ok-moved.was) in
     (q.1, q.2, omega arith, omega arith)
 
-pub returns-in-To : goal.returns-in-To
-returns-in-To c =
+pub returns : goal.returns
+returns c =
     let x = c.args in
     let q = c.requires in
     let p = plan_of x.sheet.now x.contents in
     let S = state_of x.contents.activities x.contents.links x.work.now in
     let h =
     held_to p S x.i x.free (omega (arith, activities_are x.sheet.now x.contents, q.2)) _ (calendar_worked q.3.calendar) _ (ap (λ (a : Activity). a.kind) q.3.is) _ _ _
-    c.get_act-es.ensures.0 c.get_act-ef.ensures.0 c.get_act-left.ensures.0 _ _ (sym c.held_move.ensures ∙ c.in-To.is)
+    c.get_act-es.ensures.0 c.get_act-ef.ensures.0 c.get_act-left.ensures.0 _ _ (sym c.held_move.ensures ∙ c.in_ok-moved.was)
     in
     let e = c.store_move.ensures.0 in
     let F : Frame 12 16 0 0 S (state_of x.contents.activities x.contents.links c.store_move.new.work) = rw e (stored_frame S x.i _ _) in
     (ap (λ (T : State). leaves (freed_in p T)) e ∙ h, F, c.store_move.ensures.1)
 
-pub returns-in-Refused : goal.returns-in-Refused
-returns-in-Refused c =
-    let x = c.args in
+pub returns-in_err-moved : goal.returns-in_err-moved
+returns-in_err-moved c = rw (handed_on _ _ c.from_residual.ensures.1) (let x = c.args in
     let q = c.requires in
     let p = plan_of x.sheet.now x.contents in
     let S = state_of x.contents.activities x.contents.links x.work.now in
     let h =
     held_refused p S x.i x.free (omega (arith, activities_are x.sheet.now x.contents, q.2)) _ (calendar_worked q.3.calendar) _ (ap (λ (a : Activity). a.kind) q.3.is) _ _ _
-    c.get_act-es.ensures.0 c.get_act-ef.ensures.0 c.get_act-left.ensures.0 _ (sym c.held_move.ensures ∙ c.in-Refused.is)
+    c.get_act-es.ensures.0 c.get_act-ef.ensures.0 c.get_act-left.ensures.0 _ (sym c.held_move.ensures ∙ c.in_err-moved.was)
     in
-    (h, frame_refl 12 16 0 0 S, refl)
+    (h, frame_refl 12 16 0 0 S, refl))

@@ -6,7 +6,6 @@ use Prim.Native.Nat.{◌-◌}
 use mir.Val.{to_z}
 use mir.Facts.{to_z-of_z}
 use mir.Syntax.{w64}
-use Rattle.worktime.specs.declared.Work.TheVariants.{Minutes}
 use Rattle.clock.specs.On.{worked_on}
 use Rattle.cells.specs.ChainLaws.{Cursor}
 use Rattle.memory.specs.State.{state_of}
@@ -15,6 +14,7 @@ use Rattle.order.specs.Plan.{plan_of}
 use Rattle.calendars.specs.CalendarLaws.{calendar_valid, calendar_worked}
 use Rattle.dates.specs.Columns.{early_in}
 use Rattle.bounds.specs.ReadyLaws.{kept_within}
+use Rattle.number.specs.Exits.{handed_on}
 use Rattle.floats.specs.Slack.{slack_step}
 use Rattle.floats.specs.GapLaws.{gap_own, slack_start, slack_later, slack_turn, slack_stop, slack_end}
 use Rattle.floats.proofs.least_slack.Goals as goal
@@ -30,14 +30,13 @@ loop-k-init c =
 pub gap_at-requires : goal.gap_at-requires
 gap_at-requires c = let q = c.requires in (q.0, c.loop-k-test.true, calendar_valid q.2 q.0.read)
 
-pub returns-in-Refused : goal.returns-in-Refused
-returns-in-Refused c =
-    let x = c.args in
+pub returns-in_err-gap : goal.returns-in_err-gap
+returns-in_err-gap c = rw (handed_on _ _ c.from_residual.ensures.1) (let x = c.args in
     let q = c.requires in
     let w = worked_on x.week x.sheet.now x.at x.n in
     let L = c.loop-k in
     let C = rw (to_z-of_z c.ranges.slack) at L.invariant in
-    slack_stop q.0 x.i x.slack C c.loop-k-test.true _ (sym (c.gap_at.ensures ∙ gap_own q.0 x.i L.k x.start x.finish w (calendar_worked q.2) q.3) ∙ c.in-Refused.is)
+    slack_stop q.0 x.i x.slack C c.loop-k-test.true _ (sym (c.gap_at.ensures ∙ gap_own q.0 x.i L.k x.start x.finish w (calendar_worked q.2) q.3) ∙ c.in_err-gap.was))
 
 pub get_link-k-requires : goal.get_link-k-requires
 get_link-k-requires c = let q = c.requires in (q.0.room, omega (arith, kept_within q.0, c.loop-k-test.true), omega arith)
@@ -55,9 +54,9 @@ loop-k-preserved c =
     let w = worked_on x.week x.sheet.now x.at x.n in
     let L = c.loop-k in
     let C = rw (to_z-of_z c.ranges.slack) at L.invariant in
-    let g = rw (to_z-of_z {w = w64} {z = c.in-Minutes.gap} (record { sfits = search rules })) at c.min-least.ensures in
+    let g = rw (to_z-of_z {w = w64} {z = c.in_ok-gap.gap} (record { sfits = search rules })) at c.min-least.ensures in
     rw (to_z-of_z c.ranges.slack, to_z-of_z (record { sfits = c.min-least.type_inv }), g)
-    (slack_turn q.0 x.i x.slack C c.loop-k-test.true _ (sym (c.gap_at.ensures ∙ gap_own q.0 x.i L.k x.start x.finish w (calendar_worked q.2) q.3) ∙ c.in-Minutes.is) _ c.get_link-k.ensures.0)
+    (slack_turn q.0 x.i x.slack C c.loop-k-test.true _ (sym (c.gap_at.ensures ∙ gap_own q.0 x.i L.k x.start x.finish w (calendar_worked q.2) q.3) ∙ c.in_ok-gap.was) _ c.get_link-k.ensures.0)
 
 pub returns : goal.returns
 returns c =

@@ -9,6 +9,7 @@ use Rattle.memory.specs.State.{state_of}
 use Rattle.order.specs.Plan.{plan_of}
 use Rattle.calendars.specs.CalendarLaws.{calendar_valid, calendar_worked}
 use Rattle.bounds.specs.ReadyLaws.{activities_are}
+use Rattle.number.specs.Exits.{handed_on}
 use Rattle.floats.specs.StoreLaws.{ef_at}
 use Rattle.floats.specs.GapLaws.{from_is, slack_found, slack_refused}
 use Rattle.floats.proofs.slack_of.Goals as goal
@@ -31,23 +32,22 @@ least_slack-requires c =
     let q = c.requires in
     (q.0, q.2, q.3, from_is q.0 q.1 x.i q.2 _ _ _ _ c.recorded_at-recorded.ensures c.get_act-es.ensures.0 c.begun_at-start.ensures c.get_act-ef.ensures.0)
 
-pub returns-in-Minutes : goal.returns-in-Minutes
-returns-in-Minutes c =
+pub returns : goal.returns
+returns c =
     let x = c.args in
     let q = c.requires in
     let p = plan_of x.sheet.now x.contents in
     let S = state_of x.contents.activities x.contents.links x.work.now in
     let w = worked_on x.week x.sheet.now x.at x.n in
     let l = ef_at p S x.i (omega (arith, activities_are x.sheet.now x.contents, q.2)) in
-    let e = rw (to_z-of_z {w = w64} {z = c.in-Minutes.slack} (record { sfits = search rules })) at c.least_slack.ensures in
-    e ∙ slack_found q.0 x.i x.finish _ w (calendar_worked q.3) (c.get_act-ef.ensures.0 ∙ sym l) _ (sym c.between.ensures ∙ c.in-Minutes.is)
+    let e = rw (to_z-of_z {w = w64} {z = c.in_ok-slack.slack} (record { sfits = search rules })) at c.least_slack.ensures in
+    e ∙ slack_found q.0 x.i x.finish _ w (calendar_worked q.3) (c.get_act-ef.ensures.0 ∙ sym l) _ (sym c.between.ensures ∙ c.in_ok-slack.was)
 
-pub returns-in-Refused : goal.returns-in-Refused
-returns-in-Refused c =
-    let x = c.args in
+pub returns-in_err-slack : goal.returns-in_err-slack
+returns-in_err-slack c = rw (handed_on _ _ c.from_residual.ensures.1) (let x = c.args in
     let q = c.requires in
     let p = plan_of x.sheet.now x.contents in
     let S = state_of x.contents.activities x.contents.links x.work.now in
     let w = worked_on x.week x.sheet.now x.at x.n in
     let l = ef_at p S x.i (omega (arith, activities_are x.sheet.now x.contents, q.2)) in
-    slack_refused q.0 x.i x.finish _ w (calendar_worked q.3) (c.get_act-ef.ensures.0 ∙ sym l) _ (sym c.between.ensures ∙ c.in-Refused.is)
+    slack_refused q.0 x.i x.finish _ w (calendar_worked q.3) (c.get_act-ef.ensures.0 ∙ sym l) _ (sym c.between.ensures ∙ c.in_err-slack.was))

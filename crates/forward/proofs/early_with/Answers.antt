@@ -6,6 +6,7 @@ use Rattle.dates.specs.Columns.{early_in}
 use Rattle.early.specs.EarlyLaws.{refused_fits}
 use Rattle.memory.specs.State.{state_of}
 use Rattle.order.specs.Plan.{plan_of}
+use Rattle.number.specs.Exits.{handed_on}
 use Rattle.forward.specs.LinkedLaws.{after_links_lem, after_links_refused}
 use Rattle.forward.specs.RaiseLaws.{hand_is, flag_is}
 use Rattle.forward.proofs.early_with.Goals as goal
@@ -29,16 +30,15 @@ pub place-requires : goal.place-requires
 place-requires c =
     (calendar_valid c.requires.4 c.requires.0.read, c.get_act-left.ensures.1, c.times_of-times.ensures.1)
 
-pub returns-in-At : goal.returns-in-At
-returns-in-At c =
+pub returns : goal.returns
+returns c =
     let p = plan_of c.args.sheet.now c.args.contents in
     let S = state_of c.args.contents.activities c.args.contents.links c.args.work.now in
     let d = early_in p S in
-    (c.place.ensures.0 p d c.args.i (hand_is c.args.sheet.now c.args.contents c.args.t c.args.work.now c.args.i 0 c.requires.0 c.requires.2 c.requires.3 c.requires.4 c.get_act-left.ensures.0) c.times_of-times.ensures.0 (flag_is c.args.sheet.now c.args.contents c.args.t c.args.work.now c.args.i 0 c.requires.0 c.requires.2 _ c.get_act-mark.ensures.0) ∙ sym (after_links_lem p d c.args.i c.args.recorded _ c.times_of-times.ensures.0.floor_is c.raise.ensures _ c.in-At.is), c.place.ensures.1)
+    (c.place.ensures.0 p d c.args.i (hand_is c.args.sheet.now c.args.contents c.args.t c.args.work.now c.args.i 0 c.requires.0 c.requires.2 c.requires.3 c.requires.4 c.get_act-left.ensures.0) c.times_of-times.ensures.0 (flag_is c.args.sheet.now c.args.contents c.args.t c.args.work.now c.args.i 0 c.requires.0 c.requires.2 _ c.get_act-mark.ensures.0) ∙ sym (after_links_lem p d c.args.i c.args.recorded _ c.times_of-times.ensures.0.floor_is c.raise.ensures _ c.in_ok-start.was), c.place.ensures.1)
 
-pub returns-in-Refused : goal.returns-in-Refused
-returns-in-Refused c =
-    let p = plan_of c.args.sheet.now c.args.contents in
+pub returns-in_err-start : goal.returns-in_err-start
+returns-in_err-start c = rw (handed_on _ _ c.from_residual.ensures.1) (let p = plan_of c.args.sheet.now c.args.contents in
     let S = state_of c.args.contents.activities c.args.contents.links c.args.work.now in
     let d = early_in p S in
-    (sym (after_links_refused p d c.args.i c.args.recorded _ c.times_of-times.ensures.0.floor_is c.raise.ensures _ c.in-Refused.is), refused_fits _)
+    (sym (after_links_refused p d c.args.i c.args.recorded _ c.times_of-times.ensures.0.floor_is c.raise.ensures _ c.in_err-start.was), refused_fits _))

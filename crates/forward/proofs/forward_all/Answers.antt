@@ -10,6 +10,7 @@ use Rattle.order.specs.Checks.{order}
 use Rattle.order.specs.Plan.{plan_of}
 use Rattle.passes.specs.Forward.{forward}
 use Rattle.topology.specs.FrameLaws.{frame_refl, frame_then}
+use Rattle.number.specs.Exits.{handed_on}
 use Rattle.forward.proofs.forward_all.Goals as goal
 
 pub loop-q-init : goal.loop-q-init
@@ -27,12 +28,11 @@ forward_one-requires c =
     let kept = ready_kept c.requires.0 c.loop-q.invariant.1 c.loop-q.invariant.2 (omega arith) in
     (kept, recorded_kept c.loop-q.invariant.1 (plan_of c.args.sheet.now c.args.contents) refl refl refl c.requires.1, omega (arith, c.get_act-i.ensures.0, order_below kept _ c.loop-q-test.true))
 
-pub returns-in-Refused : goal.returns-in-Refused
-returns-in-Refused c =
-    let p = plan_of c.args.sheet.now c.args.contents in
+pub returns-in_err-forward_one : goal.returns-in_err-forward_one
+returns-in_err-forward_one c = rw (handed_on _ _ c.from_residual.ensures.1) (let p = plan_of c.args.sheet.now c.args.contents in
     let S = state_of c.args.contents.activities c.args.contents.links c.args.work.now in
     let d = early_in p S in
-    (through_stop (forward p) (order p) d c.loop-q.invariant.0 _ (c.get_act-i.ensures.0 ∙ order_at_lem (ready_kept c.requires.0 c.loop-q.invariant.1 c.loop-q.invariant.2 (omega arith)) _ c.loop-q-test.true) (omega (arith, order_length c.requires.0, c.loop-q-test.true)) _ _ c.forward_one.ensures.0 d _ c.in-Refused.is, frame_then 12 15 0 0 c.loop-q.invariant.1 c.forward_one.ensures.1, c.forward_one.ensures.2 ∙ c.loop-q.invariant.2)
+    (through_stop (forward p) (order p) d c.loop-q.invariant.0 _ (c.get_act-i.ensures.0 ∙ order_at_lem (ready_kept c.requires.0 c.loop-q.invariant.1 c.loop-q.invariant.2 (omega arith)) _ c.loop-q-test.true) (omega (arith, order_length c.requires.0, c.loop-q-test.true)) _ _ c.forward_one.ensures.0 d _ c.in_err-forward_one.was, frame_then 12 15 0 0 c.loop-q.invariant.1 c.forward_one.ensures.1, c.forward_one.ensures.2 ∙ c.loop-q.invariant.2))
 
 pub overflow_add-q : goal.overflow_add-q
 overflow_add-q c = omega (arith, c.loop-q-test.true)
@@ -45,7 +45,7 @@ loop-q-preserved c =
     let p = plan_of c.args.sheet.now c.args.contents in
     let S = state_of c.args.contents.activities c.args.contents.links c.args.work.now in
     let d = early_in p S in
-    (through_turn (forward p) (order p) d c.loop-q.invariant.0 _ (c.get_act-i.ensures.0 ∙ order_at_lem (ready_kept c.requires.0 c.loop-q.invariant.1 c.loop-q.invariant.2 (omega arith)) _ c.loop-q-test.true) (omega (arith, order_length c.requires.0, c.loop-q-test.true)) _ _ c.forward_one.ensures.0 c.in-Done.is, frame_then 12 15 0 0 c.loop-q.invariant.1 c.forward_one.ensures.1, c.forward_one.ensures.2 ∙ c.loop-q.invariant.2)
+    (through_turn (forward p) (order p) d c.loop-q.invariant.0 _ (c.get_act-i.ensures.0 ∙ order_at_lem (ready_kept c.requires.0 c.loop-q.invariant.1 c.loop-q.invariant.2 (omega arith)) _ c.loop-q-test.true) (omega (arith, order_length c.requires.0, c.loop-q-test.true)) _ _ c.forward_one.ensures.0 c.in_ok-forward_one.was, frame_then 12 15 0 0 c.loop-q.invariant.1 c.forward_one.ensures.1, c.forward_one.ensures.2 ∙ c.loop-q.invariant.2)
 
 pub returns : goal.returns
 returns c =

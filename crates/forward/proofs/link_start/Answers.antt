@@ -7,6 +7,7 @@ use Rattle.dates.specs.Columns.{early_in}
 use Rattle.memory.specs.State.{state_of}
 use Rattle.order.specs.Plan.{plan_of}
 use Rattle.order.specs.Ties.{Tie}
+use Rattle.number.specs.Exits.{handed_on}
 use Rattle.forward.specs.LinkedLaws.{link_start_at, link_start_refused}
 use Rattle.forward.proofs.link_start.Goals as goal
 
@@ -14,16 +15,15 @@ pub tie_at-tie-requires : goal.tie_at-tie-requires
 tie_at-tie-requires c =
     (c.requires.0.room, omega (arith, kept_within c.requires.0, c.requires.2))
 
-pub returns-in-At : goal.returns-in-At
-returns-in-At c =
+pub returns : goal.returns
+returns c =
     let p = plan_of c.args.sheet.now c.args.contents in
     let S = state_of c.args.contents.activities c.args.contents.links c.args.work.now in
     let d = early_in p S in
-    λ i H. c.start_for.ensures p i H.own_is ∙ sym (link_start_at p d i _ c.link_bound.ensures _ c.in-At.is _ H.left_is _ (ap (λ (x : Tie). x.kind) (tie_is c.requires.0 _ c.requires.2 _ c.tie_at-tie.ensures)))
+    λ i H. c.start_for.ensures p i H.own_is ∙ sym (link_start_at p d i _ c.link_bound.ensures _ c.in_ok-b.was _ H.left_is _ (ap (λ (x : Tie). x.kind) (tie_is c.requires.0 _ c.requires.2 _ c.tie_at-tie.ensures)))
 
-pub returns-in-Refused : goal.returns-in-Refused
-returns-in-Refused c =
-    let p = plan_of c.args.sheet.now c.args.contents in
+pub returns-in_err-b : goal.returns-in_err-b
+returns-in_err-b c = rw (handed_on _ _ c.from_residual.ensures.1) (let p = plan_of c.args.sheet.now c.args.contents in
     let S = state_of c.args.contents.activities c.args.contents.links c.args.work.now in
     let d = early_in p S in
-    λ i H. sym (link_start_refused p d i c.args.k c.link_bound.ensures _ c.in-Refused.is)
+    λ i H. sym (link_start_refused p d i c.args.k c.link_bound.ensures _ c.in_err-b.was))

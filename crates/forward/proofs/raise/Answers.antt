@@ -1,6 +1,7 @@
 -- `forward::raise` meets its contract. The invariant: the walk along the links into the activity has come to link k with this start.
 use native.Mathlib.Omega.{arith}
 use Rattle.bounds.specs.ReadyLaws.{kept_within}
+use Rattle.number.specs.Exits.{handed_on}
 use Rattle.forward.specs.RaiseLaws.{raising_start, raising_turn, raising_stop, raising_less, raising_end}
 use Rattle.forward.proofs.raise.Goals as goal
 
@@ -16,9 +17,8 @@ pub raised_by-requires : goal.raised_by-requires
 raised_by-requires c =
     (c.requires.0, c.requires.1, c.loop-k-test.true, c.requires.3)
 
-pub returns-in-Refused : goal.returns-in-Refused
-returns-in-Refused c =
-    raising_stop c.args.sheet.now c.args.contents c.args.t c.args.work.now c.args.i c.args.floor c.requires.0 c.loop-k.invariant c.loop-k-test.true (c.raised_by.ensures _ c.requires.4) _ c.in-Refused.is
+pub returns-in_err-s : goal.returns-in_err-s
+returns-in_err-s c = rw (handed_on _ _ c.from_residual.ensures.1) (raising_stop c.args.sheet.now c.args.contents c.args.t c.args.work.now c.args.i c.args.floor c.requires.0 c.loop-k.invariant c.loop-k-test.true (c.raised_by.ensures _ c.requires.4) _ c.in_err-s.was)
 
 pub get_link-k-requires : goal.get_link-k-requires
 get_link-k-requires c =
@@ -30,7 +30,7 @@ loop-k-smaller c =
 
 pub loop-k-preserved : goal.loop-k-preserved
 loop-k-preserved c =
-    raising_turn c.args.sheet.now c.args.contents c.args.t c.args.work.now c.args.i c.args.floor c.requires.0 c.loop-k.invariant c.loop-k-test.true (c.raised_by.ensures _ c.requires.4) _ c.in-At.is _ c.get_link-k.ensures.0
+    raising_turn c.args.sheet.now c.args.contents c.args.t c.args.work.now c.args.i c.args.floor c.requires.0 c.loop-k.invariant c.loop-k-test.true (c.raised_by.ensures _ c.requires.4) _ c.in_ok-s.was _ c.get_link-k.ensures.0
 
 pub returns : goal.returns
 returns c =

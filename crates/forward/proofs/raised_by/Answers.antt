@@ -3,6 +3,7 @@ use mathlib.Core.Path.{sym}
 use Rattle.dates.specs.Columns.{early_in}
 use Rattle.memory.specs.State.{state_of}
 use Rattle.order.specs.Plan.{plan_of}
+use Rattle.number.specs.Exits.{handed_on}
 use Rattle.forward.specs.LinkedLaws.{raised_later, raised_same, raised_refused}
 use Rattle.forward.proofs.raised_by.Goals as goal
 
@@ -11,18 +12,17 @@ returns-then-start-s c =
     let p = plan_of c.args.sheet.now c.args.contents in
     let S = state_of c.args.contents.activities c.args.contents.links c.args.work.now in
     let d = early_in p S in
-    λ i H. sym (raised_later p d i c.args.k c.args.start (c.link_start.ensures i H) _ c.in-At.is c.if-start-s.true)
+    λ i H. sym (raised_later p d i c.args.k c.args.start (c.link_start.ensures i H) _ c.in_ok-s.was c.if-start-s.true)
 
-pub returns-in-At : goal.returns-in-At
-returns-in-At c =
+pub returns : goal.returns
+returns c =
     let p = plan_of c.args.sheet.now c.args.contents in
     let S = state_of c.args.contents.activities c.args.contents.links c.args.work.now in
     let d = early_in p S in
-    λ i H. sym (raised_same p d i c.args.k c.args.start (c.link_start.ensures i H) _ c.in-At.is c.if-start-s.false)
+    λ i H. sym (raised_same p d i c.args.k c.args.start (c.link_start.ensures i H) _ c.in_ok-s.was c.if-start-s.false)
 
-pub returns-in-Refused : goal.returns-in-Refused
-returns-in-Refused c =
-    let p = plan_of c.args.sheet.now c.args.contents in
+pub returns-in_err-s : goal.returns-in_err-s
+returns-in_err-s c = rw (handed_on _ _ c.from_residual.ensures.1) (let p = plan_of c.args.sheet.now c.args.contents in
     let S = state_of c.args.contents.activities c.args.contents.links c.args.work.now in
     let d = early_in p S in
-    λ i H. sym (raised_refused p d i c.args.k c.args.start (c.link_start.ensures i H) _ c.in-Refused.is)
+    λ i H. sym (raised_refused p d i c.args.k c.args.start (c.link_start.ensures i H) _ c.in_err-s.was))

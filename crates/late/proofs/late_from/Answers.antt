@@ -5,6 +5,7 @@ use native.Mathlib.Omega.{arith}
 use Rattle.order.specs.Plan.{plan_of}
 use Rattle.memory.specs.State.{state_of}
 use Rattle.dates.specs.Columns.{early_in, late_in}
+use Rattle.number.specs.Exits.{handed_on}
 use Rattle.late.specs.PlaceLaws.{fitting_refused}
 use Rattle.late.specs.StandLaws.{early_at, summary_at, unfinished_placed, unfinished_held, unfinished_lowered}
 use Rattle.late.proofs.late_from.Goals as goal
@@ -24,8 +25,8 @@ hold_late-requires c = c.requires.2
 pub place_late-requires : goal.place_late-requires
 place_late-requires c = (c.requires.2, c.requires.4, c.get_act-early.ensures.1)
 
-pub returns-in-At-hold_late : goal.returns-in-At-hold_late
-returns-in-At-hold_late c =
+pub returns : goal.returns
+returns c =
     let R = c.requires.0 in
     let p = plan_of c.args.sheet.now c.args.contents in
     let S = state_of c.args.contents.activities c.args.contents.links c.args.work.now in
@@ -34,27 +35,25 @@ returns-in-At-hold_late c =
     let i = c.args.i in
     let q = c.get_act-early.ensures.0 ∙ sym (early_at R i c.requires.1) in
     let h = c.hold_late.ensures p d m i c.requires.3 (summary_at R i _ c.requires.1 c.get_act-mark.ensures.0) c.requires.5 in (
-      c.place_late.ensures.0 p d m i c.requires.3 q ∙ sym (unfinished_placed p d m i c.args.last _ _ (sym c.lower.ensures ∙ c.in-At.is) (sym h ∙ c.in-At-hold_late.is)),
+      c.place_late.ensures.0 p d m i c.requires.3 q ∙ sym (unfinished_placed p d m i c.args.last _ _ (sym c.lower.ensures ∙ c.in_ok-f.was) (sym h ∙ c.in_ok-g.was)),
       c.place_late.ensures.1,
     )
 
-pub returns-in-Refused-hold_late : goal.returns-in-Refused-hold_late
-returns-in-Refused-hold_late c =
-    let R = c.requires.0 in
+pub returns-in_err-g : goal.returns-in_err-g
+returns-in_err-g c = rw (handed_on _ _ c.from_residual-in_err-g.ensures.1) (let R = c.requires.0 in
     let p = plan_of c.args.sheet.now c.args.contents in
     let S = state_of c.args.contents.activities c.args.contents.links c.args.work.now in
     let d = early_in p S in
     let m = late_in p S c.args.last in
     let i = c.args.i in
     let h = c.hold_late.ensures p d m i c.requires.3 (summary_at R i _ c.requires.1 c.get_act-mark.ensures.0) c.requires.5 in
-    (sym (unfinished_held p d m i c.args.last _ _ (sym c.lower.ensures ∙ c.in-At.is) (sym h ∙ c.in-Refused-hold_late.is)), fitting_refused _)
+    (sym (unfinished_held p d m i c.args.last _ _ (sym c.lower.ensures ∙ c.in_ok-f.was) (sym h ∙ c.in_err-g.was)), fitting_refused _))
 
-pub returns-in-Refused : goal.returns-in-Refused
-returns-in-Refused c =
-    let R = c.requires.0 in
+pub returns-in_err-f : goal.returns-in_err-f
+returns-in_err-f c = rw (handed_on _ _ c.from_residual.ensures.1) (let R = c.requires.0 in
     let p = plan_of c.args.sheet.now c.args.contents in
     let S = state_of c.args.contents.activities c.args.contents.links c.args.work.now in
     let d = early_in p S in
     let m = late_in p S c.args.last in
     let i = c.args.i in
-    (sym (unfinished_lowered p d m i c.args.last _ (sym c.lower.ensures ∙ c.in-Refused.is)), fitting_refused _)
+    (sym (unfinished_lowered p d m i c.args.last _ (sym c.lower.ensures ∙ c.in_err-f.was)), fitting_refused _))

@@ -1,8 +1,9 @@
 -- `late::lift` meets its contract. Each way out has its law.
+use Rattle.std.specs.Prelude.{Ok}
 use borrow.Author.Rules.{rules}
 use mathlib.Core.Path.{sym, ap, ◌∙◌}
 use native.Mathlib.Omega.{arith}
-use Rattle.worktime.specs.declared.Walk.TheVariants.{At}
+use Rattle.number.specs.Exits.{handed_on}
 use Rattle.late.specs.PlaceLaws.{fits_at, fits_refused, lifted_not_before, lifted_after_latest, lifted_refused, lifted_same, lifted_apart}
 use Rattle.late.specs.UnfinishedLaws.{own_same}
 use Rattle.late.proofs.lift.Goals as goal
@@ -16,20 +17,21 @@ returns-then-latest-early c = (λ p d l i O q. sym (lifted_after_latest p d l i 
 pub returns-then-early-s : goal.returns-then-early-s
 returns-then-early-s c = (
   λ p d l i O q.
-      ap At q ∙ sym (lifted_same p d l i _ _ (omega (arith, q, c.if-early-f.false)) (omega (arith, q, c.if-latest-early.false)) _ (own_same O _ ∙ sym c.latest_same.ensures ∙ c.in-At.is) (omega (arith, q, c.if-early-s.true))),
+      ap Ok q ∙ sym (lifted_same p d l i _ _ (omega (arith, q, c.if-early-f.false)) (omega (arith, q, c.if-latest-early.false)) _ (own_same O _ ∙ sym c.latest_same.ensures ∙ c.in_ok-s.was) (omega (arith, q, c.if-early-s.true))),
   fits_at _ c.requires.1,
 )
 
-pub returns-else-early-s : goal.returns-else-early-s
-returns-else-early-s c = (
+pub returns : goal.returns
+returns c = (
   λ p d l i O q.
-      sym (lifted_apart p d l i _ _ (omega (arith, q, c.if-early-f.false)) (omega (arith, q, c.if-latest-early.false)) _ (own_same O _ ∙ sym c.latest_same.ensures ∙ c.in-At.is) (omega (arith, q, c.if-early-s.false))),
+      sym (lifted_apart p d l i _ _ (omega (arith, q, c.if-early-f.false)) (omega (arith, q, c.if-latest-early.false)) _ (own_same O _ ∙ sym c.latest_same.ensures ∙ c.in_ok-s.was) (omega (arith, q, c.if-early-s.false))),
   fits_at _ c.requires.2,
 )
 
-pub returns-in-Refused : goal.returns-in-Refused
-returns-in-Refused c = (
+pub returns-in_err-s : goal.returns-in_err-s
+returns-in_err-s c = rw (handed_on _ _ c.from_residual.ensures.1) ((
   λ p d l i O q.
-      sym (lifted_refused p d l i _ _ (omega (arith, q, c.if-early-f.false)) (omega (arith, q, c.if-latest-early.false)) _ (own_same O _ ∙ sym c.latest_same.ensures ∙ c.in-Refused.is)),
+      sym (lifted_refused p d l i _ _ (omega (arith, q, c.if-early-f.false)) (omega (arith, q, c.if-latest-early.false)) _ (own_same O _ ∙ sym c.latest_same.ensures ∙ c.in_err-s.was)),
   fits_refused _,
 )
+    )

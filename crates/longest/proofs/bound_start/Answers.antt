@@ -5,6 +5,7 @@ use native.Mathlib.Omega.{arith}
 use Rattle.memory.specs.State.{state_of}
 use Rattle.order.specs.Plan.{plan_of}
 use Rattle.dates.specs.Columns.{early_in}
+use Rattle.number.specs.Exits.{handed_on}
 use Rattle.longest.specs.OwnLaws.{own_valid, own_worked, own_place, link_in, start_left}
 use Rattle.longest.specs.DriveLaws.{start_no_bound, start_no_start, start_placed}
 use Rattle.longest.proofs.bound_start.Goals as goal
@@ -12,13 +13,12 @@ use Rattle.longest.proofs.bound_start.Goals as goal
 pub link_bound-requires : goal.link_bound-requires
 link_bound-requires c = (c.requires.0.ready, c.requires.0.recorded, c.requires.3)
 
-pub returns-in-Refused : goal.returns-in-Refused
-returns-in-Refused c =
-    let x = c.args in
+pub returns-in_err-b : goal.returns-in_err-b
+returns-in_err-b c = rw (handed_on _ _ c.from_residual.ensures.1) (let x = c.args in
     let p = plan_of x.sheet.now x.contents in
     let d = early_in p (state_of x.contents.activities x.contents.links x.work.now) in
     let b = c.link_bound in
-    sym (start_no_bound p d x.i x.k b.result c.in-Refused.r b.ensures c.in-Refused.is)
+    sym (start_no_bound p d x.i x.k b.result c.in_err-b.field-0.0 b.ensures c.in_err-b.was))
 
 pub get_act-left-requires : goal.get_act-left-requires
 get_act-left-requires c = (c.requires.0.ready.room, c.requires.2, omega arith)
@@ -32,33 +32,32 @@ relationship_type_of-kind-requires c = tt
 pub start_for-requires : goal.start_for-requires
 start_for-requires c = own_valid c.requires.1 c.requires.0.ready.read
 
-pub returns-in-Refused-start_for : goal.returns-in-Refused-start_for
-returns-in-Refused-start_for c =
-    let x = c.args in
+pub returns-in_err-s : goal.returns-in_err-s
+returns-in_err-s c = rw (handed_on _ _ c.from_residual-in_err-s.ensures.1) (let x = c.args in
     let p = plan_of x.sheet.now x.contents in
     let d = early_in p (state_of x.contents.activities x.contents.links x.work.now) in
     let b = c.link_bound in
     let q = c.start_for in
-    let u = c.in-At.b in
+    let u = c.in_ok-b.b in
     let w =
     start_left c.requires.0 x.k c.requires.3 x.i c.requires.2 c.get_act-left.result c.get_link-code.result u c.relationship_type_of-kind.result q.result c.get_act-left.ensures.0 c.get_link-code.ensures.0 c.relationship_type_of-kind.ensures
     (q.ensures p x.i (own_worked c.requires.1)) in
-    sym (start_no_start p d x.i x.k b.result u b.ensures c.in-At.is q.result w c.in-Refused-start_for.r c.in-Refused-start_for.is)
+    sym (start_no_start p d x.i x.k b.result u b.ensures c.in_ok-b.was q.result w c.in_err-s.field-0.0 c.in_err-s.was))
 
 pub place_start-requires : goal.place_start-requires
 place_start-requires c = own_valid c.requires.1 c.requires.0.ready.read
 
-pub returns-in-At-start_for : goal.returns-in-At-start_for
-returns-in-At-start_for c =
+pub returns : goal.returns
+returns c =
     let x = c.args in
     let p = plan_of x.sheet.now x.contents in
     let d = early_in p (state_of x.contents.activities x.contents.links x.work.now) in
     let b = c.link_bound in
     let q = c.start_for in
-    let u = c.in-At.b in
+    let u = c.in_ok-b.b in
     let w =
     start_left c.requires.0 x.k c.requires.3 x.i c.requires.2 c.get_act-left.result c.get_link-code.result u c.relationship_type_of-kind.result q.result c.get_act-left.ensures.0 c.get_link-code.ensures.0 c.relationship_type_of-kind.ensures
     (q.ensures p x.i (own_worked c.requires.1)) in
-    let v = c.in-At-start_for.s in
+    let v = c.in_ok-s.s in
     own_place c.requires.1 v c.place_start.result c.place_start.ensures
-    ∙ sym (start_placed p d x.i x.k b.result u b.ensures c.in-At.is q.result w v c.in-At-start_for.is)
+    ∙ sym (start_placed p d x.i x.k b.result u b.ensures c.in_ok-b.was q.result w v c.in_ok-s.was)

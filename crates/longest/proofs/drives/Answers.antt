@@ -5,6 +5,7 @@ use native.Mathlib.Omega.{arith}
 use Rattle.memory.specs.State.{state_of}
 use Rattle.order.specs.Plan.{plan_of}
 use Rattle.dates.specs.Columns.{early_in}
+use Rattle.number.specs.Exits.{handed_on}
 use Rattle.longest.specs.OwnLaws.{link_in, start_read, from_inside, completed_read}
 use Rattle.longest.specs.DriveLaws.{drives_refused, drives_elsewhere, drives_completed, drives_sets}
 use Rattle.longest.proofs.drives.Goals as goal
@@ -12,13 +13,12 @@ use Rattle.longest.proofs.drives.Goals as goal
 pub bound_start-requires : goal.bound_start-requires
 bound_start-requires c = c.requires
 
-pub returns-in-Refused : goal.returns-in-Refused
-returns-in-Refused c =
-    let x = c.args in
+pub returns-in_err-u : goal.returns-in_err-u
+returns-in_err-u c = rw (handed_on _ _ c.from_residual.ensures.1) (let x = c.args in
     let p = plan_of x.sheet.now x.contents in
     let d = early_in p (state_of x.contents.activities x.contents.links x.work.now) in
     let b = c.bound_start in
-    λ go. drives_refused p d x.i x.k go b.result b.ensures c.in-Refused.r c.in-Refused.is
+    λ go. drives_refused p d x.i x.k go b.result b.ensures c.in_err-u.field-0.0 c.in_err-u.was)
 
 pub get_act-requires : goal.get_act-requires
 get_act-requires c = (c.requires.0.ready.room, c.requires.2, omega arith)
@@ -30,7 +30,7 @@ returns-then-u-get_act c =
     let d = early_in p (state_of x.contents.activities x.contents.links x.work.now) in
     let b = c.bound_start in
     let e = start_read c.requires.0 x.i c.requires.2 c.get_act.result c.get_act.ensures.0 in
-    λ go. drives_elsewhere p d x.i x.k go b.result b.ensures c.in-At.u c.in-At.is (λ q. c.if-u-get_act.true (q ∙ sym e))
+    λ go. drives_elsewhere p d x.i x.k go b.result b.ensures c.in_ok-u.u c.in_ok-u.was (λ q. c.if-u-get_act.true (q ∙ sym e))
 
 pub get_link-from-requires : goal.get_link-from-requires
 get_link-from-requires c = (c.requires.0.ready.room, link_in c.requires.0 c.args.k c.requires.3, omega arith)
@@ -50,11 +50,11 @@ returns-then-is_completed c =
     let e = start_read c.requires.0 x.i c.requires.2 c.get_act.result c.get_act.ensures.0 in
     let f = completed_read c.requires.0 x.k c.requires.3 c.get_link-from.result c.recorded_at-recorded.result c.get_link-from.ensures.0 c.recorded_at-recorded.ensures in
     λ go.
-    drives_completed p d x.i x.k go b.result b.ensures c.in-At.u c.in-At.is (c.if-u-get_act.false ∙ e)
+    drives_completed p d x.i x.k go b.result b.ensures c.in_ok-u.u c.in_ok-u.was (c.if-u-get_act.false ∙ e)
     (f ∙ sym (c.is_completed.ensures p) ∙ c.if-is_completed.true)
 
-pub returns-in-At : goal.returns-in-At
-returns-in-At c =
+pub returns : goal.returns
+returns c =
     let x = c.args in
     let p = plan_of x.sheet.now x.contents in
     let d = early_in p (state_of x.contents.activities x.contents.links x.work.now) in
@@ -62,5 +62,5 @@ returns-in-At c =
     let e = start_read c.requires.0 x.i c.requires.2 c.get_act.result c.get_act.ensures.0 in
     let f = completed_read c.requires.0 x.k c.requires.3 c.get_link-from.result c.recorded_at-recorded.result c.get_link-from.ensures.0 c.recorded_at-recorded.ensures in
     λ go.
-    drives_sets p d x.i x.k go b.result b.ensures c.in-At.u c.in-At.is (c.if-u-get_act.false ∙ e)
+    drives_sets p d x.i x.k go b.result b.ensures c.in_ok-u.u c.in_ok-u.was (c.if-u-get_act.false ∙ e)
     (f ∙ sym (c.is_completed.ensures p) ∙ c.if-is_completed.false)

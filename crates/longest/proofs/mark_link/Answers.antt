@@ -1,12 +1,14 @@
 -- `longest::mark_link` meets its contract, each way out by its law.
 use borrow.Author.Rules.{rules}
-use mathlib.Core.Path.{refl}
+use Rattle.std.specs.Prelude.{Ok}
+use mathlib.Core.Path.{refl, ap, ◌∙◌}
 use native.Mathlib.Omega.{arith}
 use Rattle.memory.specs.State.{state_of}
 use Rattle.order.specs.Plan.{plan_of}
 use Rattle.topology.specs.FrameLaws.{frame_refl}
 use Rattle.dates.specs.Columns.{early_in}
 use Rattle.bounds.specs.ReadyLaws.{activities_are}
+use Rattle.number.specs.Exits.{handed_on}
 use Rattle.longest.specs.OwnLaws.{link_in, from_read, from_inside}
 use Rattle.longest.specs.LastLaws.{frame_mark}
 use Rattle.longest.specs.MarkLaws.{mark_refused, mark_leaves, mark_sets}
@@ -15,21 +17,21 @@ use Rattle.longest.proofs.mark_link.Goals as goal
 pub drives-requires : goal.drives-requires
 drives-requires c = c.requires
 
-pub returns-in-Refused : goal.returns-in-Refused
-returns-in-Refused c =
-    let x = c.args in
+pub returns-in_err-sets : goal.returns-in_err-sets
+returns-in_err-sets c =
+    rw (handed_on _ _ c.from_residual.ensures.1) (let x = c.args in
     let p = plan_of x.sheet.now x.contents in
     let S = state_of x.contents.activities x.contents.links x.work.now in
     let b = c.drives in
-    (λ other go. mark_refused p (early_in p S) x.i x.k S other go b.result b.ensures c.in-Refused.r c.in-Refused.is, frame_refl 16 17 0 0 S, refl)
+    (λ other go. mark_refused p (early_in p S) x.i x.k S other go b.result b.ensures c.in_err-sets.field-0.0 c.in_err-sets.was, frame_refl 16 17 0 0 S, refl))
 
-pub returns-in-Leaves : goal.returns-in-Leaves
-returns-in-Leaves c =
+pub returns : goal.returns
+returns c =
     let x = c.args in
     let p = plan_of x.sheet.now x.contents in
     let S = state_of x.contents.activities x.contents.links x.work.now in
     let b = c.drives in
-    (λ other go. mark_leaves p (early_in p S) x.i x.k S other go b.result b.ensures c.in-Leaves.is, frame_refl 16 17 0 0 S, refl)
+    (λ other go. mark_leaves p (early_in p S) x.i x.k S other go b.result b.ensures (c.in_ok-sets.was ∙ ap Ok c.if-sets.false), frame_refl 16 17 0 0 S, refl)
 
 pub get_link-from-requires : goal.get_link-from-requires
 get_link-from-requires c = (c.requires.0.ready.room, link_in c.requires.0 c.args.k c.requires.3, omega arith)
@@ -37,8 +39,8 @@ get_link-from-requires c = (c.requires.0.ready.room, link_in c.requires.0 c.args
 pub put_act-requires : goal.put_act-requires
 put_act-requires c = (c.requires.0.ready.room, from_inside c.requires.0 c.args.k c.requires.3 c.get_link-from.result c.get_link-from.ensures.0, omega arith, omega arith)
 
-pub returns-in-Sets : goal.returns-in-Sets
-returns-in-Sets c =
+pub returns-then-sets : goal.returns-then-sets
+returns-then-sets c =
     let x = c.args in
     let p = plan_of x.sheet.now x.contents in
     let S = state_of x.contents.activities x.contents.links x.work.now in
@@ -47,7 +49,7 @@ returns-in-Sets c =
     let T = state_of x.contents.activities x.contents.links c.put_act.new.work in
     let e = c.put_act.ensures in (
       λ other go.
-          mark_sets p (early_in p S) x.i x.k S other go b.result b.ensures c.in-Sets.is T g.result
+          mark_sets p (early_in p S) x.i x.k S other go b.result b.ensures (c.in_ok-sets.was ∙ ap Ok c.if-sets.true) T g.result
           (omega (arith, from_inside c.requires.0 x.k c.requires.3 g.result g.ensures.0, activities_are x.sheet.now x.contents))
           (from_read c.requires.0 x.k c.requires.3 g.result g.ensures.0) e.0,
       frame_mark (frame_refl 16 17 0 0 S) g.result 1 e.0,

@@ -10,6 +10,7 @@ use Rattle.topology.specs.Frame.{Frame}
 use Rattle.topology.specs.FrameLaws.{frame_refl, frame_then}
 use Rattle.order.specs.Plan.{plan_of}
 use Rattle.bounds.specs.ReadyLaws.{activities_are}
+use Rattle.number.specs.Exits.{handed_on}
 use Rattle.longest.specs.KeptLaws.{lent_kept}
 use Rattle.longest.specs.OwnLaws.{link_in}
 use Rattle.longest.specs.WalkLaws.{Marking, marking_start, next_stands, marking_turn, marking_stop, marking_end}
@@ -34,8 +35,8 @@ mark_link-requires c =
     let v = c.loop-k.invariant in
     (lent_kept c.requires.0 c.loop-k.work v.1 v.0, c.requires.1, c.requires.2, c.loop-k-test.true)
 
-pub shape_of-work-in-Refused : goal.shape_of-work-in-Refused
-shape_of-work-in-Refused c =
+pub shape_of-work-in_err-mark_link : goal.shape_of-work-in_err-mark_link
+shape_of-work-in_err-mark_link c =
     let x = c.args in
     let p = plan_of x.sheet.now x.contents in
     let a = x.contents.activities in
@@ -43,9 +44,8 @@ shape_of-work-in-Refused c =
     let v = c.loop-k.invariant in
     c.mark_link.ensures.2 ∙ v.0
 
-pub returns-in-Refused : goal.returns-in-Refused
-returns-in-Refused c =
-    let x = c.args in
+pub returns-in_err-mark_link : goal.returns-in_err-mark_link
+returns-in_err-mark_link c = rw (handed_on _ _ c.from_residual.ensures.1) (let x = c.args in
     let p = plan_of x.sheet.now x.contents in
     let a = x.contents.activities in
     let l = x.contents.links in
@@ -54,10 +54,10 @@ returns-in-Refused c =
     let S = state_of a l c.loop-k.work in
     let T = state_of a l m.new.work in (
       λ other.
-          marking_stop p c.requires.0.ready.standing x.i v.1 c.loop-k-test.true other (v.2 other) T m.result (m.ensures.0 other) c.in-Refused.r c.in-Refused.is,
+          marking_stop p c.requires.0.ready.standing x.i v.1 c.loop-k-test.true other (v.2 other) T m.result (m.ensures.0 other) c.in_err-mark_link.field-0.0 c.in_err-mark_link.was,
       frame_then 16 17 0 0 v.1 m.ensures.1,
       m.ensures.2 ∙ v.0,
-    )
+    ))
 
 pub get_link-k-requires : goal.get_link-k-requires
 get_link-k-requires c =
@@ -91,7 +91,7 @@ loop-k-preserved c =
       m.ensures.2 ∙ v.0,
       frame_then 16 17 0 0 v.1 m.ensures.1,
       λ other.
-          marking_turn p c.requires.0.ready.standing x.i v.1 c.loop-k-test.true other (v.2 other) T m.result (m.ensures.0 other) m.ensures.1 c.in-Done.is c.get_link-k.result c.get_link-k.ensures.0,
+          marking_turn p c.requires.0.ready.standing x.i v.1 c.loop-k-test.true other (v.2 other) T m.result (m.ensures.0 other) m.ensures.1 c.in_ok-mark_link.was c.get_link-k.result c.get_link-k.ensures.0,
     )
 
 pub shape_of-work : goal.shape_of-work

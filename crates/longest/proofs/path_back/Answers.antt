@@ -12,6 +12,7 @@ use Rattle.topology.specs.FrameLaws.{frame_refl, frame_then}
 use Rattle.order.specs.Plan.{plan_of}
 use Rattle.dates.specs.StandingLaws.{standing_kept}
 use Rattle.bounds.specs.ReadyLaws.{activities_are}
+use Rattle.number.specs.Exits.{handed_on}
 use Rattle.longest.specs.KeptLaws.{lent_kept}
 use Rattle.dates.specs.OrderLaws.{back_below}
 use Rattle.longest.specs.WalkLaws.{PathDone, path_start, path_turn, path_stop, path_end}
@@ -56,8 +57,8 @@ on_path-requires c =
     let f : S.act order_at (p.activities - (q + 1)) < p.activities = back_below p c.requires.ready.fine L.ready.standing q (omega (arith, e, c.loop-q-test.true)) in
     (L, omega (arith, g, f, e))
 
-pub shape_of-work-in-Refused : goal.shape_of-work-in-Refused
-shape_of-work-in-Refused c =
+pub shape_of-work-in_err-on_path : goal.shape_of-work-in_err-on_path
+shape_of-work-in_err-on_path c =
     let x = c.args in
     let p = plan_of x.sheet.now x.contents in
     let a = x.contents.activities in
@@ -66,9 +67,8 @@ shape_of-work-in-Refused c =
     let v = c.loop-q.invariant in
     c.on_path.ensures.2 ∙ v.1
 
-pub returns-in-Refused : goal.returns-in-Refused
-returns-in-Refused c =
-    let x = c.args in
+pub returns-in_err-on_path : goal.returns-in_err-on_path
+returns-in_err-on_path c = rw (handed_on _ _ c.from_residual.ensures.1) (let x = c.args in
     let p = plan_of x.sheet.now x.contents in
     let a = x.contents.activities in
     let l = x.contents.links in
@@ -82,13 +82,13 @@ returns-in-Refused c =
     let g : c.get_act-i.result ≡ S.act order_at (p.activities - (q + 1)) = rw e c.get_act-i.ensures.0 in
     let w = standing_kept v.2 p (omega arith) c.requires.ready.standing in (
       λ other.
-          path_stop p c.requires.ready.fine S₀ w v.2 (omega (arith, e, c.loop-q-test.true)) other (v.3 other) c.get_act-i.result g T m.result (m.ensures.0 other) c.in-Refused.r c.in-Refused.is,
+          path_stop p c.requires.ready.fine S₀ w v.2 (omega (arith, e, c.loop-q-test.true)) other (v.3 other) c.get_act-i.result g T m.result (m.ensures.0 other) c.in_err-on_path.field-0.0 c.in_err-on_path.was,
       frame_then 16 17 0 0 v.2 m.ensures.1,
       m.ensures.2 ∙ v.1,
-    )
+    ))
 
-pub overflow_add-q-in-Done : goal.overflow_add-q-in-Done
-overflow_add-q-in-Done c = omega (arith, c.loop-q-test.true)
+pub overflow_add-q-in-loop-q : goal.overflow_add-q-in-loop-q
+overflow_add-q-in-loop-q c = omega (arith, c.loop-q-test.true)
 
 pub loop-q-smaller : goal.loop-q-smaller
 loop-q-smaller c = omega (arith, c.loop-q-test.true)
@@ -112,7 +112,7 @@ loop-q-preserved c =
       m.ensures.2 ∙ v.1,
       frame_then 16 17 0 0 v.2 m.ensures.1,
       λ other.
-          path_turn p c.requires.ready.fine S₀ w v.2 (omega (arith, e, c.loop-q-test.true)) other (v.3 other) c.get_act-i.result g T m.result (m.ensures.0 other) c.in-Done.is,
+          path_turn p c.requires.ready.fine S₀ w v.2 (omega (arith, e, c.loop-q-test.true)) other (v.3 other) c.get_act-i.result g T m.result (m.ensures.0 other) c.in_ok-on_path.was,
     )
 
 pub shape_of-work : goal.shape_of-work

@@ -1,28 +1,28 @@
 -- `placing::place_finish` meets its contract. Each way out has its law.
 use mathlib.Core.Path.{sym, ◌∙◌}
+use Rattle.number.specs.Exits.{handed_on}
 use Rattle.placing.proofs.PlacingLaws.{place_finish_refuses, place_finish_here, place_finish_start, place_finish_before, place_finish_start_refuses}
 use Rattle.placing.proofs.place_finish.Goals as goal
 
 pub returns-then-s-t : goal.returns-then-s-t
 returns-then-s-t c =
     sym
-    (place_finish_start _ _ _ _ _ _ (sym c.previous_finish.ensures ∙ c.in-At.is) (sym c.is_moment-moment.ensures ∙ c.if-moment.true)
-    (sym c.next_start.ensures ∙ c.in-At-next_start.is) c.if-s-t.true)
+    (place_finish_start _ _ _ _ _ _ (sym c.previous_finish.ensures ∙ c.in_ok-f.was) (sym c.is_moment-moment.ensures ∙ c.if-moment.true)
+    (sym c.next_start.ensures ∙ c.in_ok-s.was) c.if-s-t.true)
 
-pub returns-in-At-next_start : goal.returns-in-At-next_start
-returns-in-At-next_start c =
+pub returns-then-moment : goal.returns-then-moment
+returns-then-moment c =
     sym
-    (place_finish_before _ _ _ _ _ _ (sym c.previous_finish.ensures ∙ c.in-At.is) (sym c.is_moment-moment.ensures ∙ c.if-moment.true)
-    (sym c.next_start.ensures ∙ c.in-At-next_start.is) c.if-s-t.false)
+    (place_finish_before _ _ _ _ _ _ (sym c.previous_finish.ensures ∙ c.in_ok-f.was) (sym c.is_moment-moment.ensures ∙ c.if-moment.true)
+    (sym c.next_start.ensures ∙ c.in_ok-s.was) c.if-s-t.false)
 
-pub returns-in-Refused-next_start : goal.returns-in-Refused-next_start
-returns-in-Refused-next_start c =
-    sym
-    (place_finish_start_refuses _ _ _ _ _ _ (sym c.previous_finish.ensures ∙ c.in-At.is) (sym c.is_moment-moment.ensures ∙ c.if-moment.true)
-    (sym c.next_start.ensures ∙ c.in-Refused-next_start.is))
+pub returns-in_err-s : goal.returns-in_err-s
+returns-in_err-s c = rw (handed_on _ _ c.from_residual-in_err-s.ensures.1) (sym
+    (place_finish_start_refuses _ _ _ _ _ _ (sym c.previous_finish.ensures ∙ c.in_ok-f.was) (sym c.is_moment-moment.ensures ∙ c.if-moment.true)
+    (sym c.next_start.ensures ∙ c.in_err-s.was)))
 
-pub returns-else-moment : goal.returns-else-moment
-returns-else-moment c = sym (place_finish_here _ _ _ _ _ (sym c.previous_finish.ensures ∙ c.in-At.is) (sym c.is_moment-moment.ensures ∙ c.if-moment.false))
+pub returns : goal.returns
+returns c = sym (place_finish_here _ _ _ _ _ (sym c.previous_finish.ensures ∙ c.in_ok-f.was) (sym c.is_moment-moment.ensures ∙ c.if-moment.false))
 
-pub returns-in-Refused : goal.returns-in-Refused
-returns-in-Refused c = sym (place_finish_refuses _ _ _ _ _ (sym c.previous_finish.ensures ∙ c.in-Refused.is))
+pub returns-in_err-f : goal.returns-in_err-f
+returns-in_err-f c = rw (handed_on _ _ c.from_residual.ensures.1) (sym (place_finish_refuses _ _ _ _ _ (sym c.previous_finish.ensures ∙ c.in_err-f.was)))

@@ -1,13 +1,14 @@
 -- `placing::start_for_finish` meets its contract. Each way out has its law.
 use mathlib.Core.Path.{sym, ◌∙◌}
+use Rattle.number.specs.Exits.{handed_on}
 use Rattle.placing.proofs.PlacingLaws.{start_for_finish_none, start_for_finish_at, start_for_finish_refuses}
 use Rattle.placing.proofs.start_for_finish.Goals as goal
 
 pub returns-then-left-eq0 : goal.returns-then-left-eq0
 returns-then-left-eq0 c = sym (start_for_finish_none _ _ _ c.if-left-eq0.true)
 
-pub returns-in-At : goal.returns-in-At
-returns-in-At c = c.retreat.ensures ∙ sym (start_for_finish_at _ _ _ c.if-left-eq0.false _ (sym c.next_finish.ensures ∙ c.in-At.is))
+pub returns : goal.returns
+returns c = c.retreat.ensures ∙ sym (start_for_finish_at _ _ _ c.if-left-eq0.false _ (sym c.next_finish.ensures ∙ c.in_ok-f.was))
 
-pub returns-in-Refused : goal.returns-in-Refused
-returns-in-Refused c = sym (start_for_finish_refuses _ _ _ c.if-left-eq0.false _ (sym c.next_finish.ensures ∙ c.in-Refused.is))
+pub returns-in_err-f : goal.returns-in_err-f
+returns-in_err-f c = rw (handed_on _ _ c.from_residual.ensures.1) (sym (start_for_finish_refuses _ _ _ c.if-left-eq0.false _ (sym c.next_finish.ensures ∙ c.in_err-f.was)))

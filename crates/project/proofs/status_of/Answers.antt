@@ -9,8 +9,8 @@ returns-in_default c = rw c.in_default.is
 
 pub returns-in_default-actual_start : goal.returns-in_default-actual_start
 unfolding status_of
-returns-in_default-actual_start c = rw (c.in-Absent.is, c.in_default-actual_start.is)
+returns-in_default-actual_start c = rw (c.in-None.is, c.in_default-actual_start.is)
 
 pub returns : goal.returns
 unfolding status_of
-returns c = rw (c.in-Absent.is, c.in-Absent-actual_start.is)
+returns c = rw (c.in-None.is, c.in-None-actual_start.is)

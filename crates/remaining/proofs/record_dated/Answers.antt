@@ -15,6 +15,7 @@ use Rattle.order.specs.Ties.{calendar_of}
 use Rattle.passes.specs.Plan.{recorded}
 use Rattle.calendars.specs.Calendars.{IsCalendar}
 use Rattle.calendars.specs.CalendarLaws.{calendar_valid, calendar_worked}
+use Rattle.number.specs.Exits.{handed_on}
 use Rattle.remaining.specs.LeftLaws.{recorded_else, left_is, left_answers, left_below, is_below}
 use Rattle.remaining.specs.RowLaws.{row_kept, row_refused}
 use Rattle.remaining.proofs.record_dated.Goals as goal
@@ -60,24 +61,23 @@ keep-requires c =
       c.requires.2,
       c.requires.3,
       is_below p y.i x (recorded-is y.sheet.now y.contents y.i c.requires.4 C c.requires.5 c.actual-actual.ensures),
-      left_below p y.i (rw c.requires.6 at c.requires.7) x c.in-At.left (sym c.left_of.ensures ∙ c.in-At.is),
+      left_below p y.i (rw c.requires.6 at c.requires.7) x c.in_ok-left.left (sym c.left_of.ensures ∙ c.in_ok-left.was),
     )
 
-pub returns-in-At : goal.returns-in-At
-returns-in-At c =
+pub returns : goal.returns
+returns c =
     let y = c.args in
     let p = plan_of y.sheet.now y.contents in
     let C = own-calendar y.sheet.now y.contents y.i c.requires.4 c.week_of-week.ensures c.exceptions_of-e.ensures.0 c.exceptions_of-e.ensures.1 in
     let x = c.actual-actual.result in
     let e = recorded-is y.sheet.now y.contents y.i c.requires.4 C c.requires.5 c.actual-actual.ensures in
-    let m = sym c.left_of.ensures ∙ c.in-At.is in
+    let m = sym c.left_of.ensures ∙ c.in_ok-left.was in
     (row_kept p y.i _ _ x _ c.keep.ensures.0 e (λ k. left_answers p y.i x _ k m) (left_is p y.i x e ∙ m), c.keep.ensures.1)
 
-pub returns-in-Refused : goal.returns-in-Refused
-returns-in-Refused c =
-    let y = c.args in
+pub returns-in_err-left : goal.returns-in_err-left
+returns-in_err-left c = rw (handed_on _ _ c.from_residual.ensures.1) (let y = c.args in
     let p = plan_of y.sheet.now y.contents in
     let C = own-calendar y.sheet.now y.contents y.i c.requires.4 c.week_of-week.ensures c.exceptions_of-e.ensures.0 c.exceptions_of-e.ensures.1 in
     let x = c.actual-actual.result in
     let e = recorded-is y.sheet.now y.contents y.i c.requires.4 C c.requires.5 c.actual-actual.ensures in
-    (row_refused p y.i _ _ (left_is p y.i x e ∙ sym c.left_of.ensures ∙ c.in-Refused.is), refl)
+    (row_refused p y.i _ _ (left_is p y.i x e ∙ sym c.left_of.ensures ∙ c.in_err-left.was), refl))

@@ -1,4 +1,6 @@
 -- `remaining::record_one` meets its contract: each way out has its law.
+use Rattle.std.specs.Prelude.{Ok}
+use Rattle.worktime.specs.declared.ClockError.{ClockError}
 use borrow.Author.Rules.{rules}
 use mathlib.Core.Path.{◌≡◌, sym, ap, ◌∙◌}
 use mathlib.Core.Bool.{true, false}
@@ -26,13 +28,12 @@ use Rattle.order.specs.Plan.{Plan, plan_of}
 use Rattle.order.specs.Ids.{summary}
 use Rattle.passes.specs.Plan.{recorded, full}
 use Rattle.dates.specs.Standing.{Ready}
-use Rattle.worktime.specs.declared.Walk.TheVariants.{At}
 use Rattle.placing.proofs.PlacingSound.{clash}
 use Rattle.remaining.specs.LeftLaws.{recorded_summary, recorded_none, full_summary, full_else, left_unstarted, is_below}
 use Rattle.remaining.specs.RowLaws.{row_kept}
 use Rattle.remaining.proofs.record_one.Goals as goal
 
-unstarted : (k : ℕ) → Unstarted ≡ Actual.Refused k → ⊥
+unstarted : (k : ClockError) → Unstarted ≡ Actual.Refused k → ⊥
 unstarted k e = clash (cc)
 
 -- the mark m tells summaries from others
@@ -72,7 +73,7 @@ returns-then-mark-ne0 c =
     let p = plan_of x.sheet.now x.contents in
     let y = is-summary c.requires.0 c.requires.1 c.get_act-mark.ensures.0 c.if-mark-ne0.true in
     let e = recorded_summary p x.i y in (
-      row_kept p x.i _ _ Unstarted 0 c.keep.ensures.0 (sym e) unstarted (left_unstarted p x.i e ∙ ap At (full_summary p x.i y)),
+      row_kept p x.i _ _ Unstarted 0 c.keep.ensures.0 (sym e) unstarted (left_unstarted p x.i e ∙ ap Ok (full_summary p x.i y)),
       c.keep.ensures.1,
     )
 
@@ -113,6 +114,6 @@ returns c =
     let n = no-summary c.requires.0 c.requires.1 c.get_act-mark.ensures.0 c.if-mark-ne0.false in
     let r = none-recorded p x.i e n c.status_of-status.ensures c.in-NotStarted.is in
     let w = whole_is p x.i e n (record { sfits = search rules }) c.minutes_of-whole.ensures.0 in (
-      row_kept p x.i _ _ Unstarted _ c.keep-2.ensures.0 (sym r) unstarted (left_unstarted p x.i r ∙ ap At (sym w)),
+      row_kept p x.i _ _ Unstarted _ c.keep-2.ensures.0 (sym r) unstarted (left_unstarted p x.i r ∙ ap Ok (sym w)),
       c.keep-2.ensures.1,
     )

@@ -6,6 +6,7 @@ use Rattle.topology.specs.FrameLaws.{frame_refl, frame_then}
 use Rattle.order.specs.Plan.{plan_of}
 use Rattle.placing.proofs.PlacingSound.{clash}
 use Rattle.dates.specs.KeptLaws.{ready_kept}
+use Rattle.number.specs.Exits.{handed_on}
 use Rattle.remaining.specs.RowLaws.{passed_start, passed_turn, passed_stop, passed_end}
 use Rattle.remaining.proofs.remaining.Goals as goal
 
@@ -20,18 +21,17 @@ record_one-requires c =
     let L = c.loop-i in
     (ready_kept c.requires L.invariant.2 L.invariant.1 (omega arith), omega arith)
 
-pub returns-in-Refused : goal.returns-in-Refused
+pub returns-in_err-record_one : goal.returns-in_err-record_one
 unfolding plan_of
-returns-in-Refused c =
-    let e = c.record_one.ensures in
+returns-in_err-record_one c = rw (handed_on _ _ c.from_residual.ensures.1) (let e = c.record_one.ensures in
     let L = c.loop-i in
     let x = c.args in
     let p = plan_of x.sheet.now x.contents in (
-      passed_stop p L.i _ _ L.invariant.3 _ e.0 _ c.in-Refused.is (omega arith),
+      passed_stop p L.i _ _ L.invariant.3 _ e.0 _ c.in_err-record_one.was (omega arith),
       λ d. clash (cc),
       frame_then 14 20 0 0 L.invariant.2 e.0.frame,
       e.1 ∙ L.invariant.1,
-    )
+    ))
 
 pub loop-i-preserved : goal.loop-i-preserved
 loop-i-preserved c =
@@ -42,7 +42,7 @@ loop-i-preserved c =
       omega arith,
       e.1 ∙ L.invariant.1,
       frame_then 14 20 0 0 L.invariant.2 e.0.frame,
-      passed_turn p L.i _ _ L.invariant.3 _ e.0 c.in-Done.is,
+      passed_turn p L.i _ _ L.invariant.3 _ e.0 c.in_ok-record_one.was,
     )
 
 pub shape_of-work : goal.shape_of-work

@@ -1,45 +1,45 @@
 -- `remaining::since_start` meets its contract: each way out has its law.
+use Rattle.std.specs.Prelude.{Ok}
 use borrow.Author.Rules.{rules}
 use mathlib.Core.Path.{sym, ap, ◌∙◌}
 use Prim.Native.Nat.{ℕ, ◌-◌, max}
 use mir.Facts.{to_z-of_z}
 use mir.Syntax.{w64}
 use mir.Val.{SFits}
-use Rattle.worktime.specs.declared.Walk.TheVariants.{At}
 use Rattle.worktime.specs.Walks.{between}
 use Rattle.order.specs.Plan.{plan_of}
 use Rattle.calendars.specs.CalendarLaws.{calendar_valid, calendar_worked}
 use Rattle.dates.specs.ReadLaws.{plan_data_date}
+use Rattle.number.specs.Exits.{handed_on}
 use Rattle.remaining.specs.LeftLaws.{since_none, since_done, since_refused}
 use Rattle.remaining.proofs.since_start.Goals as goal
 
-pub returns-in-Absent : goal.returns-in-Absent
-returns-in-Absent c =
+pub returns-in-None : goal.returns-in-None
+returns-in-None c =
     let x = c.args in
     sym
     (since_none (plan_of x.sheet.now x.contents) x.i x.start _ x.whole
-    (sym (plan_data_date x.sheet.now x.contents) ∙ sym c.read_optional_date.ensures ∙ c.in-Absent.is) c.requires.2)
+    (sym (plan_data_date x.sheet.now x.contents) ∙ sym c.read_optional_date.ensures ∙ c.in-None.is) c.requires.2)
 
 pub between-requires : goal.between-requires
 between-requires c = calendar_valid c.requires.1 c.requires.0
 
-pub returns-in-Minutes : goal.returns-in-Minutes
-returns-in-Minutes c =
+pub returns-in_ok-done-in-Some : goal.returns-in_ok-done-in-Some
+returns-in_ok-done-in-Some c =
     let x = c.args in
-    let f : SFits w64 c.in-Minutes.done = record { sfits = search rules } in
+    let f : SFits w64 c.in_ok-done-in-Some.done = record { sfits = search rules } in
     let n = c.less.ensures ∙ ap (λ (m : ℕ). x.whole - m) (rw (to_z-of_z f) at c.upward.ensures.0) in
     let u = c.later-by.ensures ∙ ap (λ (m : ℕ). max m x.start) c.midnight.ensures.0 in
-    ap At n
+    ap Ok n
     ∙ sym
     (since_done (plan_of x.sheet.now x.contents) x.i x.start _ _ x.whole _
-    (sym (plan_data_date x.sheet.now x.contents) ∙ sym c.read_optional_date.ensures ∙ c.in-On.is) c.requires.2
-    ((λ z. between (sym (calendar_worked c.requires.1) z) x.start (sym u z)) ∙ sym c.between.ensures ∙ c.in-Minutes.is))
+    (sym (plan_data_date x.sheet.now x.contents) ∙ sym c.read_optional_date.ensures ∙ c.in-Some.is) c.requires.2
+    ((λ z. between (sym (calendar_worked c.requires.1) z) x.start (sym u z)) ∙ sym c.between.ensures ∙ c.in_ok-done-in-Some.was))
 
-pub returns-in-Refused : goal.returns-in-Refused
-returns-in-Refused c =
-    let x = c.args in
+pub returns-in_err-done-in-Some : goal.returns-in_err-done-in-Some
+returns-in_err-done-in-Some c = rw (handed_on _ _ c.from_residual.ensures.1) (let x = c.args in
     let u = c.later-by.ensures ∙ ap (λ (m : ℕ). max m x.start) c.midnight.ensures.0 in
     sym
     (since_refused (plan_of x.sheet.now x.contents) x.i x.start _ _ _
-    (sym (plan_data_date x.sheet.now x.contents) ∙ sym c.read_optional_date.ensures ∙ c.in-On.is)
-    ((λ z. between (sym (calendar_worked c.requires.1) z) x.start (sym u z)) ∙ sym c.between.ensures ∙ c.in-Refused.is))
+    (sym (plan_data_date x.sheet.now x.contents) ∙ sym c.read_optional_date.ensures ∙ c.in-Some.is)
+    ((λ z. between (sym (calendar_worked c.requires.1) z) x.start (sym u z)) ∙ sym c.between.ensures ∙ c.in_err-done-in-Some.was)))

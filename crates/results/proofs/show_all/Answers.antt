@@ -6,6 +6,7 @@ use mathlib.Core.List.{List}
 use Rattle.memory.specs.State.{State, state_of}
 use Rattle.topology.specs.FrameLaws.{frame_then}
 use Rattle.order.specs.Plan.{plan_of}
+use Rattle.number.specs.Exits.{handed_on}
 use Rattle.results.specs.View.{shown_to}
 use Rattle.results.proofs.RowLaws.{to_show_kept, shows_start, shows_turn, shows_stop, shows_end}
 use Rattle.results.proofs.show_all.Goals as goal
@@ -26,19 +27,18 @@ show_one-step-requires c =
     let L = c.loop-i in
     (to_show_kept (omega arith) L.invariant.3.frame L.invariant.1 c.requires, omega (arith, c.loop-i-test.true), L.invariant.2)
 
-pub returns-in-Refused : goal.returns-in-Refused
+pub returns-in_err-step : goal.returns-in_err-step
 unfolding plan_of
-returns-in-Refused c =
-    let x = c.args in
+returns-in_err-step c = rw (handed_on _ _ c.from_residual.ensures.1) (let x = c.args in
     let S : List ℤ → State = λ ys. state_of x.contents.activities x.contents.links ys in
     let p = plan_of x.sheet.now x.contents in
     let L = c.loop-i in
     let e = c.show_one-step.ensures in
     let T = S c.show_one-step.new.work in (
-      (λ f other. shows_stop p (S x.work.now) (S L.work) T L.i L.invariant.3 (omega arith) _ e.0 _ c.in-Refused.is (shown_to p.activities T) f other),
+      (λ f other. shows_stop p (S x.work.now) (S L.work) T L.i L.invariant.3 (omega arith) _ e.0 _ c.in_err-step.was (shown_to p.activities T) f other),
       frame_then 20 30 0 0 L.invariant.3.frame e.1,
       omega arith,
-    )
+    ))
 
 pub loop-i-preserved : goal.loop-i-preserved
 unfolding plan_of
@@ -48,7 +48,7 @@ loop-i-preserved c =
     let p = plan_of x.sheet.now x.contents in
     let L = c.loop-i in
     let e = c.show_one-step.ensures in
-    (omega arith, omega arith, L.invariant.2, shows_turn p (S x.work.now) (S L.work) _ L.i L.invariant.3 (omega arith) _ e.0 e.1 c.in-Done.is)
+    (omega arith, omega arith, L.invariant.2, shows_turn p (S x.work.now) (S L.work) _ L.i L.invariant.3 (omega arith) _ e.0 e.1 c.in_ok-step.was)
 
 pub returns : goal.returns
 unfolding plan_of

@@ -4,6 +4,7 @@ use native.Mathlib.Omega.{arith}
 use Rattle.memory.specs.State.{state_of}
 use Rattle.topology.specs.FrameLaws.{frame_refl}
 use Rattle.passes.specs.Dates.{Pass}
+use Rattle.number.specs.Exits.{handed_on}
 use Rattle.results.specs.declared.Shown.{Shown}
 use Rattle.results.specs.View.{shown_to}
 use Rattle.results.specs.RowLaws.{shown_next}
@@ -14,23 +15,22 @@ pub row_of-row-requires : goal.row_of-row-requires
 row_of-row-requires c = c.requires
 
 pub put_shown-requires : goal.put_shown-requires
-put_shown-requires c = let h = c.requires in (h.0.room, h.1, rw c.in-Is.is at c.row_of-row.ensures.1)
+put_shown-requires c = let h = c.requires in (h.0.room, h.1, rw c.in_ok-x.was at c.row_of-row.ensures.1)
 
-pub returns-in-Is : goal.returns-in-Is
-returns-in-Is c =
+pub returns : goal.returns
+returns c =
     let x = c.args in
     let S = state_of x.contents.activities x.contents.links x.work.now in
     let e = c.put_shown.ensures in (
-      next_done S x.i _ c.in-Is.x _ c.in-Is.is e.0 ∙ ap (λ (y : Pass Shown). shown_next y (shown_to x.i S) x.i) c.row_of-row.ensures.0,
-      rw e.0 (shown_frame S x.i c.in-Is.x),
+      next_done S x.i _ c.in_ok-x.x _ c.in_ok-x.was e.0 ∙ ap (λ (y : Pass Shown). shown_next y (shown_to x.i S) x.i) c.row_of-row.ensures.0,
+      rw e.0 (shown_frame S x.i c.in_ok-x.x),
       omega arith,
     )
 
-pub returns-in-Refused : goal.returns-in-Refused
-returns-in-Refused c =
-    let x = c.args in
+pub returns-in_err-x : goal.returns-in_err-x
+returns-in_err-x c = rw (handed_on _ _ c.from_residual.ensures.1) (let x = c.args in
     let S = state_of x.contents.activities x.contents.links x.work.now in (
-      next_refused S x.i _ _ S c.in-Refused.is ∙ ap (λ (y : Pass Shown). shown_next y (shown_to x.i S) x.i) c.row_of-row.ensures.0,
+      next_refused S x.i _ _ S c.in_err-x.was ∙ ap (λ (y : Pass Shown). shown_next y (shown_to x.i S) x.i) c.row_of-row.ensures.0,
       frame_refl 20 30 0 0 S,
       omega arith,
-    )
+    ))

@@ -11,6 +11,7 @@ use Rattle.passes.specs.Dates.{through}
 use Rattle.results.specs.Results.{rolled, summaries_at}
 use Rattle.results.specs.View.{shown_in}
 use Rattle.results.proofs.RowLaws.{to_show_kept}
+use Rattle.number.specs.Exits.{handed_on}
 use Rattle.rollup.specs.RollingLaws.{deep_kept, Rising, rising_turn, rising_stop, rising_end}
 use Rattle.rollup.proofs.roll_all.Goals as goal
 
@@ -34,10 +35,9 @@ roll_depth-step-requires c =
     let L = c.loop-d in
     (to_show_kept (omega arith) L.invariant.2.frame L.invariant.1 h.0, deep_kept p S₀ (S L.work) L.invariant.2.frame h.1, omega arith, L.invariant.0, h.2)
 
-pub returns-in-Refused : goal.returns-in-Refused
+pub returns-in_err-step : goal.returns-in_err-step
 unfolding plan_of
-returns-in-Refused c =
-    let x = c.args in
+returns-in_err-step c = rw (handed_on _ _ c.from_residual.ensures.1) (let x = c.args in
     let h = c.requires in
     let p = plan_of x.sheet.now x.contents in
     let S : List ℤ → State = λ ys. state_of x.contents.activities x.contents.links ys in
@@ -48,7 +48,7 @@ returns-in-Refused c =
     let n : L.d ≡ (L.d - 1) + 1 = omega arith in
     let W = subst (Rising p S₀ (S L.work)) n L.invariant.2 in
     let F = frame_then 20 30 0 0 L.invariant.2.frame e.1 in
-    ((λ q. rising_stop p S₀ (S L.work) T (L.d - 1) W _ (λ q. e.0 q ∙ ap (λ (m : ℕ). through (rolled p q) (summaries_at p q m x.contents.activities) (shown_in p (S L.work))) n) _ (shown_in p T) c.in-Refused.is q), F, omega (arith, e.2, L.invariant.1))
+    ((λ q. rising_stop p S₀ (S L.work) T (L.d - 1) W _ (λ q. e.0 q ∙ ap (λ (m : ℕ). through (rolled p q) (summaries_at p q m x.contents.activities) (shown_in p (S L.work))) n) _ (shown_in p T) c.in_err-step.was q), F, omega (arith, e.2, L.invariant.1)))
 
 pub loop-d-preserved : goal.loop-d-preserved
 unfolding plan_of
@@ -64,7 +64,7 @@ loop-d-preserved c =
     let n : L.d ≡ (L.d - 1) + 1 = omega arith in
     let W = subst (Rising p S₀ (S L.work)) n L.invariant.2 in
     let F = frame_then 20 30 0 0 L.invariant.2.frame e.1 in
-    (omega arith, omega (arith, e.2, L.invariant.1), rising_turn p S₀ (S L.work) T (L.d - 1) W _ (λ q. e.0 q ∙ ap (λ (m : ℕ). through (rolled p q) (summaries_at p q m x.contents.activities) (shown_in p (S L.work))) n) c.in-Done.is F)
+    (omega arith, omega (arith, e.2, L.invariant.1), rising_turn p S₀ (S L.work) T (L.d - 1) W _ (λ q. e.0 q ∙ ap (λ (m : ℕ). through (rolled p q) (summaries_at p q m x.contents.activities) (shown_in p (S L.work))) n) c.in_ok-step.was F)
 
 pub returns : goal.returns
 unfolding plan_of

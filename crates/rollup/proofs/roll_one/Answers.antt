@@ -9,6 +9,7 @@ use Rattle.topology.specs.FrameLaws.{frame_refl}
 use Rattle.order.specs.Plan.{plan_of}
 use Rattle.results.specs.View.{shown_in}
 use Rattle.results.proofs.RowLaws.{shown_frame}
+use Rattle.number.specs.Exits.{handed_on}
 use Rattle.rollup.specs.RollingLaws.{one_none, one_done, one_refused}
 use Rattle.rollup.proofs.roll_one.Goals as goal
 
@@ -48,32 +49,31 @@ put_shown-requires c =
     let h = c.requires in
     let p = plan_of x.sheet.now x.contents in
     let S = state_of x.contents.activities x.contents.links x.work.now in
-    (h.0.room, h.2, rw c.in-Is.is at c.summed_of-sum.ensures.1)
+    (h.0.room, h.2, rw c.in_ok-y.was at c.summed_of-sum.ensures.1)
 
-pub returns-in-Is : goal.returns-in-Is
+pub returns : goal.returns
 unfolding plan_of
-returns-in-Is c =
+returns c =
     let x = c.args in
     let h = c.requires in
     let p = plan_of x.sheet.now x.contents in
     let S = state_of x.contents.activities x.contents.links x.work.now in
     let l : S.act first_child x.s < x.contents.activities = omega (arith, c.get_act-first.ensures.0, c.if-first-contents.false) in
-    let y = c.in-Is.y in
+    let y = c.in_ok-y.y in
     let e = c.put_shown.ensures in (
-      (λ q. one_done p S h.1 x.s h.2 l _ _ c.sum_children-x.ensures.0 c.summed_of-sum.ensures.0 y _ c.in-Is.is e.0 q),
+      (λ q. one_done p S h.1 x.s h.2 l _ _ c.sum_children-x.ensures.0 c.summed_of-sum.ensures.0 y _ c.in_ok-y.was e.0 q),
       subst (Frame 20 30 0 0 S) (sym e.0) (shown_frame S x.s y),
       e.1,
     )
 
-pub returns-in-Refused : goal.returns-in-Refused
+pub returns-in_err-y : goal.returns-in_err-y
 unfolding plan_of
-returns-in-Refused c =
-    let x = c.args in
+returns-in_err-y c = rw (handed_on _ _ c.from_residual.ensures.1) (let x = c.args in
     let h = c.requires in
     let p = plan_of x.sheet.now x.contents in
     let S = state_of x.contents.activities x.contents.links x.work.now in
     let l : S.act first_child x.s < x.contents.activities = omega (arith, c.get_act-first.ensures.0, c.if-first-contents.false) in (
-      (λ q. one_refused p S h.1 x.s h.2 l _ _ c.sum_children-x.ensures.0 c.summed_of-sum.ensures.0 _ (shown_in p S) c.in-Refused.is q),
+      (λ q. one_refused p S h.1 x.s h.2 l _ _ c.sum_children-x.ensures.0 c.summed_of-sum.ensures.0 _ (shown_in p S) c.in_err-y.was q),
       frame_refl 20 30 0 0 S,
       refl,
-    )
+    ))

@@ -13,6 +13,7 @@ use Rattle.project.specs.declared.Activity.{Activity}
 use Rattle.order.specs.Plan.{plan_of}
 use Rattle.calendars.specs.CalendarLaws.{calendar_valid, calendar_worked}
 use Rattle.results.specs.Showing.{critical_in}
+use Rattle.number.specs.Exits.{handed_on}
 use Rattle.rollup.specs.RollingLaws.{summed_at, summed_refused}
 use Rattle.rollup.proofs.summed_of.Goals as goal
 
@@ -48,29 +49,28 @@ is_critical-critical-requires c =
     let e : k ≡ (p.activity x.s).calendar = ap (λ (a : Activity). a.calendar) c.activity_of-activity.ensures in
     let n : k ≤ x.contents.calendars = omega (arith, e, h.4) in omega (arith, h.2.is k n, h.2.low k n)
 
-pub returns-in-Minutes : goal.returns-in-Minutes
+pub returns : goal.returns
 unfolding plan_of
-returns-in-Minutes c =
+returns c =
     let x = c.args in
     let h = c.requires in
     let p = plan_of x.sheet.now x.contents in
     let k = c.activity_of-activity.result.calendar in
     let e : k ≡ (p.activity x.s).calendar = ap (λ (a : Activity). a.calendar) c.activity_of-activity.ensures in
     let n : k ≤ x.contents.calendars = omega (arith, e, h.4) in
-    let f : SFits w64 c.in-Minutes.total = record { sfits = search rules } in
+    let f : SFits w64 c.in_ok-total.total = record { sfits = search rules } in
     let g = rw (to_z-of_z f) at c.is_critical-critical.ensures in
     let l = h.2.is k n ∙ ap p.day_length e in (
-      summed_at p x.s x.x c.in-Minutes.total _ _ (sym (c.between.ensures ∙ ap (λ (v : ℕ → Bool). between v x.x.finish x.x.late) (calendar_worked (record { week_is = c.week_of-week.ensures; at_is = c.exceptions_of-e.ensures.0; n_is = c.exceptions_of-e.ensures.1 }) ∙ ap (λ (j : ℕ). worked (p.hours j)) e)) ∙ c.in-Minutes.is) (to_z-of_z f) (g ∙ (λ t. critical_in (h.5 t).critical_by (l t) c.in-Minutes.total x.x.path)),
+      summed_at p x.s x.x c.in_ok-total.total _ _ (sym (c.between.ensures ∙ ap (λ (v : ℕ → Bool). between v x.x.finish x.x.late) (calendar_worked (record { week_is = c.week_of-week.ensures; at_is = c.exceptions_of-e.ensures.0; n_is = c.exceptions_of-e.ensures.1 }) ∙ ap (λ (j : ℕ). worked (p.hours j)) e)) ∙ c.in_ok-total.was) (to_z-of_z f) (g ∙ (λ t. critical_in (h.5 t).critical_by (l t) c.in_ok-total.total x.x.path)),
       record { es = h.6.es; ef = h.6.ef; ls = h.6.ls; lf = h.6.lf; free = omega arith; finish = h.6.finish; late = h.6.late },
     )
 
-pub returns-in-Refused : goal.returns-in-Refused
+pub returns-in_err-total : goal.returns-in_err-total
 unfolding plan_of
-returns-in-Refused c =
-    let x = c.args in
+returns-in_err-total c = rw (handed_on _ _ c.from_residual.ensures.1) (let x = c.args in
     let h = c.requires in
     let p = plan_of x.sheet.now x.contents in
     let k = c.activity_of-activity.result.calendar in
     let e : k ≡ (p.activity x.s).calendar = ap (λ (a : Activity). a.calendar) c.activity_of-activity.ensures in
     let n : k ≤ x.contents.calendars = omega (arith, e, h.4) in
-    (summed_refused p x.s x.x _ (sym (c.between.ensures ∙ ap (λ (v : ℕ → Bool). between v x.x.finish x.x.late) (calendar_worked (record { week_is = c.week_of-week.ensures; at_is = c.exceptions_of-e.ensures.0; n_is = c.exceptions_of-e.ensures.1 }) ∙ ap (λ (j : ℕ). worked (p.hours j)) e)) ∙ c.in-Refused.is), tt)
+    (summed_refused p x.s x.x _ (sym (c.between.ensures ∙ ap (λ (v : ℕ → Bool). between v x.x.finish x.x.late) (calendar_worked (record { week_is = c.week_of-week.ensures; at_is = c.exceptions_of-e.ensures.0; n_is = c.exceptions_of-e.ensures.1 }) ∙ ap (λ (j : ℕ). worked (p.hours j)) e)) ∙ c.in_err-total.was), tt))

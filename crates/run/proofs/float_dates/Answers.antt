@@ -6,19 +6,19 @@ use Rattle.memory.specs.State.{state_of}
 use Rattle.order.specs.Plan.{plan_of}
 use Rattle.topology.specs.FrameLaws.{frame_acts, frame_then}
 use Rattle.dates.specs.KeptLaws.{ready_kept, recorded_kept}
+use Rattle.number.specs.Exits.{handed_on}
 use Rattle.run.specs.RunLaws.{floats_stop, floats_go}
 use Rattle.run.proofs.float_dates.Goals as goal
 
-pub returns-in-Refused : goal.returns-in-Refused
-returns-in-Refused c =
-    let x = c.args in
+pub returns-in_err-free_pass : goal.returns-in_err-free_pass
+returns-in_err-free_pass c = rw (handed_on _ _ c.from_residual.ensures.1) (let x = c.args in
     let call = c.free_pass in
     let a = call.ensures in
     let T = state_of x.contents.activities x.contents.links call.new.work in (
-      λ e. floats_stop (plan_of x.sheet.now x.contents) x.finish (state_of x.contents.activities x.contents.links x.work.now) T T call.result a.0 c.in-Refused.k c.in-Refused.is e,
+      λ e. floats_stop (plan_of x.sheet.now x.contents) x.finish (state_of x.contents.activities x.contents.links x.work.now) T T call.result a.0 c.in_err-free_pass.field-0.0 c.in_err-free_pass.was e,
       frame_acts 12 17 0 0 12 16 (omega arith) (omega arith) a.1,
       a.2,
-    )
+    ))
 
 pub path_pass-requires : goal.path_pass-requires
 path_pass-requires c =
@@ -29,8 +29,8 @@ path_pass-requires c =
       recorded_kept a.1 (plan_of x.sheet.now x.contents) refl refl refl c.requires.1,
     )
 
-pub returns-in-Done : goal.returns-in-Done
-returns-in-Done c =
+pub returns : goal.returns
+returns c =
     let x = c.args in
     let first = c.free_pass in
     let second = c.path_pass in
@@ -39,7 +39,7 @@ returns-in-Done c =
     let S = state_of x.contents.activities x.contents.links x.work.now in
     let T₁ = state_of x.contents.activities x.contents.links first.new.work in
     let T = state_of x.contents.activities x.contents.links second.new.work in (
-      floats_go (plan_of x.sheet.now x.contents) x.finish S T₁ T first.result a.0 b.1 c.in-Done.is second.result b.0,
+      floats_go (plan_of x.sheet.now x.contents) x.finish S T₁ T first.result a.0 b.1 c.in_ok-free_pass.was second.result b.0,
       frame_then 12 17 0 0 (frame_acts 12 17 0 0 12 16 (omega arith) (omega arith) a.1) (frame_acts 12 17 0 0 16 17 (omega arith) (omega arith) b.1),
       b.2 ∙ a.2,
     )

@@ -6,22 +6,22 @@ use Rattle.memory.specs.State.{state_of}
 use Rattle.topology.specs.FrameLaws.{frame_acts, frame_then}
 use Rattle.order.specs.Plan.{plan_of}
 use Rattle.dates.specs.Columns.{early_in}
+use Rattle.number.specs.Exits.{handed_on}
 use Rattle.run.specs.Stages.{LateIn}
 use Rattle.dates.specs.KeptLaws.{ready_kept, recorded_kept}
 use Rattle.run.specs.RunLaws.{run_late, run_floats, run_whole}
 use Rattle.run.proofs.late_and_floats.Goals as goal
 
-pub returns-in-Refused : goal.returns-in-Refused
-returns-in-Refused c =
-    let x = c.args in
+pub returns-in_err-last : goal.returns-in_err-last
+returns-in_err-last c = rw (handed_on _ _ c.from_residual.ensures.1) (let x = c.args in
     let p = plan_of x.sheet.now x.contents in
     let S = state_of x.contents.activities x.contents.links x.work.now in
     let call = c.late_dates in
     let T = state_of x.contents.activities x.contents.links call.new.work in (
-      run_late p S c.requires.2 T T call.result c.in-Refused.k call.ensures.0 c.in-Refused.is,
+      run_late p S c.requires.2 T T call.result c.in_err-last.field-0.0 call.ensures.0 c.in_err-last.was,
       frame_acts 10 17 0 0 10 12 (omega arith) (omega arith) call.ensures.1,
       call.ensures.2,
-    )
+    ))
 
 pub float_dates-requires : goal.float_dates-requires
 float_dates-requires c =
@@ -31,23 +31,22 @@ float_dates-requires c =
       recorded_kept call.ensures.1 (plan_of x.sheet.now x.contents) refl refl refl c.requires.1,
     )
 
-pub returns-in-Refused-float_dates : goal.returns-in-Refused-float_dates
-returns-in-Refused-float_dates c =
-    let x = c.args in
+pub returns-in_err-float_dates : goal.returns-in_err-float_dates
+returns-in_err-float_dates c = rw (handed_on _ _ c.from_residual-in_err-float_dates.ensures.1) (let x = c.args in
     let p = plan_of x.sheet.now x.contents in
     let S = state_of x.contents.activities x.contents.links x.work.now in
     let first = c.late_dates in
     let second = c.float_dates in
     let T₁ = state_of x.contents.activities x.contents.links first.new.work in
     let T = state_of x.contents.activities x.contents.links second.new.work in
-    let l = subst (LateIn p (early_in p S) T₁) c.in-By.is first.ensures.0 in (
-      run_floats p S c.requires.2 T₁ T c.in-By.last first.ensures.1 second.ensures.1 l c.greatest_finish-finish.result c.greatest_finish-finish.ensures.0 second.result second.ensures.0 c.in-Refused-float_dates.k c.in-Refused-float_dates.is,
+    let l = subst (LateIn p (early_in p S) T₁) c.in_ok-last.was first.ensures.0 in (
+      run_floats p S c.requires.2 T₁ T c.in_ok-last.last first.ensures.1 second.ensures.1 l c.greatest_finish-finish.result c.greatest_finish-finish.ensures.0 second.result second.ensures.0 c.in_err-float_dates.field-0.0 c.in_err-float_dates.was,
       frame_then 10 17 0 0 (frame_acts 10 17 0 0 10 12 (omega arith) (omega arith) first.ensures.1) (frame_acts 10 17 0 0 12 17 (omega arith) (omega arith) second.ensures.1),
       second.ensures.2 ∙ first.ensures.2,
-    )
+    ))
 
-pub returns-in-Done : goal.returns-in-Done
-returns-in-Done c =
+pub returns : goal.returns
+returns c =
     let x = c.args in
     let p = plan_of x.sheet.now x.contents in
     let S = state_of x.contents.activities x.contents.links x.work.now in
@@ -55,8 +54,8 @@ returns-in-Done c =
     let second = c.float_dates in
     let T₁ = state_of x.contents.activities x.contents.links first.new.work in
     let T = state_of x.contents.activities x.contents.links second.new.work in
-    let l = subst (LateIn p (early_in p S) T₁) c.in-By.is first.ensures.0 in (
-      run_whole p S c.requires.2 T₁ T c.in-By.last first.ensures.1 second.ensures.1 l c.greatest_finish-finish.result c.greatest_finish-finish.ensures.0 second.result second.ensures.0 c.in-Done.is,
+    let l = subst (LateIn p (early_in p S) T₁) c.in_ok-last.was first.ensures.0 in (
+      run_whole p S c.requires.2 T₁ T c.in_ok-last.last first.ensures.1 second.ensures.1 l c.greatest_finish-finish.result c.greatest_finish-finish.ensures.0 second.result second.ensures.0 c.in_ok-float_dates.was,
       frame_then 10 17 0 0 (frame_acts 10 17 0 0 10 12 (omega arith) (omega arith) first.ensures.1) (frame_acts 10 17 0 0 12 17 (omega arith) (omega arith) second.ensures.1),
       second.ensures.2 ∙ first.ensures.2,
     )

@@ -5,43 +5,42 @@ use Rattle.memory.specs.State.{state_of}
 use Rattle.topology.specs.FrameLaws.{frame_refl}
 use Rattle.order.specs.Plan.{plan_of}
 use Rattle.dates.specs.Columns.{early_in}
+use Rattle.number.specs.Exits.{handed_on}
 use Rattle.run.specs.RunLaws.{late_ends, late_stops, late_goes}
 use Rattle.run.proofs.late_dates.Goals as goal
 
-pub returns-in-Refused : goal.returns-in-Refused
-returns-in-Refused c =
-    let x = c.args in
+pub returns-in_err-last : goal.returns-in_err-last
+returns-in_err-last c = rw (handed_on _ _ c.from_residual.ensures.1) (let x = c.args in
     let p = plan_of x.sheet.now x.contents in
     let S = state_of x.contents.activities x.contents.links x.work.now in (
-      late_ends p S S c.in-Refused.k (sym (c.end_of.ensures.0 (early_in p S) c.requires.2) ∙ c.in-Refused.is),
+      late_ends p S S c.in_err-last.field-0.0 (sym (c.end_of.ensures.0 (early_in p S) c.requires.2) ∙ c.in_err-last.was),
       frame_refl 10 12 0 0 S,
       refl,
-    )
+    ))
 
 pub backward_pass-requires : goal.backward_pass-requires
 backward_pass-requires c =
-    (c.requires.0, c.requires.1, c.end_of.ensures.1 c.in-At.last c.in-At.is)
+    (c.requires.0, c.requires.1, c.end_of.ensures.1 c.in_ok-last.last c.in_ok-last.was)
 
-pub returns-in-Refused-backward_pass : goal.returns-in-Refused-backward_pass
-returns-in-Refused-backward_pass c =
-    let x = c.args in
+pub returns-in_err-backward_pass : goal.returns-in_err-backward_pass
+returns-in_err-backward_pass c = rw (handed_on _ _ c.from_residual-in_err-backward_pass.ensures.1) (let x = c.args in
     let p = plan_of x.sheet.now x.contents in
     let S = state_of x.contents.activities x.contents.links x.work.now in
     let call = c.backward_pass in
     let T = state_of x.contents.activities x.contents.links call.new.work in (
-      late_stops p S T c.in-At.last (sym (c.end_of.ensures.0 (early_in p S) c.requires.2) ∙ c.in-At.is) call.result call.ensures.0 c.in-Refused-backward_pass.k c.in-Refused-backward_pass.is,
+      late_stops p S T c.in_ok-last.last (sym (c.end_of.ensures.0 (early_in p S) c.requires.2) ∙ c.in_ok-last.was) call.result call.ensures.0 c.in_err-backward_pass.field-0.0 c.in_err-backward_pass.was,
       call.ensures.1,
       call.ensures.2,
-    )
+    ))
 
-pub returns-in-Done : goal.returns-in-Done
-returns-in-Done c =
+pub returns : goal.returns
+returns c =
     let x = c.args in
     let p = plan_of x.sheet.now x.contents in
     let S = state_of x.contents.activities x.contents.links x.work.now in
     let call = c.backward_pass in
     let T = state_of x.contents.activities x.contents.links call.new.work in (
-      late_goes p S T c.in-At.last (sym (c.end_of.ensures.0 (early_in p S) c.requires.2) ∙ c.in-At.is) call.result call.ensures.0 c.in-Done.is,
+      late_goes p S T c.in_ok-last.last (sym (c.end_of.ensures.0 (early_in p S) c.requires.2) ∙ c.in_ok-last.was) call.result call.ensures.0 c.in_ok-backward_pass.was,
       call.ensures.1,
       call.ensures.2,
     )

@@ -1,36 +1,38 @@
 -- `late::limits::limit` meets its contract. Each way out has its law.
+use Rattle.std.specs.Prelude.{Ok}
 use borrow.Author.Rules.{rules}
 use mathlib.Core.Path.{sym, ap, ◌∙◌}
 use Prim.Native.Nat.{ℕ}
 use Rattle.placing.specs.Placing.{bounded, constraint_time}
 use Rattle.project.specs.Status.{on_start}
+use Rattle.number.specs.Exits.{handed_on}
 use Rattle.late.specs.LimitLaws.{limited_at, limited_beyond, limited_nowhere, limited_refused}
 use Rattle.late.proofs.limits.limit.Goals as goal
 
-pub returns-in-At-bounded : goal.returns-in-At-bounded
-returns-in-At-bounded c =
+pub returns-in_ok-b-in-Some : goal.returns-in_ok-b-in-Some
+returns-in_ok-b-in-Some c =
     λ p d l i O.
     let x = c.args in
-    let e = (λ z. constraint_time (sym O.works z) (on_start x.constraint)) ∙ sym c.constraint_time.ensures ∙ c.in-At.is in
-    let f = ap (λ (o : ℕ). bounded o c.in-At.t) (sym O.origin_is) ∙ sym c.bounded.ensures ∙ c.in-At-bounded.is in
+    let e = (λ z. constraint_time (sym O.works z) (on_start x.constraint)) ∙ sym c.constraint_time.ensures ∙ (c.in_ok-t.was ∙ ap Ok c.in-Some.is) in
+    let f = ap (λ (o : ℕ). bounded o c.in-Some.t) (sym O.origin_is) ∙ sym c.bounded.ensures ∙ c.in_ok-b-in-Some.was in
     c.limit_at.ensures p d l i O ∙ sym (limited_at p d l i x.constraint x.latest _ _ e f)
 
-pub returns-in-Refused-bounded : goal.returns-in-Refused-bounded
-returns-in-Refused-bounded c =
-    λ p d l i O.
+pub returns-in_err-b-in-Some : goal.returns-in_err-b-in-Some
+returns-in_err-b-in-Some c = rw (handed_on _ _ c.from_residual-in_err-b-in-Some.ensures.1) (λ p d l i O.
     let x = c.args in
-    let e = (λ z. constraint_time (sym O.works z) (on_start x.constraint)) ∙ sym c.constraint_time.ensures ∙ c.in-At.is in
-    let f = ap (λ (o : ℕ). bounded o c.in-At.t) (sym O.origin_is) ∙ sym c.bounded.ensures ∙ c.in-Refused-bounded.is in
-    sym (limited_beyond p d l i x.constraint x.latest _ _ e f)
+    let e = (λ z. constraint_time (sym O.works z) (on_start x.constraint)) ∙ sym c.constraint_time.ensures ∙ (c.in_ok-t.was ∙ ap Ok c.in-Some.is) in
+    let f = ap (λ (o : ℕ). bounded o c.in-Some.t) (sym O.origin_is) ∙ sym c.bounded.ensures ∙ c.in_err-b-in-Some.was in
+    sym (limited_beyond p d l i x.constraint x.latest _ _ e f))
 
-pub returns-in-Nowhere : goal.returns-in-Nowhere
-returns-in-Nowhere c =
+pub returns-in-None : goal.returns-in-None
+returns-in-None c =
     λ p d l i O.
     let x = c.args in
-    sym (limited_nowhere p d l i x.constraint x.latest ((λ z. constraint_time (sym O.works z) (on_start x.constraint)) ∙ sym c.constraint_time.ensures ∙ c.in-Nowhere.is))
+    sym (limited_nowhere p d l i x.constraint x.latest ((λ z. constraint_time (sym O.works z) (on_start x.constraint)) ∙ sym c.constraint_time.ensures ∙ (c.in_ok-t.was ∙ ap Ok c.in-None.is)))
 
-pub returns-in-Refused : goal.returns-in-Refused
-returns-in-Refused c =
-    λ p d l i O.
+pub returns-in_err-t : goal.returns-in_err-t
+returns-in_err-t c =
+    rw (handed_on _ _ c.from_residual.ensures.1)
+    (λ p d l i O.
     let x = c.args in
-    sym (limited_refused p d l i x.constraint x.latest _ ((λ z. constraint_time (sym O.works z) (on_start x.constraint)) ∙ sym c.constraint_time.ensures ∙ c.in-Refused.is))
+    sym (limited_refused p d l i x.constraint x.latest _ ((λ z. constraint_time (sym O.works z) (on_start x.constraint)) ∙ sym c.constraint_time.ensures ∙ c.in_err-t.was)))

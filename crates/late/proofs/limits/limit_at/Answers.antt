@@ -1,10 +1,10 @@
 -- `late::limits::limit_at` meets its contract, by the constraint.
+use Rattle.std.specs.Prelude.{Ok, Err}
 use borrow.Author.Rules.{rules}
 use mathlib.Core.Path.{sym, ap, ◌∙◌}
 use Prim.Native.Nat.{min}
 use Rattle.passes.specs.Backward.{at_late}
 use Rattle.placing.specs.Placing.{via, finish_for_start_by}
-use Rattle.worktime.specs.declared.Walk.TheVariants.{At, Refused}
 use Rattle.project.specs.declared.Constraint.{Constraint}
 use Rattle.late.proofs.limits.limit_at.Goals as goal
 
@@ -18,22 +18,22 @@ pub returns-in-StartOnOrBefore : goal.returns-in-StartOnOrBefore
 returns-in-StartOnOrBefore c =
     λ p d l i O.
     let x = c.args in
-    c.start_limit.ensures ∙ (λ z. via Refused (finish_for_start_by (O.works z) (O.left_is z) x.t) (λ f. At (min x.latest f))) ∙ sym (ap (λ (k : Constraint). at_late p d l i k x.t x.latest) c.in-StartOnOrBefore.is)
+    c.start_limit.ensures ∙ (λ z. via Err (finish_for_start_by (O.works z) (O.left_is z) x.t) (λ f. Ok (min x.latest f))) ∙ sym (ap (λ (k : Constraint). at_late p d l i k x.t x.latest) c.in-StartOnOrBefore.is)
 
 pub returns-in-FinishOnOrAfter : goal.returns-in-FinishOnOrAfter
 returns-in-FinishOnOrAfter c = λ p d l i O. let x = c.args in sym (ap (λ (k : Constraint). at_late p d l i k x.t x.latest) c.in-FinishOnOrAfter.is)
 
 pub returns-in-FinishOnOrBefore : goal.returns-in-FinishOnOrBefore
-returns-in-FinishOnOrBefore c = λ p d l i O. let x = c.args in ap At c.earlier.ensures ∙ sym (ap (λ (k : Constraint). at_late p d l i k x.t x.latest) c.in-FinishOnOrBefore.is)
+returns-in-FinishOnOrBefore c = λ p d l i O. let x = c.args in ap Ok c.earlier.ensures ∙ sym (ap (λ (k : Constraint). at_late p d l i k x.t x.latest) c.in-FinishOnOrBefore.is)
 
 pub returns-in-StartOn : goal.returns-in-StartOn
 returns-in-StartOn c =
     λ p d l i O.
     let x = c.args in
-    c.start_limit-in-StartOn.ensures ∙ (λ z. via Refused (finish_for_start_by (O.works z) (O.left_is z) x.t) (λ f. At (min x.latest f))) ∙ sym (ap (λ (k : Constraint). at_late p d l i k x.t x.latest) c.in-StartOn.is)
+    c.start_limit-in-StartOn.ensures ∙ (λ z. via Err (finish_for_start_by (O.works z) (O.left_is z) x.t) (λ f. Ok (min x.latest f))) ∙ sym (ap (λ (k : Constraint). at_late p d l i k x.t x.latest) c.in-StartOn.is)
 
 pub returns-in-FinishOn : goal.returns-in-FinishOn
-returns-in-FinishOn c = λ p d l i O. let x = c.args in ap At c.earlier-in-FinishOn.ensures ∙ sym (ap (λ (k : Constraint). at_late p d l i k x.t x.latest) c.in-FinishOn.is)
+returns-in-FinishOn c = λ p d l i O. let x = c.args in ap Ok c.earlier-in-FinishOn.ensures ∙ sym (ap (λ (k : Constraint). at_late p d l i k x.t x.latest) c.in-FinishOn.is)
 
 pub returns-in-MandatoryStart : goal.returns-in-MandatoryStart
 returns-in-MandatoryStart c =

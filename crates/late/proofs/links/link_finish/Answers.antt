@@ -14,6 +14,7 @@ use Rattle.passes.specs.Plan.{own}
 use Rattle.order.specs.Plan.{plan_of}
 use Rattle.memory.specs.State.{state_of}
 use Rattle.number.specs.Zed.{up, dn}
+use Rattle.number.specs.Exits.{handed_on}
 use Rattle.late.specs.StandLaws.{times_are, over_are, by_are}
 use Rattle.late.specs.LinkLaws.{link_times_refused, link_lag_refused, link_finish_refused, link_at}
 use Rattle.late.specs.UnfinishedLaws.{own_bounded, own_by}
@@ -33,8 +34,8 @@ over_lag-requires c =
     let h : up τ.lag + dn τ.lag < 2 ^ 63 = omega (arith, lag_in R _ c.requires.1 _ c.tie_at-tie.ensures) in
     (R.read, R.located, rw (to_z-of_z {w = w64} {z = τ.lag} (record { sfits = search rules })) h)
 
-pub returns-in-At-finish_by : goal.returns-in-At-finish_by
-returns-in-At-finish_by c =
+pub returns : goal.returns
+returns c =
     λ i last O.
     let R = c.requires.0 in
     let p = plan_of c.args.sheet.now c.args.contents in
@@ -43,15 +44,14 @@ returns-in-At-finish_by c =
     let m = late_in p S last in
     let τ = c.tie_at-tie.result in
     let e = c.tie_at-tie.ensures in
-    let A = times_are R _ c.requires.1 τ e last ∙ sym c.successor_times.ensures ∙ c.in-Dates.is in
+    let A = times_are R _ c.requires.1 τ e last ∙ sym c.successor_times.ensures ∙ c.in_ok-times.was in
     let F = to_z-of_z {w = w64} {z = τ.lag} (record { sfits = search rules }) in
-    let B = over_are R _ c.requires.1 τ e d m _ _ ∙ ap (λ (x : ℕ). over_lag p d m (as_tie τ) x) (sym c.target-x.ensures) ∙ sym (c.over_lag.ensures d m (as_tie τ) refl (sym F)) ∙ c.in-At.is in
-    let C = by_are R _ c.requires.1 τ e (own p i) (d.left i) c.in-At.v ∙ own_by O τ.kind c.in-At.v ∙ sym c.finish_by.ensures ∙ c.in-At-finish_by.is in
+    let B = over_are R _ c.requires.1 τ e d m _ _ ∙ ap (λ (x : ℕ). over_lag p d m (as_tie τ) x) (sym c.target-x.ensures) ∙ sym (c.over_lag.ensures d m (as_tie τ) refl (sym F)) ∙ c.in_ok-v.was in
+    let C = by_are R _ c.requires.1 τ e (own p i) (d.left i) c.in_ok-v.v ∙ own_by O τ.kind c.in_ok-v.v ∙ sym c.finish_by.ensures ∙ c.in_ok-f.was in
     c.bounded.ensures ∙ sym (own_bounded O _) ∙ sym (link_at p d m i c.args.k _ _ A _ B _ C)
 
-pub returns-in-Refused-finish_by : goal.returns-in-Refused-finish_by
-returns-in-Refused-finish_by c =
-    λ i last O.
+pub returns-in_err-f : goal.returns-in_err-f
+returns-in_err-f c = rw (handed_on _ _ c.from_residual-in_err-f.ensures.1) (λ i last O.
     let R = c.requires.0 in
     let p = plan_of c.args.sheet.now c.args.contents in
     let S = state_of c.args.contents.activities c.args.contents.links c.args.work.now in
@@ -59,15 +59,14 @@ returns-in-Refused-finish_by c =
     let m = late_in p S last in
     let τ = c.tie_at-tie.result in
     let e = c.tie_at-tie.ensures in
-    let A = times_are R _ c.requires.1 τ e last ∙ sym c.successor_times.ensures ∙ c.in-Dates.is in
+    let A = times_are R _ c.requires.1 τ e last ∙ sym c.successor_times.ensures ∙ c.in_ok-times.was in
     let F = to_z-of_z {w = w64} {z = τ.lag} (record { sfits = search rules }) in
-    let B = over_are R _ c.requires.1 τ e d m _ _ ∙ ap (λ (x : ℕ). over_lag p d m (as_tie τ) x) (sym c.target-x.ensures) ∙ sym (c.over_lag.ensures d m (as_tie τ) refl (sym F)) ∙ c.in-At.is in
-    let C = by_are R _ c.requires.1 τ e (own p i) (d.left i) c.in-At.v ∙ own_by O τ.kind c.in-At.v ∙ sym c.finish_by.ensures ∙ c.in-Refused-finish_by.is in
-    sym (link_finish_refused p d m i c.args.k _ _ A _ B _ C)
+    let B = over_are R _ c.requires.1 τ e d m _ _ ∙ ap (λ (x : ℕ). over_lag p d m (as_tie τ) x) (sym c.target-x.ensures) ∙ sym (c.over_lag.ensures d m (as_tie τ) refl (sym F)) ∙ c.in_ok-v.was in
+    let C = by_are R _ c.requires.1 τ e (own p i) (d.left i) c.in_ok-v.v ∙ own_by O τ.kind c.in_ok-v.v ∙ sym c.finish_by.ensures ∙ c.in_err-f.was in
+    sym (link_finish_refused p d m i c.args.k _ _ A _ B _ C))
 
-pub returns-in-Refused-over_lag : goal.returns-in-Refused-over_lag
-returns-in-Refused-over_lag c =
-    λ i last O.
+pub returns-in_err-v : goal.returns-in_err-v
+returns-in_err-v c = rw (handed_on _ _ c.from_residual-in_err-v.ensures.1) (λ i last O.
     let R = c.requires.0 in
     let p = plan_of c.args.sheet.now c.args.contents in
     let S = state_of c.args.contents.activities c.args.contents.links c.args.work.now in
@@ -75,14 +74,13 @@ returns-in-Refused-over_lag c =
     let m = late_in p S last in
     let τ = c.tie_at-tie.result in
     let e = c.tie_at-tie.ensures in
-    let A = times_are R _ c.requires.1 τ e last ∙ sym c.successor_times.ensures ∙ c.in-Dates.is in
+    let A = times_are R _ c.requires.1 τ e last ∙ sym c.successor_times.ensures ∙ c.in_ok-times.was in
     let F = to_z-of_z {w = w64} {z = τ.lag} (record { sfits = search rules }) in
-    let B = over_are R _ c.requires.1 τ e d m _ _ ∙ ap (λ (x : ℕ). over_lag p d m (as_tie τ) x) (sym c.target-x.ensures) ∙ sym (c.over_lag.ensures d m (as_tie τ) refl (sym F)) ∙ c.in-Refused-over_lag.is in
-    sym (link_lag_refused p d m i c.args.k _ _ A _ B)
+    let B = over_are R _ c.requires.1 τ e d m _ _ ∙ ap (λ (x : ℕ). over_lag p d m (as_tie τ) x) (sym c.target-x.ensures) ∙ sym (c.over_lag.ensures d m (as_tie τ) refl (sym F)) ∙ c.in_err-v.was in
+    sym (link_lag_refused p d m i c.args.k _ _ A _ B))
 
-pub returns-in-Refused : goal.returns-in-Refused
-returns-in-Refused c =
-    λ i last O.
+pub returns-in_err-times : goal.returns-in_err-times
+returns-in_err-times c = rw (handed_on _ _ c.from_residual.ensures.1) (λ i last O.
     let R = c.requires.0 in
     let p = plan_of c.args.sheet.now c.args.contents in
     let S = state_of c.args.contents.activities c.args.contents.links c.args.work.now in
@@ -90,5 +88,5 @@ returns-in-Refused c =
     let m = late_in p S last in
     let τ = c.tie_at-tie.result in
     let e = c.tie_at-tie.ensures in
-    let A = times_are R _ c.requires.1 τ e last ∙ sym c.successor_times.ensures ∙ c.in-Refused.is in
-    sym (link_times_refused p d m i c.args.k _ A)
+    let A = times_are R _ c.requires.1 τ e last ∙ sym c.successor_times.ensures ∙ c.in_err-times.was in
+    sym (link_times_refused p d m i c.args.k _ A))

@@ -6,6 +6,7 @@ use Prim.Native.Nat.{◌-◌}
 use native.Mathlib.Omega.{arith}
 use Rattle.bounds.specs.ReadyLaws.{kept_within}
 use Rattle.dates.specs.Standing.{Ready}
+use Rattle.number.specs.Exits.{handed_on}
 use Rattle.late.specs.StandLaws.{Lowering, lowering_start, lowering_next, lowering_on, lowering_stop, lowering_end}
 use Rattle.late.proofs.links.lower.Goals as goal
 
@@ -18,9 +19,8 @@ loop-k-init c = λ R. lowering_start R _ _ _ c.requires.1 c.get_act-k.ensures.0
 pub link_finish-requires : goal.link_finish-requires
 link_finish-requires c = (c.requires.0, c.loop-k-test.true, c.requires.2, c.requires.4)
 
-pub returns-in-Refused : goal.returns-in-Refused
-returns-in-Refused c =
-    lowering_stop c.requires.0 c.args.i c.args.last (c.loop-k.invariant c.requires.0) _ c.loop-k-test.true (sym (c.link_finish.ensures c.args.i c.args.last c.requires.3) ∙ c.in-Refused.is)
+pub returns-in_err-f : goal.returns-in_err-f
+returns-in_err-f c = rw (handed_on _ _ c.from_residual.ensures.1) (lowering_stop c.requires.0 c.args.i c.args.last (c.loop-k.invariant c.requires.0) _ c.loop-k-test.true (sym (c.link_finish.ensures c.args.i c.args.last c.requires.3) ∙ c.in_err-f.was))
 
 pub get_link-k-requires : goal.get_link-k-requires
 get_link-k-requires c = (c.requires.0.room, omega (arith, kept_within c.requires.0, c.loop-k-test.true), omega arith)
@@ -33,7 +33,7 @@ loop-k-smaller c =
 pub loop-k-preserved : goal.loop-k-preserved
 loop-k-preserved c =
     λ R.
-    lowering_next R c.args.i c.args.last (c.loop-k.invariant R) _ _ _ c.loop-k-test.true (sym (c.link_finish.ensures c.args.i c.args.last c.requires.3) ∙ c.in-At.is) c.earlier-latest.ensures
+    lowering_next R c.args.i c.args.last (c.loop-k.invariant R) _ _ _ c.loop-k-test.true (sym (c.link_finish.ensures c.args.i c.args.last c.requires.3) ∙ c.in_ok-f.was) c.earlier-latest.ensures
     c.get_link-k.ensures.0
 
 pub returns : goal.returns

@@ -13,6 +13,7 @@ use Rattle.calendars.specs.CalendarLaws.{calendar_valid, calendar_worked}
 use Rattle.order.specs.Plan.{plan_of}
 use Rattle.worktime.specs.Walks.{next_start, shift}
 use Rattle.calendar.specs.Hours.{worked}
+use Rattle.number.specs.Exits.{handed_on}
 use Rattle.late.specs.LinkLaws.{negated_back, none_is, over_none, over_refused, over_at}
 use Rattle.late.proofs.links.over_lag.Goals as goal
 
@@ -34,23 +35,22 @@ shift-requires c =
 pub next_start-requires : goal.next_start-requires
 next_start-requires c = calendar_valid (record { week_is = c.week_of-week.ensures; at_is = c.exceptions_of-e.ensures.0; n_is = c.exceptions_of-e.ensures.1 }) c.requires.0
 
-pub returns-in-At : goal.returns-in-At
-returns-in-At c =
+pub returns : goal.returns
+returns c =
     λ d l t e f.
     let p = plan_of c.args.sheet.now c.args.contents in
     let E = c.exceptions_of-e.ensures in
     let w = calendar_worked (record { week_is = c.week_of-week.ensures; at_is = E.0; n_is = E.1 }) ∙ ap (λ (j : ℕ). worked (p.hours j)) (sym e) in
     let m = ap neg_ℤ f ∙ sym (negated_back c.args.lag c.ranges.lag (omega (arith, c.requires.2)) _ c.negate-back.ensures) in
-    c.next_start.ensures ∙ (λ z. next_start (w z) c.in-At.v)
+    c.next_start.ensures ∙ (λ z. next_start (w z) c.in_ok-v.v)
     ∙ sym
-    (over_at p d l t c.args.x _ ((λ z. shift (sym w z) c.args.x (m z)) ∙ sym c.shift.ensures ∙ c.in-At.is)
+    (over_at p d l t c.args.x _ ((λ z. shift (sym w z) c.args.x (m z)) ∙ sym c.shift.ensures ∙ c.in_ok-v.was)
     (λ h. c.if-lag-eq0.false (ap (of_z w64) (sym f ∙ none_is t.lag h))))
 
-pub returns-in-Refused : goal.returns-in-Refused
-returns-in-Refused c =
-    λ d l t e f.
+pub returns-in_err-v : goal.returns-in_err-v
+returns-in_err-v c = rw (handed_on _ _ c.from_residual.ensures.1) (λ d l t e f.
     let p = plan_of c.args.sheet.now c.args.contents in
     let E = c.exceptions_of-e.ensures in
     let w = calendar_worked (record { week_is = c.week_of-week.ensures; at_is = E.0; n_is = E.1 }) ∙ ap (λ (j : ℕ). worked (p.hours j)) (sym e) in
     let m = ap neg_ℤ f ∙ sym (negated_back c.args.lag c.ranges.lag (omega (arith, c.requires.2)) _ c.negate-back.ensures) in
-    sym (over_refused p d l t c.args.x _ ((λ z. shift (sym w z) c.args.x (m z)) ∙ sym c.shift.ensures ∙ c.in-Refused.is))
+    sym (over_refused p d l t c.args.x _ ((λ z. shift (sym w z) c.args.x (m z)) ∙ sym c.shift.ensures ∙ c.in_err-v.was)))

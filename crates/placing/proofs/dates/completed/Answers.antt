@@ -7,20 +7,20 @@ use Rattle.placing.proofs.dates.completed.Goals as goal
 pub returns-then-f-s : goal.returns-then-f-s
 returns-then-f-s c =
     sym
-    (actual_raised _ _ _ _ _ (ap (next_start _) (sym c.midnight.ensures.0) ∙ sym c.next_start.ensures ∙ c.in-At.is)
-    (sym c.finish_by_day.ensures ∙ c.in-At-finish_by_day.is) c.if-f-s.true)
+    (actual_raised _ _ _ _ _ (ap (next_start _) (sym c.midnight.ensures.0) ∙ sym c.next_start.ensures ∙ c.in-Ok.is)
+    (sym c.finish_by_day.ensures ∙ c.in-Ok-finish_by_day.is) c.if-f-s.true)
 
 pub returns-else-f-s : goal.returns-else-f-s
 returns-else-f-s c =
     sym
-    (actual_finished _ _ _ _ _ (ap (next_start _) (sym c.midnight.ensures.0) ∙ sym c.next_start.ensures ∙ c.in-At.is)
-    (sym c.finish_by_day.ensures ∙ c.in-At-finish_by_day.is) c.if-f-s.false)
+    (actual_finished _ _ _ _ _ (ap (next_start _) (sym c.midnight.ensures.0) ∙ sym c.next_start.ensures ∙ c.in-Ok.is)
+    (sym c.finish_by_day.ensures ∙ c.in-Ok-finish_by_day.is) c.if-f-s.false)
 
-pub returns-in-Refused-finish_by_day : goal.returns-in-Refused-finish_by_day
-returns-in-Refused-finish_by_day c =
+pub returns-in-Err-finish_by_day : goal.returns-in-Err-finish_by_day
+returns-in-Err-finish_by_day c =
     sym
-    (actual_finish_refuses _ _ _ _ _ (ap (next_start _) (sym c.midnight.ensures.0) ∙ sym c.next_start.ensures ∙ c.in-At.is)
-    (sym c.finish_by_day.ensures ∙ c.in-Refused-finish_by_day.is))
+    (actual_finish_refuses _ _ _ _ _ (ap (next_start _) (sym c.midnight.ensures.0) ∙ sym c.next_start.ensures ∙ c.in-Ok.is)
+    (sym c.finish_by_day.ensures ∙ c.in-Err-finish_by_day.is))
 
-pub returns-in-Refused : goal.returns-in-Refused
-returns-in-Refused c = sym (actual_start_refuses _ _ _ _ (ap (next_start _) (sym c.midnight.ensures.0) ∙ sym c.next_start.ensures ∙ c.in-Refused.is))
+pub returns-in-Err : goal.returns-in-Err
+returns-in-Err c = sym (actual_start_refuses _ _ _ _ (ap (next_start _) (sym c.midnight.ensures.0) ∙ sym c.next_start.ensures ∙ c.in-Err.is))

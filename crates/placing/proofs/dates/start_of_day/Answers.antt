@@ -1,11 +1,11 @@
 -- `placing::dates::start_of_day` meets its contract. The day's first worked minute is the least of the 1440 from its midnight on.
+use Rattle.std.specs.Prelude.{Ok, Err}
 use mathlib.Core.Path.{◌≡◌, sym, ap, ◌∙◌}
 use native.Mathlib.Omega.{arith}
 use Prim.Native.Nat.{ℕ, ◌+◌, ◌*◌, ◌/◌}
 use Rattle.calendar.specs.Hours.{worked}
 use Rattle.calendar.specs.Records.{hours_on}
 use Rattle.date.specs.Years.{in_years, years_in}
-use Rattle.worktime.specs.declared.Walk.TheVariants.{At, Refused}
 use Rattle.worktime.specs.Reads.{reads_in, reads_out}
 use Rattle.clock.specs.Days.{hand_next}
 use Rattle.placing.specs.Placing.{day_start}
@@ -37,8 +37,8 @@ returns-in-At c =
     let f = day_start_found h (t / 1440) o _ (hand_next h (t / 1440) o _ c.periods_on-hours.ensures.0 0 _ _ c.day_next.ensures c.in-At.is) in
     let g : day_start (worked h) t ≡ t + c.in-At.m = rw q at f.0 in
     sym
-    (reads_in Refused _ _ (ap (λ (x : ℕ). in_years (x / 1440)) (sym e) ∙ sym c.in_years.ensures ∙ c.if-in_years.true)
-    ∙ ap At (ap (day_start (worked h)) (sym e) ∙ g))
+    (reads_in Err _ _ (ap (λ (x : ℕ). in_years (x / 1440)) (sym e) ∙ sym c.in_years.ensures ∙ c.if-in_years.true)
+    ∙ ap Ok (ap (day_start (worked h)) (sym e) ∙ g))
 
 pub returns-in-Nothing : goal.returns-in-Nothing
 returns-in-Nothing c =
@@ -51,10 +51,10 @@ returns-in-Nothing c =
     let f = day_start_free h (t / 1440) o (hand_next h (t / 1440) o _ c.periods_on-hours.ensures.0 0 _ _ c.day_next.ensures c.in-Nothing.is) in
     let g : day_start (worked h) t ≡ t = rw q at f in
     sym
-    (reads_in Refused _ _ (ap (λ (x : ℕ). in_years (x / 1440)) (sym e) ∙ sym c.in_years.ensures ∙ c.if-in_years.true)
-    ∙ ap At (ap (day_start (worked h)) (sym e) ∙ g))
+    (reads_in Err _ _ (ap (λ (x : ℕ). in_years (x / 1440)) (sym e) ∙ sym c.in_years.ensures ∙ c.if-in_years.true)
+    ∙ ap Ok (ap (day_start (worked h)) (sym e) ∙ g))
 
 pub returns : goal.returns
 returns c =
     let e = c.midnight-t.ensures.0 in
-    sym (reads_out Refused _ _ (ap (λ (x : ℕ). in_years (x / 1440)) (sym e) ∙ sym c.in_years.ensures ∙ c.if-in_years.false))
+    sym (reads_out Err _ _ (ap (λ (x : ℕ). in_years (x / 1440)) (sym e) ∙ sym c.in_years.ensures ∙ c.if-in_years.false))

@@ -1,8 +1,8 @@
 -- `project::fields::read_optional_date` meets its contract.
+use Rattle.std.specs.Prelude.{Some}
 use borrow.Author.Rules.{rules}
 use borrow.Author.Tests.{ne_eqb}
 use mathlib.Core.Path.{sym, ap, ◌∙◌}
-use Rattle.project.specs.declared.OptionalDate.TheVariants.{On}
 use Rattle.project.specs.Records.{optional_date_at}
 use Rattle.project.proofs.fields.read_optional_date.Goals as goal
 
@@ -14,4 +14,4 @@ pub returns : goal.returns
 unfolding optional_date_at
 returns c =
     rw (sym c.read_biased-day.ensures.0, ne_eqb c.read_biased-day.result 0 c.if-day-eq0.false)
-    (ap On c.read_date.ensures)
+    (ap Some c.read_date.ensures)
