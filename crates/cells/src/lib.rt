@@ -1,4 +1,5 @@
 // Lent memory: cells of a slice of i64, each read and written as a natural number or as itself.
+// The two ways are functions of their own, here and in `memory`: their contracts cite different definitions, and a type parameter for the way would have to be named at each call.
 #![tactic(auto)]
 
 ghost use Rattle.std.specs.Prelude.{◌≡◌, ℕ, ◌+◌, ◌^◌, ◌≤◌, ◌<◌, pos, length, replicate};
@@ -15,10 +16,7 @@ pub fn get(work: &[i64], at: usize) -> u64
 pub fn get_signed(work: &[i64], at: usize) -> i64
     ensures { result ≡ cell_z work.now at }
 {
-    if at < work.len() {
-        return work[at];
-    }
-    0
+    work.get(at).copied().unwrap_or(0)
 }
 
 // Puts `v` into the cell `at`.
@@ -42,31 +40,19 @@ pub fn fill(work: &mut [i64], base: usize, n: usize, v: u64)
     requires { (base + n ≤ length work.old) × (v < 2 ^ 63) }
     ensures { work.new ≡ filled work.old base v n }
 {
-    let mut i: usize = 0;
-    while i < n {
-        put(work, base + i, v);
-        i += 1;
-    }
+    work[base..base + n].fill(v as i64);
 }
 
 // Every cell is 0.
 pub fn clear(work: &mut [i64])
     ensures { work.new ≡ replicate (length work.old) (pos 0) }
 {
-    let mut i: usize = 0;
-    while i < work.len() {
-        work[i] = 0;
-        i += 1;
-    }
+    work.fill(0);
 }
 
 // Every element is 0.
 pub fn clear_u32(names: &mut [u32])
     ensures { names.new ≡ replicate (length names.old) 0 }
 {
-    let mut i: usize = 0;
-    while i < names.len() {
-        names[i] = 0;
-        i += 1;
-    }
+    names.fill(0);
 }

@@ -35,13 +35,7 @@ pub fn tie_at(work: &[i64], a: usize, l: usize, t: usize) -> Tie
     Tie {
         from: memory::get_link(work, a, l, t, memory::fields::FROM) as usize,
         to: memory::get_link(work, a, l, t, memory::fields::TO) as usize,
-        kind: project::codes::relationship_type_of(memory::get_link(
-            work,
-            a,
-            l,
-            t,
-            memory::fields::KIND,
-        )),
+        kind: RelationshipType::from(memory::get_link(work, a, l, t, memory::fields::KIND)),
         lag: memory::get_link_signed(work, a, l, t, memory::fields::LAG),
         calendar: memory::get_link(work, a, l, t, memory::fields::LAG_CALENDAR) as usize,
     }

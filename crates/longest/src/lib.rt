@@ -17,7 +17,7 @@ ghost use Rattle.longest.specs.Path.{Lent, Own, driven, bound_start, marks};
 
 use calendar::Period;
 use placing::Actual;
-use project::Activity;
+use project::{Activity, RelationshipType};
 use sheet::Contents;
 use worktime::ClockError;
 
@@ -97,7 +97,7 @@ fn bound_start(
     let l = contents.links;
     let left = memory::get_act(work, a, l, i, memory::fields::WORK_LEFT);
     let code = memory::get_link(work, a, l, k, memory::fields::KIND);
-    let kind = project::codes::relationship_type_of(code);
+    let kind = RelationshipType::from(code);
     let s = bounds::start_for(activity, week, sheet, at, n, left, kind, b)?;
     placing::place_start(activity, week, sheet, at, n, s)
 }

@@ -1,4 +1,5 @@
 // The fields of the two tables: the list of `memory`'s specs, for code.
+// They are numbers and no enum: the specs speak of runs of fields, as a frame's from one to another, and the code computes places and runs of columns from them.
 
 // ---- activities
 pub const LOW_CHILD: usize = 0;

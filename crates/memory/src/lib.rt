@@ -87,10 +87,8 @@ pub fn fill_act(work: &mut [i64], a: usize, l: usize, f: usize, v: u64)
     requires { Room a l work.old × (f < 64) × (v < 2 ^ 63) }
     ensures { (state_of a l work.new ≡ fill_act (state_of a l work.old) f a v) × (length work.new ≡ length work.old) }
 {
-    let mut i: usize = 0;
-    while i < a {
+    for i in 0..a {
         put_act(work, a, l, i, f, v);
-        i += 1;
     }
 }
 
@@ -110,9 +108,7 @@ fn chain_links(work: &mut [i64], a: usize, l: usize, t: usize, key: usize, head:
     requires { Room a l work.old × (t ≤ l) × (key < 16) × (head < 64) × (next < 16) × (key ≢ next) × ((k : ℕ) → k < t → (state_of a l work.old).link key k < a) }
     ensures { (state_of a l work.new ≡ linked_from key head next t 0 (state_of a l work.old)) × (length work.new ≡ length work.old) }
 {
-    let mut k = t;
-    while k > 0 {
-        k -= 1;
+    for k in (0..t).rev() {
         chain_one(work, a, l, k, key, head, next);
     }
 }

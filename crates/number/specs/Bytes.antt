@@ -1,5 +1,5 @@
 -- Little-endian numbers in a list of bytes.
-use Rattle.std.specs.Prelude.{Bool, true, false, List, ℕ, ◌+◌, ◌-◌, ◌*◌, ◌%◌, ◌^◌, ltb, ℤ, pos, negsuc, get_or}
+use Rattle.std.specs.Prelude.{true, false, List, ℕ, ◌+◌, ◌-◌, ◌*◌, ◌%◌, ◌^◌, ltb, ℤ, pos, negsuc, get_or}
 
 -- the byte at a place, 0 past the end
 abbrev pub byte_at : List ℕ → ℕ → ℕ

@@ -1,7 +1,9 @@
 -- What bytes below 256 bound, and that the two readings of a signed number agree.
-use Rattle.std.specs.Prelude.{◌≡◌, refl, Bool, true, false, List, ℕ, ◌+◌, ◌-◌, ◌%◌, ◌^◌, ◌≤◌, ◌<◌, ltb, ℤ, pos, negsuc}
+use Rattle.std.specs.Prelude.{◌≡◌, refl, Bool, true, false, List, ℕ, suc, ◌+◌, ◌-◌, ◌%◌, ◌^◌, ◌≤◌, ◌<◌, ltb, ℤ, pos, negsuc}
 use native.Mathlib.Omega.{arith}
-use Rattle.std.proofs.Common.{ltb-true, ltb-false}
+use Rattle.std.proofs.Common.{ap, ltb-true, ltb-false}
+use mir.Val.{sel}
+use Rattle.std.specs.Int.{cast_signed, w32}
 use Rattle.number.specs.Zed.{up, dn}
 use Rattle.number.specs.Bytes.{byte_at, u16_at, u32_at, signed32, i32_at, biased_at}
 
@@ -17,6 +19,15 @@ module _ (s : List ℕ) (at : ℕ) (bytes : (k : ℕ) → byte_at s k < 256) whe
   pub biased_below : biased_at s at < 2 ^ 32
   unfolding biased_at
   biased_below = omega arith
+
+-- two's complement as std says it
+pub signed32_is : (n : ℕ) → cast_signed w32 n ≡ signed32 n
+unfolding signed32
+signed32_is n = go (ltb n (2 ^ 31))
+  where
+    go : (t : Bool) → sel t (pos n) (negsuc (2 ^ 32 - suc n)) ≡ elim t [ true ↦ pos n | false ↦ negsuc (2 ^ 32 - 1 - n) ]
+    go true = refl
+    go false = ap negsuc (omega arith)
 
 -- the signed number and 2 ^ 31 are the biased one
 pub signed32_biased : (n : ℕ) → n < 2 ^ 32 → up (signed32 n) + 2 ^ 31 ≡ (n + 2 ^ 31) % 2 ^ 32 + dn (signed32 n)

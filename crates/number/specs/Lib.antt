@@ -9,7 +9,6 @@ pub mod BytesLaws
 pub mod Zed
 pub mod ZedLaws
 pub mod QuotLaws
-pub mod CastLaws
 pub mod Sign
 pub mod SignLaws
 pub mod Instances

@@ -1,13 +1,35 @@
 -- The ways of the smaller, the larger and the held number, and the exact values of shares and whole days on both sides of zero.
-use Rattle.std.specs.Prelude.{◌≡◌, true, false, ◌⊎◌, ℕ, ◌+◌, ◌*◌, ◌/◌, ◌≤◌, ◌<◌, max, ℤ, pos, negsuc, nat_abs, ◌*ℤ◌}
+use Rattle.std.specs.Prelude.{◌≡◌, refl, Bool, true, false, cond, ◌⊎◌, ℕ, ◌+◌, ◌*◌, ◌/◌, ◌≤◌, ◌<◌, max, ℤ, pos, negsuc, nat_abs, ◌*ℤ◌}
 use Rattle.std.proofs.Math.Path.{ap}
 use Rattle.std.proofs.Common.{◌∙◌, inl, inr, ⊎_elim, mul-le-mul, arith}
+use Rattle.std.specs.Int.{int_min, int_max}
 use Rattle.std.specs.Int.Signed.{lt_z, quot_z}
 use Rattle.number.specs.Order.{cases}
 use Rattle.number.specs.Zed.{up, dn}
 use Rattle.number.specs.ZedLaws.{apart, same, abs_is, lt_z_true, lt_z_false}
 use Rattle.number.specs.QuotLaws.{abs_mul, abs_quot, mul_up, mul_dn, quot_up, quot_dn}
 use Rattle.number.specs.Sign.{min_z, max_z, clamp_z, percent_of, whole_days}
+
+-- ---- as std says them
+module _ (a b : ℤ) where
+  pub min_is : int_min a b ≡ min_z a b
+  unfolding min_z
+  min_is = go (lt_z b a)
+    where
+      go : (t : Bool) → cond t b a ≡ elim t [ true ↦ b | false ↦ a ]
+      go true = refl
+      go false = refl
+
+  pub max_is : int_max a b ≡ max_z a b
+  unfolding max_z
+  max_is = go (lt_z b a) (lt_z a b) (lt_z_true a b) (lt_z_false a b) (lt_z_true b a) (lt_z_false b a)
+    where
+      go : (t u : Bool) → (u ≡ true → up a + dn b < up b + dn a) → (u ≡ false → up b + dn a ≤ up a + dn b) → (t ≡ true → up b + dn a < up a + dn b) → (t ≡ false → up a + dn b ≤ up b + dn a)
+          → cond t a b ≡ elim u [ true ↦ b | false ↦ a ]
+      go true true p q r s = let h = p refl in let k = r refl in absurd (omega arith)
+      go true false p q r s = refl
+      go false true p q r s = refl
+      go false false p q r s = let h = q refl in let k = s refl in same b a (omega arith)
 
 -- ---- the ways
 module _ (a b : ℤ) where
@@ -46,6 +68,10 @@ module _ (z lo hi : ℤ) where
   pub clamp_within : lt_z z lo ≡ false → lt_z hi z ≡ false → clamp_z z lo hi ≡ z
   unfolding clamp_z
   clamp_within e f = rw (e, clamp_z, f)
+
+  pub clamp_down : lt_z z lo ≡ false → clamp_z z lo hi ≡ min_z z hi
+  unfolding clamp_z min_z
+  clamp_down e = rw (e, clamp_z, min_z)
 
   -- between the two, where they are in order
   pub clamp_between : up lo + dn hi ≤ up hi + dn lo → let r : ℤ = clamp_z z lo hi in (up lo + dn r ≤ up r + dn lo) × (up r + dn hi ≤ up hi + dn r)

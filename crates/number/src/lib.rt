@@ -2,7 +2,7 @@
 #![tactic(auto)]
 
 ghost use Rattle.std.specs.Prelude.{◌≡◌, ℕ, ◌+◌, ◌^◌, ◌≤◌, ◌<◌, length};
-ghost use Rattle.number.specs.Bytes.{byte_at, u16_at, u32_at, signed32, i32_at, biased_at};
+ghost use Rattle.number.specs.Bytes.{byte_at, u16_at, u32_at, i32_at, biased_at};
 
 pub mod sign;
 
@@ -19,7 +19,7 @@ pub fn read_u16(sheet: &[u8], at: usize) -> u16
     requires { at + 2 ≤ length sheet.now }
     ensures { result ≡ u16_at sheet.now at }
 {
-    (byte(sheet, at) + 256 * byte(sheet, at + 1)) as u16
+    u16::from_le_bytes([sheet[at], sheet[at + 1]])
 }
 
 // The number of four bytes, the low one first.
@@ -27,10 +27,7 @@ pub fn read_u32(sheet: &[u8], at: usize) -> u64
     requires { at + 4 ≤ length sheet.now }
     ensures { (result ≡ u32_at sheet.now at) × (result < 2 ^ 32) }
 {
-    byte(sheet, at)
-        + 256 * byte(sheet, at + 1)
-        + 65536 * byte(sheet, at + 2)
-        + 16777216 * byte(sheet, at + 3)
+    u32::from_le_bytes([sheet[at], sheet[at + 1], sheet[at + 2], sheet[at + 3]]) as u64
 }
 
 // The signed number of four bytes, and 2 ^ 31.
@@ -41,22 +38,10 @@ pub fn read_biased(sheet: &[u8], at: usize) -> u64
     (read_u32(sheet, at) + 0x8000_0000) % 0x1_0000_0000
 }
 
-// Two's complement of 32 bits.
-pub fn signed(x: u64) -> i32
-    requires { x < 2 ^ 32 }
-    ensures { result ≡ signed32 x }
-{
-    if x < 0x8000_0000 {
-        return x as i32;
-    }
-    let d = (0xffff_ffff - x) as i32;
-    -1 - d
-}
-
 // The signed number of four bytes, the low one first.
 pub fn read_i32(sheet: &[u8], at: usize) -> i32
     requires { at + 4 ≤ length sheet.now }
     ensures { result ≡ i32_at sheet.now at }
 {
-    signed(read_u32(sheet, at))
+    i32::from_le_bytes([sheet[at], sheet[at + 1], sheet[at + 2], sheet[at + 3]])
 }

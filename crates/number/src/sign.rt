@@ -1,5 +1,6 @@
 // Signed arithmetic: each result is the integer's, and what it asks is that the integer fits.
-ghost use Rattle.std.specs.Prelude.{◌≡◌, ◌+◌, ◌^◌, ◌≤◌, ◌<◌, pos, neg_ℤ, ◌+ℤ◌, ◌-ℤ◌};
+// `min`, `max` and `negate` stay beside std's and `-`: they give the values by the definitions that the specs above compute with, which each caller would have to prove again.
+ghost use Rattle.std.specs.Prelude.{◌≡◌, ◌+◌, ◌^◌, ◌≤◌, ◌<◌, pos, neg_ℤ, ◌-ℤ◌};
 ghost use Rattle.number.specs.Zed.{up, dn};
 ghost use Rattle.number.specs.Sign.{min_z, max_z, clamp_z, percent_of, whole_days};
 
@@ -11,38 +12,28 @@ pub fn negate(z: i64) -> i64
     -z
 }
 
-pub fn sum(a: i64, b: i64) -> i64
-    requires { (up a + up b < 2 ^ 63 + (dn a + dn b)) × (dn a + dn b ≤ 2 ^ 63 + (up a + up b)) }
-    ensures { result ≡ a +ℤ b }
-{
-    a + b
-}
-
 // The smaller of two.
 pub fn min(a: i64, b: i64) -> i64
     ensures { result ≡ min_z a b }
 {
-    if b < a { b } else { a }
+    a.min(b)
 }
 
 // The larger of two.
 pub fn max(a: i64, b: i64) -> i64
     ensures { result ≡ max_z a b }
 {
-    if a < b { b } else { a }
+    a.max(b)
 }
 
-// `z`, or the end of `lo` to `hi` that it lies beyond.
+// `z`, or the end of `lo` to `hi` that it lies beyond. std's `clamp` asks that `lo` is at most `hi`.
 pub fn clamp(z: i64, lo: i64, hi: i64) -> i64
     ensures { result ≡ clamp_z z lo hi }
 {
     if z < lo {
         return lo;
     }
-    if hi < z {
-        return hi;
-    }
-    z
+    z.min(hi)
 }
 
 // A share of a duration, in hundredths of one percent, toward zero.
@@ -77,10 +68,7 @@ pub fn difference(a: u64, b: u64) -> i64
 pub fn upward(z: i64) -> u64
     ensures { (result ≡ up z) × (result < 2 ^ 63) }
 {
-    if z >= 0 {
-        return z as u64;
-    }
-    0
+    z.max(0).unsigned_abs()
 }
 
 // How far `z` lies below 0.
@@ -88,8 +76,5 @@ pub fn downward(z: i64) -> u64
     requires { dn z < 2 ^ 63 }
     ensures { (result ≡ dn z) × (result < 2 ^ 63) }
 {
-    if z >= 0 {
-        return 0;
-    }
-    (-z) as u64
+    z.min(0).unsigned_abs()
 }

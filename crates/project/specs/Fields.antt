@@ -1,5 +1,5 @@
 -- The records of 01's section The sheet: kinds, lengths and fields, each field as a function of the sheet and the place of its record.
-use Rattle.std.specs.Prelude.{Bool, true, false, ◌&&◌, ◌||◌, not, List, ℕ, ◌+◌, eqb, leb, ltb}
+use Rattle.std.specs.Prelude.{Bool, ◌&&◌, ◌||◌, not, List, ℕ, ◌+◌, eqb, leb, ltb}
 use Rattle.number.specs.Bytes.{byte_at, u16_at, u32_at, biased_at}
 
 -- ---- a record's byte of kind, and its length with that byte

@@ -1,4 +1,5 @@
 // The sheet's codes as values. "Codes follow the enums' order in 002."
+// A value that a code alone gives is made by `From`; one that takes more beside the code, by a function whose parameters have names, which a tuple's have not.
 ghost use Rattle.std.specs.Prelude.{◌≡◌};
 ghost use Rattle.project.specs.Records.{activity_kind_of, constraint_of, relationship_type_of, lag_of, lag_calendar_of, float_kind_of, progress_mode_of, critical_by_of};
 
@@ -8,16 +9,20 @@ use crate::{
 };
 use date::Date;
 
-pub fn activity_kind_of(code: u64) -> ActivityKind
-    ensures { result ≡ activity_kind_of code }
-{
-    match code {
-        0 => ActivityKind::Task,
-        1 => ActivityKind::StartMilestone,
-        _ => ActivityKind::FinishMilestone,
+impl From<u64> for ActivityKind {
+    ghost from_gives = { λ code result. result ≡ activity_kind_of code };
+
+    #[tactic(auto, unfolding(crate::specs::Records::activity_kind_of))]
+    fn from(code: u64) -> ActivityKind {
+        match code {
+            0 => ActivityKind::Task,
+            1 => ActivityKind::StartMilestone,
+            _ => ActivityKind::FinishMilestone,
+        }
     }
 }
 
+#[tactic(auto, unfolding(crate::specs::Records::constraint_of))]
 pub fn constraint_of(code: u64, day: Date) -> Constraint
     ensures { result ≡ constraint_of code day }
 {
@@ -35,18 +40,22 @@ pub fn constraint_of(code: u64, day: Date) -> Constraint
     }
 }
 
-pub fn relationship_type_of(code: u64) -> RelationshipType
-    ensures { result ≡ relationship_type_of code }
-{
-    match code {
-        0 => RelationshipType::FinishToStart,
-        1 => RelationshipType::StartToStart,
-        2 => RelationshipType::FinishToFinish,
-        _ => RelationshipType::StartToFinish,
+impl From<u64> for RelationshipType {
+    ghost from_gives = { λ code result. result ≡ relationship_type_of code };
+
+    #[tactic(auto, unfolding(crate::specs::Records::relationship_type_of))]
+    fn from(code: u64) -> RelationshipType {
+        match code {
+            0 => RelationshipType::FinishToStart,
+            1 => RelationshipType::StartToStart,
+            2 => RelationshipType::FinishToFinish,
+            _ => RelationshipType::StartToFinish,
+        }
     }
 }
 
 // The lag that a basis, a unit and a number give.
+#[tactic(auto, unfolding(crate::specs::Records::lag_of))]
 pub fn lag_of(basis: u64, unit: u64, lag: i32) -> LagKind
     ensures { result ≡ lag_of basis unit lag }
 {
@@ -65,36 +74,46 @@ pub fn lag_of(basis: u64, unit: u64, lag: i32) -> LagKind
     LagKind::Percent(lag)
 }
 
-pub fn lag_calendar_of(code: u64) -> LagCalendar
-    ensures { result ≡ lag_calendar_of code }
-{
-    match code {
-        0 => LagCalendar::Predecessor,
-        1 => LagCalendar::Successor,
-        2 => LagCalendar::TwentyFourHour,
-        _ => LagCalendar::Project,
+impl From<u64> for LagCalendar {
+    ghost from_gives = { λ code result. result ≡ lag_calendar_of code };
+
+    #[tactic(auto, unfolding(crate::specs::Records::lag_calendar_of))]
+    fn from(code: u64) -> LagCalendar {
+        match code {
+            0 => LagCalendar::Predecessor,
+            1 => LagCalendar::Successor,
+            2 => LagCalendar::TwentyFourHour,
+            _ => LagCalendar::Project,
+        }
     }
 }
 
-pub fn float_kind_of(code: u64) -> FloatKind
-    ensures { result ≡ float_kind_of code }
-{
-    match code {
-        0 => FloatKind::Finish,
-        1 => FloatKind::Start,
-        _ => FloatKind::Smallest,
+impl From<u64> for FloatKind {
+    ghost from_gives = { λ code result. result ≡ float_kind_of code };
+
+    #[tactic(auto, unfolding(crate::specs::Records::float_kind_of))]
+    fn from(code: u64) -> FloatKind {
+        match code {
+            0 => FloatKind::Finish,
+            1 => FloatKind::Start,
+            _ => FloatKind::Smallest,
+        }
     }
 }
 
-pub fn progress_mode_of(code: u64) -> ProgressMode
-    ensures { result ≡ progress_mode_of code }
-{
-    match code {
-        0 => ProgressMode::RetainedLogic,
-        _ => ProgressMode::ProgressOverride,
+impl From<u64> for ProgressMode {
+    ghost from_gives = { λ code result. result ≡ progress_mode_of code };
+
+    #[tactic(auto, unfolding(crate::specs::Records::progress_mode_of))]
+    fn from(code: u64) -> ProgressMode {
+        match code {
+            0 => ProgressMode::RetainedLogic,
+            _ => ProgressMode::ProgressOverride,
+        }
     }
 }
 
+#[tactic(auto, unfolding(crate::specs::Records::critical_by_of))]
 pub fn critical_by_of(code: u64, threshold: i32) -> CriticalBy
     ensures { result ≡ critical_by_of code threshold }
 {

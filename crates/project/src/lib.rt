@@ -136,6 +136,7 @@ pub enum Status {
 }
 
 // Whether an activity is a moment.
+#[tactic(auto, unfolding(crate::specs::Status::is_milestone))]
 pub fn is_milestone(kind: ActivityKind) -> bool
     ensures { result ≡ is_milestone kind }
 {
@@ -147,6 +148,7 @@ pub fn is_milestone(kind: ActivityKind) -> bool
 }
 
 // The end that a constraint bounds, with its day.
+#[tactic(auto, unfolding(crate::specs::Status::on_start))]
 pub fn on_start(constraint: Constraint) -> End
     ensures { result ≡ on_start constraint }
 {
@@ -165,6 +167,7 @@ pub fn on_start(constraint: Constraint) -> End
 }
 
 // Whether a constraint bounds the start.
+#[tactic(auto, unfolding(crate::specs::Status::bounds_start))]
 pub fn bounds_start(constraint: Constraint) -> bool
     ensures { result ≡ bounds_start constraint }
 {

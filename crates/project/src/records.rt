@@ -1,11 +1,14 @@
 // The sheet's records as values, and single fields of them for those that need no whole record. Each takes the place of the record's byte of kind.
+#![tactic(auto, unfolding(crate::specs::Records::activity_at, crate::specs::Records::relationship_at))]
+
 ghost use Rattle.std.specs.Prelude.{◌≡◌, ℕ, ◌+◌, ◌^◌, ◌≤◌, ◌<◌, length};
 ghost use Rattle.project.specs.Records.{activity_at, relationship_at, project_at, day_length_at};
 ghost use Rattle.project.specs.Status.{status_of};
 
 use crate::{
-    Activity, ActivityKind, Constraint, LagKind, Project, Relationship, RelationshipType, Status,
-    codes, fields, status_of,
+    Activity, ActivityKind, Constraint, FloatKind, LagCalendar, LagKind, 
+    ProgressMode, Project, Relationship, RelationshipType, Status, codes, fields,
+    status_of,
 };
 use date::Date;
 
@@ -21,7 +24,7 @@ pub fn read_kind(sheet: &[u8], at: usize) -> ActivityKind
     requires { at + 45 ≤ length sheet.now }
     ensures { result ≡ (activity_at sheet.now at).kind }
 {
-    codes::activity_kind_of(number::byte(sheet, at + 5))
+    ActivityKind::from(number::byte(sheet, at + 5))
 }
 
 pub fn read_calendar(sheet: &[u8], at: usize) -> u64
@@ -153,7 +156,7 @@ pub fn read_relationship_type(sheet: &[u8], at: usize) -> RelationshipType
     requires { at + 16 ≤ length sheet.now }
     ensures { result ≡ (relationship_at sheet.now at).kind }
 {
-    codes::relationship_type_of(number::byte(sheet, at + 9))
+    RelationshipType::from(number::byte(sheet, at + 9))
 }
 
 pub fn read_lag(sheet: &[u8], at: usize) -> LagKind
@@ -182,6 +185,7 @@ pub fn read_relationship(sheet: &[u8], at: usize) -> Relationship
 }
 
 // ---- the project and a calendar
+#[tactic(auto, unfolding(crate::specs::Records::project_at))]
 pub fn read_project(sheet: &[u8], at: usize) -> Project
     requires { at + 21 ≤ length sheet.now }
     ensures { result ≡ project_at sheet.now at }
@@ -189,9 +193,9 @@ pub fn read_project(sheet: &[u8], at: usize) -> Project
     let start = fields::read_date(sheet, at + 1);
     let data_date = fields::read_optional_date(sheet, at + 5);
     let must_finish_by = fields::read_optional_date(sheet, at + 9);
-    let lag_calendar = codes::lag_calendar_of(number::byte(sheet, at + 13));
-    let float_kind = codes::float_kind_of(number::byte(sheet, at + 14));
-    let progress_mode = codes::progress_mode_of(number::byte(sheet, at + 15));
+    let lag_calendar = LagCalendar::from(number::byte(sheet, at + 13));
+    let float_kind = FloatKind::from(number::byte(sheet, at + 14));
+    let progress_mode = ProgressMode::from(number::byte(sheet, at + 15));
     let critical_by = codes::critical_by_of(
         number::byte(sheet, at + 16),
         number::read_i32(sheet, at + 17),

@@ -31,11 +31,9 @@ fn clear_links(work: &mut [i64], a: usize, l: usize, t: usize)
     requires { Room a l work.old × (t ≤ l) }
     ensures { ColumnsCleared (64 * a) l (of_link t) 0 7 work.old work.new }
 {
-    let mut f: usize = 0;
-    while f <= fields::NEXT_OUT {
+    for f in 0..=fields::NEXT_OUT {
         let column = 64 * a + f * l;
         clear_cells(work, column + t, column + l);
-        f += 1;
     }
 }
 

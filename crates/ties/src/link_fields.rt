@@ -32,5 +32,5 @@ pub fn lag_calendar_of(sheet: &[u8], contents: Contents) -> LagCalendar
     requires { SheetRead sheet.now contents }
     ensures { result ≡ (plan_of sheet.now contents).project.lag_calendar }
 {
-    project::codes::lag_calendar_of(number::byte(sheet, 13))
+    LagCalendar::from(number::byte(sheet, 13))
 }

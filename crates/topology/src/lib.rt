@@ -30,10 +30,8 @@ fn count_links(work: &mut [i64], a: usize, l: usize, t: usize)
     requires { Room a l work.old × (t ≤ l) × Ends a t (state_of a l work.old) × ((i : ℕ) → (state_of a l work.old).act waiting i ≡ 0) }
     ensures { ((i : ℕ) → (state_of a l work.new).act waiting i ≡ into (links_of (state_of a l work.old) t) i) × Frame waiting order_at 0 0 (state_of a l work.old) (state_of a l work.new) × (length work.new ≡ length work.old) }
 {
-    let mut k: usize = 0;
-    while k < t {
+    for k in 0..t {
         count_link(work, a, l, k);
-        k += 1;
     }
 }
 
@@ -64,10 +62,8 @@ fn first_ready(work: &mut [i64], a: usize, l: usize) -> usize
     ensures { Filled ((state_of a l work.new).act waiting) ((state_of a l work.new).act order_at) a result × Frame order_at seen 0 0 (state_of a l work.old) (state_of a l work.new) × (length work.new ≡ length work.old) }
 {
     let mut end: usize = 0;
-    let mut m: usize = 0;
-    while m < a {
+    for m in 0..a {
         end = ready_one(work, a, l, m, end);
-        m += 1;
     }
     end
 }
@@ -91,6 +87,7 @@ fn release(work: &mut [i64], a: usize, l: usize, t: usize, h: usize, end: usize)
     let v = memory::get_act(work, a, l, h, fields::ORDER_AT) as usize;
     let mut k = memory::get_act(work, a, l, v, fields::FIRST_OUT) as usize;
     let mut r = end;
+    // A `for` knows no chain: each link names the next.
     while k < t {
         r = meet_link(work, a, l, k, r);
         k = memory::get_link(work, a, l, k, fields::NEXT_OUT) as usize;
@@ -105,6 +102,7 @@ fn drain(work: &mut [i64], a: usize, l: usize, t: usize, end: usize) -> usize
 {
     let mut r = end;
     let mut h: usize = 0;
+    // The queue grows as it is read, so no range counts `h`.
     while h < r {
         r = release(work, a, l, t, h, r);
         h += 1;
@@ -161,14 +159,12 @@ fn first_waiting(work: &[i64], a: usize, l: usize) -> usize
     requires { Room a l work.now }
     ensures { (result ≤ a) × ((links : List Link) → result ≡ first_waiting links ((state_of a l work.now).act waiting) a 0) }
 {
-    let mut i: usize = 0;
-    while i < a {
+    for i in 0..a {
         if memory::get_act(work, a, l, i, fields::WAITING) > 0 {
             return i;
         }
-        i += 1;
     }
-    i
+    a
 }
 
 // The first predecessor of activity `x` in link order that still waits; `x` where none does.
@@ -177,6 +173,7 @@ fn waiting_before(work: &[i64], a: usize, l: usize, t: usize, x: usize) -> usize
     ensures { result ≡ waiting_before (links_of (state_of a l work.now) t) ((state_of a l work.now).act waiting) (links_of (state_of a l work.now) t) x }
 {
     let mut k = memory::get_act(work, a, l, x, fields::FIRST_IN) as usize;
+    // A `for` knows no chain: each link names the next.
     while k < t {
         let y = memory::get_link(work, a, l, k, fields::FROM) as usize;
         if memory::get_act(work, a, l, y, fields::WAITING) > 0 {
@@ -211,6 +208,7 @@ fn walk_back(work: &mut [i64], a: usize, l: usize, t: usize, start: usize) -> Wa
 {
     let mut x = start;
     let mut m: usize = 0;
+    // How many steps there are is known only at the first mark that repeats, so no range counts `m`.
     loop {
         let mark = memory::get_act(work, a, l, x, fields::SEEN) as usize;
         if mark > 0 {
@@ -230,11 +228,9 @@ fn copy_loop(work: &mut [i64], a: usize, l: usize, from: usize, end: usize) -> u
     ensures { (result ≡ end - from) × ((k : ℕ) → k < result → (state_of a l work.new).act loop_at k ≡ (state_of a l work.old).act path_at (end - 1 - k)) × Frame seen path_at 0 0 (state_of a l work.old) (state_of a l work.new) × (length work.new ≡ length work.old) }
 {
     let n = end - from;
-    let mut k: usize = 0;
-    while k < n {
+    for k in 0..n {
         let x = memory::get_act(work, a, l, end - 1 - k, fields::PATH_AT);
         memory::put_act(work, a, l, k, fields::SEEN, x);
-        k += 1;
     }
     n
 }

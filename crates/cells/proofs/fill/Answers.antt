@@ -1,26 +1,16 @@
--- `cells::fill` meets its contract: after i turns i cells are filled.
-use borrow.Author.Rules.{rules}
-use mathlib.Core.Path.{◌≡◌, refl, ap, ◌∙◌}
-use Prim.Native.Nat.{◌+◌, ◌-◌, ◌≤◌}
-use native.Mathlib.Omega.{arith}
-use lib.ListN.{length}
-use Rattle.cells.specs.Cell.{filled}
-use Rattle.cells.specs.CellLaws.{length_filled, filled_more}
+-- `cells::fill` meets its contract: std's fill of the part is the run of stores.
+use Rattle.std.proofs.Common.{◌≡◌, ◌+◌, ◌-◌, length, take, drop, replicate, pos, sym, ◌∙◌, arith}
+use Rattle.std.proofs.lemmas.Slice.{put_mid-paste}
+use Rattle.std.proofs.lemmas.List.{length-replicate}
+use Rattle.std.proofs.lemmas.List.Edits.{length-between}
+use mir.Facts.{to_z_pos}
+use mir.Syntax.{w64}
+use Rattle.cells.specs.CellLaws.{filled_paste}
 use Rattle.cells.proofs.fill.Goals as goal
-
-pub loop-i-init : goal.loop-i-init
-unfolding filled
-loop-i-init c = (omega arith, (refl, refl))
-
-pub loop-i-preserved : goal.loop-i-preserved
-loop-i-preserved c =
-    let l = c.loop-i in
-    let s = c.args in
-    let e : c.put.new.work ≡ filled s.work.now s.base s.v (l.i + 1) = cc (filled_more s.work.now s.base s.v l.i) in
-    (omega arith, (ap length e ∙ length_filled _ _ _ _, e))
 
 pub returns : goal.returns
 returns c =
-    let h = c.loop-i.invariant in
-    let e : c.loop-i.i ≡ c.args.n = omega arith in
-    h.1.1 ∙ ap (filled _ _ _) e
+    let x = c.args in
+    let size : length (take (x.base + x.n - x.base) (drop x.base x.work.now)) ≡ x.n = length-between x.work.now x.base (x.base + x.n) c.requires.0 ∙ omega arith in
+    let part : c.fill.new.self ≡ replicate x.n (pos x.v) = cc (c.fill.ensures.after (λ y e. e), to_z_pos w64 c.requires.1, size) in
+    put_mid-paste x.base _ x.work.now _ _ x.n part (omega arith) (sym (length-replicate x.n (pos x.v))) ∙ sym (filled_paste x.work.now x.base x.v x.n c.requires.0)

@@ -1,5 +1,4 @@
 -- `cells::get` meets its contract.
-use borrow.Author.Rules.{rules}
 use mathlib.Core.Path.{sym, ap, ◌∙◌}
 use mir.Facts.{to_z-of_z}
 use Rattle.number.specs.Zed.{up}

@@ -1,5 +1,4 @@
 -- `cells::put` meets its contract.
-use borrow.Author.Rules.{rules}
 use mir.Facts.{to_z_pos}
 use mir.Syntax.{w64}
 use Rattle.cells.specs.Cell.{store}

@@ -1,5 +1,4 @@
 -- `cells::put_signed` meets its contract.
-use borrow.Author.Rules.{rules}
 use mir.Facts.{to_z-of_z}
 use Rattle.cells.specs.Cell.{store_z}
 use Rattle.cells.proofs.put_signed.Goals as goal

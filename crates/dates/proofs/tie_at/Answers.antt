@@ -9,7 +9,7 @@ use Rattle.dates.proofs.tie_at.Goals as goal
 pub returns : goal.returns
 returns c =
     let lag = to_z-of_z {w = w64} (record { sfits = c.get_link_signed.type_inv }) ∙ c.get_link_signed.ensures in
-    let kind = c.relationship_type_of.ensures ∙ ap relationship_type_of c.get_link-3.ensures.0 in
+    let kind = c.from.ensures ∙ ap relationship_type_of c.get_link-3.ensures.0 in
     λ z. record {
       from = c.get_link.ensures.0 z;
       to = c.get_link-2.ensures.0 z;

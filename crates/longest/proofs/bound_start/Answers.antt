@@ -26,9 +26,6 @@ get_act-left-requires c = (c.requires.0.ready.room, c.requires.2, omega arith)
 pub get_link-code-requires : goal.get_link-code-requires
 get_link-code-requires c = (c.requires.0.ready.room, link_in c.requires.0 c.args.k c.requires.3, omega arith)
 
-pub relationship_type_of-kind-requires : goal.relationship_type_of-kind-requires
-relationship_type_of-kind-requires c = tt
-
 pub start_for-requires : goal.start_for-requires
 start_for-requires c = own_valid c.requires.1 c.requires.0.ready.read
 
@@ -40,7 +37,7 @@ returns-in_err-s c = rw (handed_on _ _ c.from_residual-in_err-s.ensures.1) (let 
     let q = c.start_for in
     let u = c.in_ok-b.b in
     let w =
-    start_left c.requires.0 x.k c.requires.3 x.i c.requires.2 c.get_act-left.result c.get_link-code.result u c.relationship_type_of-kind.result q.result c.get_act-left.ensures.0 c.get_link-code.ensures.0 c.relationship_type_of-kind.ensures
+    start_left c.requires.0 x.k c.requires.3 x.i c.requires.2 c.get_act-left.result c.get_link-code.result u c.from-kind.result q.result c.get_act-left.ensures.0 c.get_link-code.ensures.0 c.from-kind.ensures
     (q.ensures p x.i (own_worked c.requires.1)) in
     sym (start_no_start p d x.i x.k b.result u b.ensures c.in_ok-b.was q.result w c.in_err-s.field-0.0 c.in_err-s.was))
 
@@ -56,7 +53,7 @@ returns c =
     let q = c.start_for in
     let u = c.in_ok-b.b in
     let w =
-    start_left c.requires.0 x.k c.requires.3 x.i c.requires.2 c.get_act-left.result c.get_link-code.result u c.relationship_type_of-kind.result q.result c.get_act-left.ensures.0 c.get_link-code.ensures.0 c.relationship_type_of-kind.ensures
+    start_left c.requires.0 x.k c.requires.3 x.i c.requires.2 c.get_act-left.result c.get_link-code.result u c.from-kind.result q.result c.get_act-left.ensures.0 c.get_link-code.ensures.0 c.from-kind.ensures
     (q.ensures p x.i (own_worked c.requires.1)) in
     let v = c.in_ok-s.s in
     own_place c.requires.1 v c.place_start.result c.place_start.ensures

@@ -1,16 +1,14 @@
 -- `memory::chain_links` meets its contract: the links from k on are in their chains.
-use borrow.Author.Rules.{rules}
 use mathlib.Core.Path.{◌≡◌, refl, ap, ◌∙◌}
-use Prim.Native.Nat.{ℕ, ◌+◌, ◌-◌, ◌≤◌}
+use Prim.Native.Nat.{ℕ, ◌+◌, ◌-◌}
 use native.Mathlib.Omega.{arith}
-use lib.ListN.{length}
 use Rattle.memory.specs.State.{State, state_of}
 use Rattle.memory.specs.Chains.{linked, linked_from}
-use Rattle.memory.specs.ChainsLaws.{kept_from, from_none, from_more, from_all}
+use Rattle.memory.specs.ChainsLaws.{kept_from, from_none, from_more}
 use Rattle.memory.proofs.chain_links.Goals as goal
 
 pub loop-k-init : goal.loop-k-init
-loop-k-init c = let x = c.args in (omega arith, refl, from_none x.key x.head x.next (state_of x.a x.l x.work.now) x.t)
+loop-k-init c = let x = c.args in (refl, from_none x.key x.head x.next (state_of x.a x.l x.work.now) x.t)
 
 pub chain_one-requires : goal.chain_one-requires
 chain_one-requires c =
@@ -19,7 +17,7 @@ chain_one-requires c =
     let x = c.args in
     let k = L.k - 1 in
     let S = state_of x.a x.l x.work.now in
-    let e = ap (λ (T : State). T.link x.key k) L.invariant.2 ∙ ap (λ (f : ℕ → ℕ). f k) ((kept_from x.head x.next x.key (x.t - L.k) L.k S).links x.key p.5) in
+    let e = ap (λ (T : State). T.link x.key k) L.invariant.1 ∙ ap (λ (f : ℕ → ℕ). f k) ((kept_from x.head x.next x.key (x.t - L.k) L.k S).links x.key p.5) in
     (omega arith, omega arith, p.2, p.3, p.4, omega (arith, e, p.6 k (omega arith)))
 
 pub loop-k-preserved : goal.loop-k-preserved
@@ -28,13 +26,5 @@ loop-k-preserved c =
     let x = c.args in
     let S = state_of x.a x.l x.work.now in
     let e : L.k ≡ (L.k - 1) + 1 = omega arith in
-    let i = ap (λ (T : State). linked x.key x.head x.next T (L.k - 1)) (L.invariant.2 ∙ ap (λ (k : ℕ). linked_from x.key x.head x.next (x.t - k) k S) e) in
-    (omega arith, omega arith, c.chain_one.ensures.0 ∙ i ∙ from_more x.key x.head x.next S x.t (L.k - 1) (omega arith))
-
-pub returns : goal.returns
-returns c =
-    let L = c.loop-k in
-    let x = c.args in
-    let S = state_of x.a x.l x.work.now in
-    let e : L.k ≡ 0 = omega arith in
-    (L.invariant.2 ∙ ap (λ (k : ℕ). linked_from x.key x.head x.next (x.t - k) k S) e ∙ from_all x.key x.head x.next S x.t, omega arith)
+    let i = ap (λ (T : State). linked x.key x.head x.next T (L.k - 1)) (L.invariant.1 ∙ ap (λ (k : ℕ). linked_from x.key x.head x.next (x.t - k) k S) e) in
+    (omega arith, c.chain_one.ensures.0 ∙ i ∙ from_more x.key x.head x.next S x.t (L.k - 1) (omega arith))

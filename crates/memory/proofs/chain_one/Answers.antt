@@ -1,5 +1,4 @@
 -- `memory::chain_one` meets its contract.
-use borrow.Author.Rules.{rules}
 use mathlib.Core.Path.{ap, ◌∙◌}
 use native.Mathlib.Omega.{arith}
 use Rattle.memory.specs.State.{State, state_of, put_act, put_link}

@@ -1,5 +1,4 @@
 -- `memory::get_act` meets its contract.
-use borrow.Author.Rules.{rules}
 use mathlib.Core.Path.{sym, ◌∙◌}
 use mir.Facts.{to_z-of_z}
 use Rattle.memory.specs.StateLaws.{act_up}

@@ -13,21 +13,6 @@ use Rattle.memory.specs.Columns.{column_ends}
 use Rattle.memory.specs.StateLaws.{link_z_at}
 use Rattle.memory.proofs.get_link_signed.Goals as goal
 
-pub overflow_mul-result-2 : goal.overflow_mul-result-2
-overflow_mul-result-2 c = let e = column_ends c.args.l c.requires.2 in search rules
-
-pub overflow_add-result : goal.overflow_add-result
-overflow_add-result c = let e = column_ends c.args.l c.requires.2 in search rules
-
-pub overflow_add-result-2 : goal.overflow_add-result-2
-overflow_add-result-2 c = let e = column_ends c.args.l c.requires.2 in search rules
-
-pub offset_bounds-work-a : goal.offset_bounds-work-a
-offset_bounds-work-a c = let e = column_ends c.args.l c.requires.2 in search rules
-
-pub bounds-work-a : goal.bounds-work-a
-bounds-work-a c = let e = column_ends c.args.l c.requires.2 in search rules
-
 -- the value that was read
 abbrev read : goal.After-result-1 → ℤ
 read c =

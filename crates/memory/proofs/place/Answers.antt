@@ -1,15 +1,8 @@
 -- `memory::place` meets its contract: in a column, or among the eight fields of a row.
 use mathlib.Core.Path.{sym}
 use native.Mathlib.Omega.{arith}
-use borrow.Author.Rules.{rules}
 use Rattle.memory.specs.Columns.{column_ends, place_before, place_after, place_row}
 use Rattle.memory.proofs.place.Goals as goal
-
-pub overflow_mul-result : goal.overflow_mul-result
-overflow_mul-result c = let e = column_ends c.args.n c.requires.1 in search rules
-
-pub overflow_add-result : goal.overflow_add-result
-overflow_add-result c = let e = column_ends c.args.n c.requires.1 in search rules
 
 pub returns-then-f-lt-SHOWN_START : goal.returns-then-f-lt-SHOWN_START
 returns-then-f-lt-SHOWN_START c =
@@ -19,12 +12,6 @@ returns-then-f-lt-SHOWN_START c =
 
 pub returns-then-f-le-IS_LONGEST : goal.returns-then-f-le-IS_LONGEST
 returns-then-f-le-IS_LONGEST c = let x = c.args in (sym (place_row x.n x.f x.i (omega arith) (omega arith)), omega arith)
-
-pub overflow_mul-result-2 : goal.overflow_mul-result-2
-overflow_mul-result-2 c = let e = column_ends c.args.n c.requires.1 in search rules
-
-pub overflow_add-result-2 : goal.overflow_add-result-2
-overflow_add-result-2 c = let e = column_ends c.args.n c.requires.1 in search rules
 
 pub returns : goal.returns
 returns c =

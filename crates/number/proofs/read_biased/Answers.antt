@@ -1,7 +1,6 @@
 -- `number::read_biased` meets its contract.
 use native.Mathlib.Omega.{arith}
 use Rattle.number.specs.Bytes.{biased_at}
-use borrow.Author.Rules.{rules}
 use Rattle.number.proofs.read_biased.Goals as goal
 
 pub returns : goal.returns

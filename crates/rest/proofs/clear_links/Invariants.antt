@@ -1,10 +1,7 @@
 -- `rest::clear_links` meets its contract: after f turns the first f columns are cleared.
-use Prim.Native.Nat.{◌*◌, ◌-◌, ◌≤◌}
+use Prim.Native.Nat.{◌*◌}
 use Rattle.rest.specs.Stands.{of_link, ColumnsCleared}
 use Rattle.rest.proofs.clear_links.Given as goal
 
 abbrev pub invariant-loop-f : goal.invariant-loop-f
-invariant-loop-f l = (l.f ≤ 7) × ColumnsCleared (64 * l.a) l.l (of_link l.t) 0 l.f l.initial.work l.work
-
-abbrev pub decreases-loop-f : goal.decreases-loop-f
-decreases-loop-f l = 7 - l.f
+invariant-loop-f l = ColumnsCleared (64 * l.a) l.l (of_link l.t) 0 l.f l.initial.work l.work

@@ -1,6 +1,6 @@
 -- `topology::copy_loop` meets its contract: the first k places are copied.
 use mathlib.Core.Path.{◌≡◌}
-use Prim.Native.Nat.{ℕ, ◌-◌, ◌≤◌, ◌<◌}
+use Prim.Native.Nat.{ℕ, ◌-◌, ◌<◌}
 use lib.ListN.{length}
 use Rattle.memory.specs.State.{state_of}
 use Rattle.memory.specs.Fields.{seen, path_at}
@@ -10,8 +10,5 @@ use Rattle.topology.proofs.copy_loop.Given as goal
 
 abbrev pub invariant-loop-k : goal.invariant-loop-k
 invariant-loop-k l =
-    (l.k ≤ l.end - l.from) × (length l.work ≡ length l.initial.work) × Frame seen path_at 0 0 (state_of l.a l.l l.initial.work) (state_of l.a l.l l.work)
+    (length l.work ≡ length l.initial.work) × Frame seen path_at 0 0 (state_of l.a l.l l.initial.work) (state_of l.a l.l l.work)
     × ((j : ℕ) → j < l.k → (state_of l.a l.l l.work).act loop_at j ≡ (state_of l.a l.l l.initial.work).act path_at (l.end - 1 - j))
-
-abbrev pub decreases-loop-k : goal.decreases-loop-k
-decreases-loop-k l = l.end - l.from - l.k

@@ -7,15 +7,6 @@ use Rattle.memory.specs.Fields.{waiting}
 use Rattle.topology.specs.Steps.{counted}
 use Rattle.topology.proofs.count_link.Goals as goal
 
-pub put_act-requires : goal.put_act-requires
-put_act-requires c =
-    let x = c.args in
-    let p = c.requires in
-    let S = state_of x.a x.l x.work.now in
-    let e = c.get_link-i.ensures.0 in
-    let n = c.get_act-n.ensures.0 ∙ ap (S.act waiting) e in
-    (omega arith, omega arith, omega arith, omega (arith, n, p.3))
-
 pub returns : goal.returns
 unfolding counted
 returns c =

@@ -17,7 +17,7 @@ pub loop-k-init : goal.loop-k-init
 loop-k-init c =
     let x = c.args in
     let S = state_of x.a x.l x.work.now in
-    (omega arith, refl, frame_refl waiting order_at 0 0 S, counted_start (links_of S x.t) (S.act waiting) c.requires.3)
+    (refl, frame_refl waiting order_at 0 0 S, counted_start (links_of S x.t) (S.act waiting) c.requires.3)
 
 pub count_link-requires : goal.count_link-requires
 count_link-requires c =
@@ -26,8 +26,8 @@ count_link-requires c =
     let x = c.args in
     let S = state_of x.a x.l x.work.now in
     let T = state_of x.a x.l L.work in
-    let e = ap (λ (f : ℕ → ℕ). f L.k) (L.invariant.2.links to_field refl) in
-    let n = L.invariant.3.counts (T.link to_field L.k) in
+    let e = ap (λ (f : ℕ → ℕ). f L.k) (L.invariant.1.links to_field refl) in
+    let n = L.invariant.2.counts (T.link to_field L.k) in
     (omega arith, omega arith, omega (arith, e, p.2.enters L.k (omega arith)), omega (arith, n, into_take_le (links_of S x.t) L.k (T.link to_field L.k)))
 
 pub loop-k-preserved : goal.loop-k-preserved
@@ -39,7 +39,7 @@ loop-k-preserved c =
     let U = state_of x.a x.l c.count_link.new.work in
     let e = c.count_link.ensures.0 in
     let F : Frame waiting order_at 0 0 T U = rw e (counted_frame T L.k) in
-    (omega arith, omega arith, frame_then waiting order_at 0 0 L.invariant.2 F, counted_step S T U x.t L.k (omega arith) L.invariant.2 e L.invariant.3)
+    (omega arith, frame_then waiting order_at 0 0 L.invariant.1 F, counted_step S T U x.t L.k (omega arith) L.invariant.1 e L.invariant.2)
 
 pub returns : goal.returns
 returns c =
@@ -47,5 +47,5 @@ returns c =
     let x = c.args in
     let S = state_of x.a x.l x.work.now in
     let e : L.k ≡ length (links_of S x.t) = omega (arith, links_length S x.t) in
-    let d : Counted (links_of S x.t) ((state_of x.a x.l L.work).act waiting) (length (links_of S x.t)) = rw e at L.invariant.3 in
-    (counted_done (links_of S x.t) d, L.invariant.2, L.invariant.1)
+    let d : Counted (links_of S x.t) ((state_of x.a x.l L.work).act waiting) (length (links_of S x.t)) = rw e at L.invariant.2 in
+    (counted_done (links_of S x.t) d, L.invariant.1, L.invariant.0)

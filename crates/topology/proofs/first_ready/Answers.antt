@@ -1,9 +1,8 @@
 -- `topology::first_ready` meets its contract: the first m activities are looked at.
-use mathlib.Core.Path.{◌≡◌, refl}
+use mathlib.Core.Path.{refl}
 use native.Mathlib.Omega.{arith}
 use Rattle.memory.specs.State.{state_of}
 use Rattle.memory.specs.Fields.{waiting, order_at, seen}
-use Rattle.network.specs.Array.{Filled}
 use Rattle.network.proofs.ProgressEnds.{filled_start, filled_le}
 use Rattle.topology.specs.FrameLaws.{frame_refl, frame_then}
 use Rattle.topology.specs.StepLaws.{readied_frame, readied_filled}
@@ -13,11 +12,11 @@ pub loop-m-init : goal.loop-m-init
 loop-m-init c =
     let x = c.args in
     let S = state_of x.a x.l x.work.now in
-    (omega arith, refl, frame_refl order_at seen 0 0 S, filled_start (S.act waiting) (S.act order_at))
+    (refl, frame_refl order_at seen 0 0 S, filled_start (S.act waiting) (S.act order_at))
 
 pub ready_one-end-requires : goal.ready_one-end-requires
 ready_one-end-requires c =
-    let L = c.loop-m in (omega arith, omega arith, omega (arith, filled_le L.invariant.3))
+    let L = c.loop-m in (omega arith, omega arith, omega (arith, filled_le L.invariant.2))
 
 pub loop-m-preserved : goal.loop-m-preserved
 loop-m-preserved c =
@@ -27,13 +26,4 @@ loop-m-preserved c =
     let U = state_of x.a x.l c.ready_one-end.new.work in
     let q = c.ready_one-end.ensures.0 in
     let r = c.ready_one-end.result in
-    (omega arith, omega arith, frame_then order_at seen 0 0 L.invariant.2 (readied_frame T L.m L.end U r q), readied_filled T L.m L.end U r q L.invariant.3)
-
-pub returns : goal.returns
-returns c =
-    let L = c.loop-m in
-    let x = c.args in
-    let T = state_of x.a x.l L.work in
-    let e : L.m ≡ x.a = omega arith in
-    let f : Filled (T.act waiting) (T.act order_at) x.a L.end = rw e at L.invariant.3 in
-    (f, L.invariant.2, L.invariant.1)
+    (omega arith, frame_then order_at seen 0 0 L.invariant.1 (readied_frame T L.m L.end U r q), readied_filled T L.m L.end U r q L.invariant.2)

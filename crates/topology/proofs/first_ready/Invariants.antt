@@ -1,6 +1,5 @@
 -- `topology::first_ready` meets its contract: the first m activities are looked at.
 use mathlib.Core.Path.{◌≡◌}
-use Prim.Native.Nat.{◌-◌, ◌≤◌}
 use lib.ListN.{length}
 use Rattle.memory.specs.State.{state_of}
 use Rattle.memory.specs.Fields.{waiting, order_at, seen}
@@ -10,8 +9,5 @@ use Rattle.topology.proofs.first_ready.Given as goal
 
 abbrev pub invariant-loop-m : goal.invariant-loop-m
 invariant-loop-m l =
-    (l.m ≤ l.a) × (length l.work ≡ length l.initial.work) × Frame order_at seen 0 0 (state_of l.a l.l l.initial.work) (state_of l.a l.l l.work)
+    (length l.work ≡ length l.initial.work) × Frame order_at seen 0 0 (state_of l.a l.l l.initial.work) (state_of l.a l.l l.work)
     × Filled ((state_of l.a l.l l.work).act waiting) ((state_of l.a l.l l.work).act order_at) l.m l.end
-
-abbrev pub decreases-loop-m : goal.decreases-loop-m
-decreases-loop-m l = l.a - l.m

@@ -1,7 +1,7 @@
 -- `topology::first_waiting` meets its contract: none below i waits.
 use mathlib.Core.Path.{◌≡◌}
 use mathlib.Core.List.{List}
-use Prim.Native.Nat.{◌-◌, ◌≤◌}
+use Prim.Native.Nat.{◌-◌}
 use Rattle.memory.specs.State.{state_of}
 use Rattle.memory.specs.Fields.{waiting}
 use Rattle.network.specs.Links.{Link}
@@ -10,7 +10,4 @@ use Rattle.topology.proofs.first_waiting.Given as goal
 
 abbrev pub invariant-loop-i : goal.invariant-loop-i
 invariant-loop-i l =
-    (l.i ≤ l.a) × ((links : List Link) → first_waiting links ((state_of l.a l.l l.work).act waiting) (l.a - l.i) l.i ≡ first_waiting links ((state_of l.a l.l l.work).act waiting) l.a 0)
-
-abbrev pub decreases-loop-i : goal.decreases-loop-i
-decreases-loop-i l = l.a - l.i
+    ((links : List Link) → first_waiting links ((state_of l.a l.l l.work).act waiting) (l.a - l.i) l.i ≡ first_waiting links ((state_of l.a l.l l.work).act waiting) l.a 0)

@@ -7,13 +7,6 @@ use Rattle.memory.specs.Fields.{waiting}
 use Rattle.topology.specs.Steps.{readied, met}
 use Rattle.topology.proofs.meet_link.Goals as goal
 
-pub overflow_sub-w : goal.overflow_sub-w
-overflow_sub-w c =
-    let x = c.args in
-    let p = c.requires in
-    let S = state_of x.a x.l x.work.now in
-    omega (arith, p.4, c.get_act-w.ensures.0, ap (S.act waiting) c.get_link-j.ensures.0)
-
 pub returns : goal.returns
 unfolding met
 returns c =

@@ -10,12 +10,6 @@ use Rattle.topology.specs.StepLaws.{fill_zero}
 use Rattle.topology.specs.LoopLaws.{stuck_left, named_loop_lem, named_from}
 use Rattle.topology.proofs.name_loop.Goals as goal
 
-pub fill_act-requires : goal.fill_act-requires
-fill_act-requires c = (omega arith, omega arith, omega arith)
-
-pub first_waiting-start-requires : goal.first_waiting-start-requires
-first_waiting-start-requires c = omega (arith, c.fill_act.ensures.1, c.requires.0)
-
 pub walk_back-w-requires : goal.walk_back-w-requires
 walk_back-w-requires c =
     let x = c.args in
@@ -26,14 +20,6 @@ walk_back-w-requires c =
     let e = c.fill_act.ensures in
     let F : Frame seen 10 0 0 S T = rw e.0 (frame_fill seen 10 0 0 seen (omega arith) (omega arith) S x.a 0) in
     (omega (arith, e.1, p.0), p.1, stuck_left F p.2, fill_zero x.a x.l S ys seen e.0, c.first_waiting-start.ensures.1 (links_of T x.t))
-
-pub copy_loop-requires : goal.copy_loop-requires
-copy_loop-requires c =
-    let w = c.walk_back-w.ensures in
-    (omega (arith, w.1, c.fill_act.ensures.1, c.requires.0), omega (arith, w.0.some), w.0.within)
-
-pub shape_of-work : goal.shape_of-work
-shape_of-work c = c.copy_loop.ensures.3 ∙ c.walk_back-w.ensures.1 ∙ c.fill_act.ensures.1
 
 pub returns : goal.returns
 returns c =

@@ -32,9 +32,6 @@ meet_link-r-requires c =
     let m = walk_meets p.3 L.invariant.1 c.loop-k-test.true in
     (omega arith, omega arith, progress_space m, progress_target m, progress_pos m)
 
-pub get_link-k-requires : goal.get_link-k-requires
-get_link-k-requires c = (omega arith, omega arith, omega arith)
-
 pub loop-k-smaller : goal.loop-k-smaller
 loop-k-smaller c =
     let L = c.loop-k in
@@ -58,9 +55,6 @@ loop-k-preserved c =
     let r = c.meet_link-r.result in
     let q = c.meet_link-r.ensures.0 in
     (c.meet_link-r.ensures.1 ∙ L.invariant.0, walk_step p.3 L.invariant.1 U r c.get_link-k.result c.loop-k-test.true q (c.get_link-k.ensures.0 ∙ walk_next p.3 L.invariant.1 U r q))
-
-pub shape_of-work : goal.shape_of-work
-shape_of-work c = c.loop-k.invariant.0
 
 pub returns : goal.returns
 returns c =

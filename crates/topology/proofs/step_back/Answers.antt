@@ -1,32 +1,11 @@
 -- `topology::step_back` meets its contract.
 use mathlib.Core.Path.{◌≡◌, ap, ◌∙◌}
-use native.Mathlib.Omega.{arith}
 use Rattle.memory.specs.State.{State, state_of, put_act}
 use Rattle.memory.specs.Fields.{seen, path_at}
 use Rattle.topology.specs.Frame.{Frame}
 use Rattle.topology.specs.Loop.{passed}
-use Rattle.topology.specs.LoopLaws.{ends_left, chains_left, before_left, passed_frame}
+use Rattle.topology.specs.LoopLaws.{before_left, passed_frame}
 use Rattle.topology.proofs.step_back.Goals as goal
-
-pub put_act-requires : goal.put_act-requires
-put_act-requires c = (omega arith, omega arith, omega arith, omega arith)
-
-pub put_act-requires-2 : goal.put_act-requires-2
-put_act-requires-2 c = (omega arith, omega arith, omega arith, omega arith)
-
-pub waiting_before-requires : goal.waiting_before-requires
-unfolding passed
-waiting_before-requires c =
-    let x = c.args in
-    let p = c.requires in
-    let S = state_of x.a x.l x.work.now in
-    let U = state_of x.a x.l c.put_act-2.new.work in
-    let e : U ≡ passed S x.m x.x = c.put_act-2.ensures.0 ∙ ap (λ (T : State). put_act T path_at x.m x.x) c.put_act.ensures.0 in
-    let F : Frame seen 10 0 0 S U = rw e (passed_frame S x.m x.x) in
-    (omega arith, p.1, p.3, ends_left F p.4, chains_left F p.5)
-
-pub shape_of-work : goal.shape_of-work
-shape_of-work c = c.put_act-2.ensures.1 ∙ c.put_act.ensures.1
 
 pub returns : goal.returns
 unfolding passed

@@ -3,25 +3,13 @@ use mathlib.Core.Path.{ap, ◌∙◌}
 use native.Mathlib.Omega.{arith}
 use Rattle.memory.specs.State.{state_of}
 use Rattle.memory.specs.Fields.{waiting}
-use Rattle.topology.specs.LoopLaws.{looking_start, looking_found, looking_step, looking_later, looking_end}
+use Rattle.topology.specs.LoopLaws.{looking_start, looking_found, looking_step, looking_end}
 use Rattle.topology.proofs.waiting_before.Goals as goal
-
-pub get_act-k-requires : goal.get_act-k-requires
-get_act-k-requires c = (c.requires.0, c.requires.2, omega arith)
 
 pub loop-k-init : goal.loop-k-init
 loop-k-init c =
     let p = c.requires in
     let x = c.args in looking_start p.4 x.x c.get_act-k.result p.2 c.get_act-k.ensures.0
-
-pub get_link-y-requires : goal.get_link-y-requires
-get_link-y-requires c = (c.requires.0, omega arith, omega arith)
-
-pub get_act-requires : goal.get_act-requires
-get_act-requires c =
-    let p = c.requires in
-    let L = c.loop-k in
-    (p.0, omega (arith, c.get_link-y.ensures.0, p.3.leaves L.k c.loop-k-test.true), omega arith)
 
 pub returns-then-get_act-gt0 : goal.returns-then-get_act-gt0
 returns-then-get_act-gt0 c =
@@ -32,15 +20,6 @@ returns-then-get_act-gt0 c =
     let e = c.get_link-y.ensures.0 in
     let w = c.get_act.ensures.0 ∙ ap (S.act waiting) e in
     e ∙ looking_found p.4 L.invariant c.loop-k-test.true (omega (arith, w))
-
-pub get_link-k-requires : goal.get_link-k-requires
-get_link-k-requires c = (c.requires.0, omega arith, omega arith)
-
-pub loop-k-smaller : goal.loop-k-smaller
-loop-k-smaller c =
-    let p = c.requires in
-    let L = c.loop-k in
-    omega (arith, c.get_link-k.ensures.0, looking_later p.4 L.invariant c.loop-k-test.true, c.loop-k-test.true)
 
 pub loop-k-preserved : goal.loop-k-preserved
 loop-k-preserved c =

@@ -16,9 +16,6 @@ get_act-mark-requires c =
     let L = c.loop-a in
     let p = c.requires in (omega arith, going_inside p.2 L.invariant.1, omega arith)
 
-pub shape_of-work-then-mark-gt0 : goal.shape_of-work-then-mark-gt0
-shape_of-work-then-mark-gt0 c = c.loop-a.invariant.0
-
 pub returns-then-mark-gt0 : goal.returns-then-mark-gt0
 returns-then-mark-gt0 c =
     let L = c.loop-a in

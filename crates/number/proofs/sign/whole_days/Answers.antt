@@ -1,6 +1,5 @@
 -- `number::sign::whole_days` meets its contract.
 use mathlib.Core.Path.{sym}
-use native.Mathlib.Omega.{arith}
 use mir.Facts.{to_z-of_z, to_z_pos}
 use mir.Syntax.{w64}
 use Rattle.number.specs.QuotLaws.{quot_fits}
@@ -9,14 +8,6 @@ use Rattle.number.proofs.sign.whole_days.Goals as goal
 
 pub returns-then-day_length-eq0 : goal.returns-then-day_length-eq0
 returns-then-day_length-eq0 c = rw (to_z-of_z c.ranges.minutes) (sym (days_of_zero c.args.minutes c.args.day_length c.if-day_length-eq0.true))
-
-pub overflow_cast-result : goal.overflow_cast-result
-overflow_cast-result c = record { sfits = c.requires }
-
-pub nonzero_div-result : goal.nonzero_div-result
-nonzero_div-result c =
-    let s = c.before in
-    rw (to_z-of_z s.ranges.minutes, to_z_pos w64 s.requires) (omega (arith, c.if-day_length-eq0.false), quot_fits w64 s.args.minutes s.args.day_length s.ranges.minutes)
 
 pub returns : goal.returns
 returns c =

@@ -1,5 +1,4 @@
 -- `project::fields::read_constraint` meets its contract.
-use borrow.Author.Rules.{rules}
 use mathlib.Core.Path.{◌∙◌}
 use Rattle.project.specs.Records.{constraint_of}
 use Rattle.project.proofs.fields.read_constraint.Goals as goal

@@ -1,5 +1,4 @@
 -- `project::fields::read_date` meets its contract.
-use borrow.Author.Rules.{rules}
 use mathlib.Core.Path.{◌∙◌}
 use mir.Facts.{to_z-of_z}
 use mir.Syntax.{w32}

@@ -10,4 +10,4 @@ byte-requires c = omega (arith, c.requires.header.within)
 
 pub returns : goal.returns
 unfolding plan_of project_at
-returns c = c.lag_calendar_of.ensures ∙ ap lag_calendar_of c.byte.ensures.0
+returns c = c.from.ensures ∙ ap lag_calendar_of c.byte.ensures.0

@@ -1,8 +1,0 @@
--- `project::records::read_parent` meets its contract.
-use borrow.Author.Rules.{rules}
-use Rattle.project.specs.Records.{activity_at}
-use Rattle.project.proofs.records.read_parent.Goals as goal
-
-pub returns : goal.returns
-unfolding activity_at
-returns c = c.read_u32.ensures
