@@ -1,9 +1,7 @@
 -- `rank`, `select`, `next_in` and `works` a period at a time, as a loop over a day's periods goes.
-use Rattle.std.specs.Prelude.{◌≡◌, Bool, true, false, List, [], ◌∷◌, ℕ, zero, suc, ◌+◌, ◌-◌, min, max, ◌≤◌, ◌<◌, get_or, length, drop}
+use Rattle.std.specs.Prelude.{Option, Some, None, ◌≡◌, Bool, true, false, List, [], ◌∷◌, ℕ, zero, suc, ◌+◌, ◌-◌, min, max, ◌≤◌, ◌<◌, get_or, length, drop}
 use Rattle.std.proofs.Common.{sym, ◌∙◌, arith, add-one, drop_of_length-le, drop-cons}
 use Rattle.calendar.specs.declared.Period.{Period}
-use Rattle.calendar.specs.declared.Found.{Found}
-use Rattle.calendar.specs.declared.Found.TheVariants.{At, Nothing}
 use Rattle.calendar.specs.Hours.{none, Ordered, rank, select, next_in, works}
 use Rattle.calendar.specs.HoursLaws.{select_in, select_past, next_in_lem, next_past, works_here, works_rest}
 
@@ -22,17 +20,17 @@ ordered_end a [] i o = omega arith
 ordered_end a (p ∷ ps) zero o = o.0
 ordered_end a (p ∷ ps) (suc i) o = ordered_end (max a p.to) ps i o.2
 
-module _ (ps : List Period) (i m : ℕ) (r : Found) (inv : next_in (drop i ps) m ≡ r) (p : Period) (e : p ≡ get_or ps i none) (h : i < length ps) where
+module _ (ps : List Period) (i m : ℕ) (r : Option ℕ) (inv : next_in (drop i ps) m ≡ r) (p : Period) (e : p ≡ get_or ps i none) (h : i < length ps) where
   next_head : next_in (p ∷ drop (i + 1) ps) m ≡ r
   next_head = rw (e, add-one) (rw (drop-cons ps i none) at inv)
 
-  pub next_here : m < p.to → At (max m p.from) ≡ r
+  pub next_here : m < p.to → Some (max m p.from) ≡ r
   next_here t = sym (next_in_lem p (drop (i + 1) ps) m t) ∙ next_head
 
   pub next_skip : p.to ≤ m → next_in (drop (i + 1) ps) m ≡ r
   next_skip t = sym (next_past p (drop (i + 1) ps) m t) ∙ next_head
 
-pub next_end : (ps : List Period) (i m : ℕ) (r : Found) → next_in (drop i ps) m ≡ r → length ps ≤ i → Nothing ≡ r
+pub next_end : (ps : List Period) (i m : ℕ) (r : Option ℕ) → next_in (drop i ps) m ≡ r → length ps ≤ i → None ≡ r
 unfolding next_in
 next_end ps i m r inv h = rw (drop_of_length-le ps h) at inv
 

@@ -1,5 +1,5 @@
 -- The week of the W records, a record at a time, as a loop over them goes; weekly hours; and the round-the-clock week.
-use Rattle.std.specs.Prelude.{◌≡◌, true, false, ◌⊎◌, List, [], ◌∷◌, ◌++◌, length, get_or, set, drop, replicate}
+use Rattle.std.specs.Prelude.{◌≡◌, true, false, List, [], ◌∷◌, ◌++◌, length, get_or, set, drop, replicate}
 use Rattle.std.proofs.Math.Path.{refl}
 use Rattle.std.proofs.Common.{sym, ap, ◌∙◌, true≢false, ⊎_elim, append_assoc, arith, add-zero, add-one, length-set, length-append, drop_of_length-le, ext_get_or, drop-cons, get_or-set_same, get_or-set_other}
 use Prim.Native.Nat.{ℕ, zero, suc, ◌+◌, ◌-◌, ◌≤◌, ◌<◌}

@@ -2,7 +2,6 @@
 use Rattle.std.specs.Prelude.{◌≡◌, Bool, true, ℕ, ◌+◌, ◌-◌, ◌≤◌, ◌<◌}
 use Rattle.std.proofs.Common.{sym, ◌∙◌, ⊎_elim, arith}
 use Rattle.number.specs.Order.{lt_or_le}
-use Rattle.worktime.specs.declared.Walk.{Walk}
 use Rattle.worktime.specs.declared.Walk.TheVariants.{Refused}
 use Rattle.worktime.specs.Worked.{count}
 use Rattle.worktime.specs.Walks.{too_long, first_minute, end_minute, advance, retreat}

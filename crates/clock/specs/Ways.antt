@@ -1,5 +1,5 @@
 -- The walks that first ask whether a minute is worked: what that answer makes of them.
-use Rattle.std.specs.Prelude.{◌≡◌, refl, Bool, true, false, ℕ, ◌+◌, ◌-◌, ◌*◌, ◌/◌, ◌≤◌, ◌<◌, ℤ, pos, negsuc}
+use Rattle.std.specs.Prelude.{◌≡◌, Bool, true, false, ℕ, ◌-◌, ◌≤◌, ◌<◌, ℤ, pos, negsuc}
 use Rattle.std.proofs.Common.{sym, ap, ◌∙◌, arith}
 use Rattle.number.specs.Zed.{up, dn}
 use Rattle.worktime.specs.declared.Walk.{Walk}
@@ -8,7 +8,7 @@ use Rattle.worktime.specs.declared.Working.{Working}
 use Rattle.worktime.specs.declared.Working.TheVariants.{Is}
 use Rattle.worktime.specs.Worked.{closing}
 use Rattle.worktime.specs.Count.{closing_before}
-use Rattle.worktime.specs.Walks.{too_long, first_minute, end_minute, next_start, previous_finish, next_finish, working_at, previous_start, start_by, minute_before, advance, retreat, shift}
+use Rattle.worktime.specs.Walks.{first_minute, end_minute, next_start, previous_finish, next_finish, working_at, previous_start, start_by, minute_before, advance, retreat, shift}
 use Rattle.worktime.specs.Reads.{minute_range}
 use Rattle.worktime.proofs.Answers.{working_at_sound, working_at_why, next_start_worked, next_start_out, next_finish_closing, next_finish_else, next_finish_out_before, previous_start_next, start_by_worked, start_by_else, start_by_out}
 use Rattle.worktime.proofs.Shift.{shift_forward, shift_back}

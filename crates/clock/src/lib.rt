@@ -10,7 +10,7 @@ ghost use Rattle.clock.specs.On.{worked_on};
 ghost use Rattle.worktime.specs.Worked.{count};
 ghost use Rattle.worktime.specs.Walks.{end_minute, next_start, previous_finish, next_finish, working_at, previous_start, start_by, advance, retreat, shift, between, day_work, worked_before};
 
-use calendar::{Found, Period};
+use calendar::Period;
 use worktime::{Walk, Work, Working};
 
 mod records;
@@ -41,12 +41,12 @@ pub fn next_start(week: [[Period; 8]; 7], sheet: &[u8], at: usize, n: usize, t: 
         let row = week[((d + 1) % 7) as usize];
         let hours = calendar::hours_from(row, sheet, at, n, d, from);
         match calendar::day_next(hours, sheet, m) {
-            Found::At(x) => {
+            Some(x) => {
                 return Walk::At(d * 1440 + x);
             }
-            Found::Nothing => {}
+            None => {}
         }
-        from += hours.n;
+        from += hours.exceptions();
         d += 1;
         m = 0;
     }
@@ -71,7 +71,7 @@ pub fn previous_finish(week: [[Period; 8]; 7], sheet: &[u8], at: usize, n: usize
         if 0 < done {
             return Walk::At(d * 1440 + calendar::day_select(hours, sheet, done));
         }
-        to -= hours.n;
+        to -= hours.exceptions();
         d -= 1;
         m = 1440;
     }
@@ -94,13 +94,13 @@ pub fn working_at(week: [[Period; 8]; 7], sheet: &[u8], at: usize, n: usize, t: 
     let row = week[((d + 1) % 7) as usize];
     let hours = calendar::hours_on(row, sheet, at, n, d);
     match calendar::day_next(hours, sheet, m) {
-        Found::At(x) => {
+        Some(x) => {
             if x == m {
                 return Working::Is(true);
             }
             Working::Is(false)
         }
-        Found::Nothing => Working::Is(false),
+        None => Working::Is(false),
     }
 }
 
@@ -366,8 +366,7 @@ fn days_work(
     let sums = weeks::sums_of(week);
     let mut sum = weeks::regular_work(sums, d, e);
     let mut next = d;
-    let mut j = from;
-    while j < n {
+    for j in from..n {
         let day = calendar::exception_day(sheet, at, j);
         if e <= day {
             return Days {
@@ -381,11 +380,10 @@ fn days_work(
         let out = if next <= day { 0 } else { regular };
         sum = sum + calendar::exception_work(sheet, at, j) + out - regular;
         next = day + 1;
-        j += 1;
     }
     Days {
         minutes: sum,
-        to: j,
+        to: n,
     }
 }
 

@@ -9,7 +9,7 @@ ghost use Rattle.project.specs.Status.{on_start};
 ghost use Rattle.placing.specs.Placing.{midnight_of, moment_of, day_start, constraint_time, actual};
 
 use crate::{Actual, Moment};
-use calendar::{Found, Period};
+use calendar::Period;
 use date::Date;
 use project::{Activity, Constraint, End, OptionalDate};
 use worktime::Walk;
@@ -24,10 +24,10 @@ fn start_of_day(week: [[Period; 8]; 7], sheet: &[u8], at: usize, n: usize, day: 
     if date::in_years(d) {
         let hours = calendar::periods_on(week, sheet, at, n, d);
         match calendar::day_next(hours, sheet, 0) {
-            Found::At(m) => {
+            Some(m) => {
                 return Walk::At(t + m);
             }
-            Found::Nothing => {
+            None => {
                 return Walk::At(t);
             }
         }

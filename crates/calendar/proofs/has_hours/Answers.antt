@@ -1,25 +1,13 @@
 -- `calendar::has_hours` meets its contract. No weekday passed has hours.
-use mathlib.Core.Path.{◌≡◌, refl, sym, ◌∙◌}
-use Prim.Native.Nat.{◌≤◌, ◌-◌}
-use native.Mathlib.Omega.{arith}
-use borrow.Author.Rules.{rules}
-use lib.ListN.{drop}
-use Rattle.calendar.specs.Records.{weekly_hours}
+use Rattle.std.proofs.Common.{sym, ◌∙◌, arith}
 use Rattle.calendar.specs.WeekLaws.{weekly_found, weekly_skip, weekly_end}
 use Rattle.calendar.proofs.has_hours.Goals as goal
 
-pub loop-k-init : goal.loop-k-init
-loop-k-init c = (omega arith, refl)
+pub returns-then-works_in : goal.returns-then-works_in
+returns-then-works_in c = sym (weekly_found _ c.loop-row.row-index (omega arith) (sym c.works_in.ensures ∙ c.if-works_in.true)) ∙ c.loop-row.invariant
 
-pub returns-then-row_works : goal.returns-then-row_works
-returns-then-row_works c =
-    let l = c.before.before.before.before in
-    sym (weekly_found _ l.loop-k.k (omega arith) (sym c.row_works.ensures ∙ c.if-row_works.true)) ∙ l.loop-k.invariant.1
-
-pub loop-k-preserved : goal.loop-k-preserved
-loop-k-preserved c =
-    let l = c.before.before.before.before in
-    (omega arith, sym (weekly_skip _ l.loop-k.k (omega arith) (sym c.row_works.ensures ∙ c.if-row_works.false)) ∙ l.loop-k.invariant.1)
+pub loop-row-preserved : goal.loop-row-preserved
+loop-row-preserved c = sym (weekly_skip _ c.loop-row.row-index (omega arith) (sym c.works_in.ensures ∙ c.if-works_in.false)) ∙ c.loop-row.invariant
 
 pub returns : goal.returns
-returns c = let l = c.before in sym (weekly_end _ l.loop-k.k (omega arith)) ∙ l.loop-k.invariant.1
+returns c = sym (weekly_end _ c.loop-row.row-index (omega arith)) ∙ c.loop-row.invariant
