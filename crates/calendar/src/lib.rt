@@ -83,12 +83,7 @@ pub fn round_the_clock() -> [[Period; 8]; 7]
 pub fn has_hours(week: [[Period; 8]; 7]) -> bool
     ensures { result ≡ weekly_hours week }
 {
-    for row in week {
-        if works_in(&row) {
-            return true;
-        }
-    }
-    false
+    week.iter().any(|row| works_in(row))
 }
 
 // The day of E record `i`.
@@ -131,6 +126,7 @@ fn guess(sheet: &[u8], at: usize, n: usize, d: u64) -> usize
 }
 
 // The first of the `n` E records from `at` on whose day is `d` or later, where it is one of those from `low` up to `high`, or `high`.
+// Halved by hand: std's `partition_point` searches a slice, and the records are bytes of the sheet, which the C interface lends.
 fn first_between(sheet: &[u8], at: usize, n: usize, d: u64, low: usize, high: usize) -> usize
     requires { Listed sheet.now at n × (low ≤ high) × (high ≤ n) × ((j : ℕ) → j < low → exception_day sheet.now at j < d) × ((j : ℕ) → high ≤ j → j < n → d ≤ exception_day sheet.now at j) }
     ensures { FirstFrom sheet.now at n d result }
@@ -205,6 +201,7 @@ fn first_after(sheet: &[u8], at: usize, n: usize, d: u64, from: usize) -> usize
 }
 
 // The first of the `n` E records from `at` on whose day is `d` or later, where `to` is the first whose day is after `d`.
+// It mirrors `first_after`: one function with the direction as an argument would be no plainer.
 fn first_back(sheet: &[u8], at: usize, n: usize, d: u64, to: usize) -> usize
     requires { Listed sheet.now at n × FirstFrom sheet.now at n (d + 1) to }
     ensures { FirstFrom sheet.now at n d result }
@@ -268,7 +265,7 @@ pub fn periods_on(week: [[Period; 8]; 7], sheet: &[u8], at: usize, n: usize, d: 
     hours_on(row, sheet, at, n, d)
 }
 
-// Periods in their order: a row, or the E records of a day.
+// Periods in their order: a row, or the E records of a day. What is asked of either is one loop over their places, compiled for each.
 trait Periods {
     ghost use Rattle.calendar.specs.declared.Period.{Period};
 
@@ -320,13 +317,10 @@ impl<'a> Periods for DayRecords<'a> {
 fn works_in<P: Periods>(periods: &P) -> bool
     ensures { result ≡ works (P.list periods.now) }
 {
-    for i in 0..periods.count() {
+    (0..periods.count()).any(|i| {
         let p = periods.period(i);
-        if p.from < p.to {
-            return true;
-        }
-    }
-    false
+        p.from < p.to
+    })
 }
 
 // Whether some period of the hours holds a minute.

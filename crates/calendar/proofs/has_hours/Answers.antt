@@ -1,13 +1,11 @@
--- `calendar::has_hours` meets its contract. No weekday passed has hours.
-use Rattle.std.proofs.Common.{sym, ◌∙◌, arith}
-use Rattle.calendar.specs.WeekLaws.{weekly_found, weekly_skip, weekly_end}
+-- `calendar::has_hours` meets its contract: its search is that of the definition.
+use Rattle.std.proofs.Common.{◌∙◌, rules, tests}
+use Rattle.std.proofs.lemmas.Iterator.{YieldsList-from_slice}
+use Rattle.std.proofs.lemmas.Iterator.Search.{any_from_yields_List}
+use Rattle.calendar.specs.Hours.{works}
+use Rattle.calendar.specs.WeekLaws.{weekly_any}
 use Rattle.calendar.proofs.has_hours.Goals as goal
 
-pub returns-then-works_in : goal.returns-then-works_in
-returns-then-works_in c = sym (weekly_found _ c.loop-row.row-index (omega arith) (sym c.works_in.ensures ∙ c.if-works_in.true)) ∙ c.loop-row.invariant
-
-pub loop-row-preserved : goal.loop-row-preserved
-loop-row-preserved c = sym (weekly_skip _ c.loop-row.row-index (omega arith) (sym c.works_in.ensures ∙ c.if-works_in.false)) ∙ c.loop-row.invariant
-
 pub returns : goal.returns
-returns c = sym (weekly_end _ c.loop-row.row-index (omega arith)) ∙ c.loop-row.invariant
+returns c =
+    any_from_yields_List works _ _ _ c.any.ensures.ran (YieldsList-from_slice c.args.week cc) (λ x b q k. search (rules, tests)) ∙ weekly_any c.args.week
