@@ -62,6 +62,7 @@ pub fn ahead(
 }
 
 // Back from the beginning of day `d`; `from` is the first record whose day is `d` or later. It stops after the record at whose beginning `work` minutes are passed.
+// It mirrors `ahead`: one function with the direction as an argument would test it at each record, and is no plainer.
 pub fn back(
     sums: [u64; 8],
     sheet: &[u8],
