@@ -1,8 +1,6 @@
 -- The hours of a day: which minutes its periods hold, how many stand before one, and which is the first that does.
-use Rattle.std.specs.Prelude.{Bool, true, false, ◌&&◌, ◌||◌, List, [], ◌∷◌, ℕ, ◌+◌, ◌-◌, ◌*◌, ◌/◌, ◌%◌, ◌≤◌, ◌<◌, min, max, ltb, leb}
+use Rattle.std.specs.Prelude.{Option, Some, None, Bool, true, false, ◌&&◌, ◌||◌, List, [], ◌∷◌, ℕ, ◌+◌, ◌-◌, ◌/◌, ◌%◌, ◌≤◌, ◌<◌, min, max, ltb, leb}
 use Rattle.calendar.specs.declared.Period.{Period}
-use Rattle.calendar.specs.declared.Found.{Found}
-use Rattle.calendar.specs.declared.Found.TheVariants.{At, Nothing}
 
 -- a period that holds no minute
 abbrev pub none : Period
@@ -37,9 +35,9 @@ select [] k = 0
 select (p ∷ ps) k = elim (leb k (p.to - p.from)) [ true ↦ p.from + k | false ↦ select ps (k - (p.to - p.from)) ]
 
 -- the first worked minute of the day at or after minute m: in the first period that ends after m
-unfoldable pub next_in : List Period → ℕ → Found
-next_in [] m = Nothing
-next_in (p ∷ ps) m = elim (ltb m p.to) [ true ↦ At (max m p.from) | false ↦ next_in ps m ]
+unfoldable pub next_in : List Period → ℕ → Option ℕ
+next_in [] m = None
+next_in (p ∷ ps) m = elim (ltb m p.to) [ true ↦ Some (max m p.from) | false ↦ next_in ps m ]
 
 -- some period holds a minute
 unfoldable pub works : List Period → Bool

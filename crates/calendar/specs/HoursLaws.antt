@@ -1,11 +1,9 @@
 -- Laws of a day's hours in order: which minutes they hold, and what `rank`, `select` and `next_in` say of them.
-use Rattle.std.specs.Prelude.{◌≡◌, refl, true, false, ◌⊎◌, List, [], ◌∷◌, ℕ, ◌+◌, ◌-◌, min, max, ◌≤◌, ◌<◌}
+use Rattle.std.specs.Prelude.{Option, Some, None, ◌≡◌, refl, true, false, ◌⊎◌, List, [], ◌∷◌, ℕ, ◌+◌, ◌-◌, min, max, ◌≤◌, ◌<◌}
 use Rattle.std.proofs.Common.{sym, ◌∙◌, true≢false, inl, inr, ⊎_elim, arith, lt-ltb, le-ltb, le-leb}
 use Rattle.std.proofs.lemmas.Bool.{lt-leb}
 use Rattle.number.specs.Order.{lt_or_le, cases}
 use Rattle.calendar.specs.declared.Period.{Period}
-use Rattle.calendar.specs.declared.Found.{Found}
-use Rattle.calendar.specs.declared.Found.TheVariants.{At, Nothing}
 use Rattle.calendar.specs.Hours.{holds, held, Ordered, rank, select, next_in, works}
 
 -- ---- one period
@@ -159,7 +157,7 @@ select_day ps k o x y = let r = select_rank 0 ps k o x y in (r.low, r.high)
 
 -- ---- next_in, a period at a time
 module _ (p : Period) (ps : List Period) (m : ℕ) where
-  pub next_in_lem : m < p.to → next_in (p ∷ ps) m ≡ At (max m p.from)
+  pub next_in_lem : m < p.to → next_in (p ∷ ps) m ≡ Some (max m p.from)
   unfolding next_in
   next_in_lem l = rw (lt-ltb m p.to l, next_in)
 
@@ -167,19 +165,19 @@ module _ (p : Period) (ps : List Period) (m : ℕ) where
   unfolding next_in
   next_past l = rw (le-ltb m p.to l, next_in)
 
-pub next_nil : (m : ℕ) → next_in [] m ≡ Nothing
+pub next_nil : (m : ℕ) → next_in [] m ≡ None
 unfolding next_in
 next_nil m = refl
 
 -- ---- what next_in finds: the first minute held at or after m
-abbrev pub NextIn : List Period → ℕ → Found → Type 0
-NextIn ps m (At s) = (m ≤ s) × (s < 1440) × (held ps s ≡ true) × ((u : ℕ) → m ≤ u → held ps u ≡ true → s ≤ u)
-NextIn ps m Nothing = (u : ℕ) → m ≤ u → held ps u ≡ true → ⊥
+abbrev pub NextIn : List Period → ℕ → Option ℕ → Type 0
+NextIn ps m (Some s) = (m ≤ s) × (s < 1440) × (held ps s ≡ true) × ((u : ℕ) → m ≤ u → held ps u ≡ true → s ≤ u)
+NextIn ps m None = (u : ℕ) → m ≤ u → held ps u ≡ true → ⊥
 
-least_past : (p : Period) (ps : List Period) (m : ℕ) (r : Found) → p.to ≤ m → NextIn ps m r → NextIn (p ∷ ps) m r
-least_past p ps m (At s) t n =
+least_past : (p : Period) (ps : List Period) (m : ℕ) (r : Option ℕ) → p.to ≤ m → NextIn ps m r → NextIn (p ∷ ps) m r
+least_past p ps m (Some s) t n =
     (n.0, n.1, held_later p ps s n.2, λ u l w. ⊎_elim (λ h. omega arith) (n.3 u l) (held_cases p ps u w))
-least_past p ps m Nothing t n = λ u l w. ⊎_elim (λ h. omega arith) (n u l) (held_cases p ps u w)
+least_past p ps m None t n = λ u l w. ⊎_elim (λ h. omega arith) (n u l) (held_cases p ps u w)
 
 pub next_least : (a : ℕ) (ps : List Period) (m : ℕ) → Ordered a ps → NextIn ps m (next_in ps m)
 next_least a [] m o = rw (next_nil m) (λ u l w. held_nil u w)
@@ -199,10 +197,10 @@ next_least a (p ∷ ps) m o = ⊎_elim ended (past (next_least (max a p.to) ps m
               ⊎_elim (λ h. omega arith) (λ h. let q = held_from (max a p.to) ps u o.2 h in omega arith) (held_cases p ps u w),
         )
 
-pub next_at : (ps : List Period) (m s : ℕ) → Ordered 0 ps → next_in ps m ≡ At s → NextIn ps m (At s)
+pub next_at : (ps : List Period) (m s : ℕ) → Ordered 0 ps → next_in ps m ≡ Some s → NextIn ps m (Some s)
 next_at ps m s o e = rw e at (next_least 0 ps m o)
 
-pub next_nothing : (ps : List Period) (m : ℕ) → Ordered 0 ps → next_in ps m ≡ Nothing → NextIn ps m Nothing
+pub next_nothing : (ps : List Period) (m : ℕ) → Ordered 0 ps → next_in ps m ≡ None → NextIn ps m None
 next_nothing ps m o e = rw e at (next_least 0 ps m o)
 
 -- ---- a day works exactly where some minute of it is held

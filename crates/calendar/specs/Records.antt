@@ -1,5 +1,5 @@
 -- A calendar as the sheet's W and E records give it: n records from the byte `at` on, each with its byte of kind first.
-use Rattle.std.specs.Prelude.{◌≡◌, Bool, true, false, List, [], ◌∷◌, ◌++◌, ℕ, zero, suc, ◌+◌, ◌-◌, ◌*◌, ◌%◌, ◌≤◌, ◌<◌, eqb, length, get_or, replicate}
+use Rattle.std.specs.Prelude.{◌≡◌, Bool, true, false, List, [], ◌∷◌, ◌++◌, ℕ, zero, suc, ◌+◌, ◌-◌, ◌*◌, ◌≤◌, ◌<◌, eqb, length, get_or, replicate}
 use Rattle.date.specs.Days.{weekday}
 use Rattle.number.specs.Bytes.{byte_at, u16_at, biased_at}
 use Rattle.calendar.specs.declared.Period.{Period}

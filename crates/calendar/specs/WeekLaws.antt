@@ -1,11 +1,12 @@
 -- The week of the W records, a record at a time, as a loop over them goes; weekly hours; and the round-the-clock week.
-use Rattle.std.specs.Prelude.{◌≡◌, true, false, ◌⊎◌, List, [], ◌∷◌, ◌++◌, length, get_or, set, drop, replicate}
+use Rattle.std.specs.Prelude.{◌≡◌, true, false, List, [], ◌∷◌, ◌++◌, length, get_or, set, replicate}
 use Rattle.std.proofs.Math.Path.{refl}
-use Rattle.std.proofs.Common.{sym, ap, ◌∙◌, true≢false, ⊎_elim, append_assoc, arith, add-zero, add-one, length-set, length-append, drop_of_length-le, ext_get_or, drop-cons, get_or-set_same, get_or-set_other}
+use Rattle.std.proofs.Common.{sym, ap, ◌∙◌, true≢false, ⊎_elim, append_assoc, arith, add-zero, add-one, length-set, length-append, ext_get_or, get_or-set_same, get_or-set_other}
 use Prim.Native.Nat.{ℕ, zero, suc, ◌+◌, ◌-◌, ◌≤◌, ◌<◌}
 use borrow.Author.Tests.{eq-eqb, ne_eqb}
 use Rattle.std.proofs.lemmas.List.{length-replicate, get_or-replicate}
 use Rattle.std.proofs.Math.Seq.{set-append_seam}
+use Rattle.std.specs.List.{list_any}
 use Rattle.number.specs.Order.{eq_or_ne, cases}
 use Rattle.calendar.specs.declared.Period.{Period}
 use Rattle.calendar.specs.Hours.{none, held, Ordered, works}
@@ -167,20 +168,11 @@ row_of [] e = absurd (true≢false (sym e ∙ weekly_none))
 row_of (r ∷ rs) e =
     ⊎_elim (λ h. (0, omega arith, h)) (λ h. let s = row_of rs (sym (weekly_rest r rs h) ∙ e) in (suc s.0, omega (arith, s.1), s.2)) (cases (works r))
 
--- as a loop over the weekdays goes
-module _ (week : List (List Period)) (k : ℕ) where
-  pub weekly_end : length week ≤ k → weekly_hours (drop k week) ≡ false
-  weekly_end h = rw (drop_of_length-le week h) weekly_none
-
-  module _ (h : k < length week) where
-    head : weekly_hours (drop k week) ≡ weekly_hours (get_or week k [] ∷ drop (k + 1) week)
-    head = rw (add-one, drop-cons week k [])
-
-    pub weekly_found : works (get_or week k []) ≡ true → weekly_hours (drop k week) ≡ true
-    weekly_found e = head ∙ weekly_here (get_or week k []) (drop (k + 1) week) e
-
-    pub weekly_skip : works (get_or week k []) ≡ false → weekly_hours (drop k week) ≡ weekly_hours (drop (k + 1) week)
-    weekly_skip e = head ∙ weekly_rest (get_or week k []) (drop (k + 1) week) e
+-- as a search among the weekdays goes
+pub weekly_any : (week : List (List Period)) → list_any works week ≡ weekly_hours week
+unfolding weekly_hours
+weekly_any [] = refl
+weekly_any (r ∷ rs) = ⊎_elim (λ (h : works r ≡ true). rw (h, weekly_hours)) (λ (h : works r ≡ false). rw (h, weekly_hours) (weekly_any rs)) (cases (works r))
 
 -- ---- round the clock
 abbrev pub whole_day : List Period

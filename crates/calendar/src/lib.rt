@@ -3,10 +3,10 @@
 
 ghost use Rattle.std.specs.Prelude.{◌≡◌, List, ℕ, ◌+◌, ◌-◌, ◌*◌, ◌^◌, min, max, ◌≤◌, ◌<◌, length, get_or};
 ghost use Rattle.calendar.specs.Hours.{none, rank, select, next_in, works, Ordered};
-ghost use Rattle.calendar.specs.Records.{week_periods, week_period_at, pad, week_of, round_the_clock, weekly_hours, exception_day, exception_period, hours_on, Valid, periods_of, Within, FirstFrom, Listed, InHand};
+ghost use Rattle.calendar.specs.Records.{week_periods, week_period_at, pad, week_of, round_the_clock, weekly_hours, exception_day, exception_period, hours_on, Valid, record_periods, periods_of, Within, FirstFrom, Listed, InHand};
 
 // A work period within a day: from and to, in minutes after midnight.
-#[derive(Clone, Copy)]
+#[derive(Clone, Copy, PartialEq, Eq, Debug)]
 pub struct Period {
     pub from: u16,
     pub to: u16,
@@ -22,18 +22,12 @@ const MANY_RECORDS: usize = 65536;
 const NEAR: usize = 8;
 
 // The hours of a day: its weekday's row, or where its `n` E records stand if it has any.
+// An enum of the two was tried, and it was slower: the row shared its bytes with `at` and `n`, and was put together again from parts.
 #[derive(Clone, Copy)]
 pub struct Hours {
     pub row: [Period; 8],
     pub at: usize,
     pub n: usize,
-}
-
-// A minute of the day, if there is one.
-#[derive(Clone, Copy)]
-pub enum Found {
-    At(u64),
-    Nothing,
 }
 
 // The period of W record `i`.
@@ -54,57 +48,32 @@ pub fn read_week(sheet: &[u8], at: usize, n: usize) -> [[Period; 8]; 7]
 {
     let mut week = [[Period { from: 0, to: 0 }; 8]; 7];
     let mut counts = [0 as usize; 7];
-    let mut i: usize = 0;
-    while i < n {
+    for i in 0..n {
         let k = sheet[at + 6 * i + 1] as usize;
         if k < 7 {
             let c = counts[k];
             week[k][c] = week_period(sheet, at, i);
             counts[k] = c + 1;
         }
-        i += 1;
     }
     week
 }
 
 // The week of the round-the-clock calendar.
+#[tactic(auto, unfolding(crate::specs::Records::round_the_clock))]
 pub fn round_the_clock() -> [[Period; 8]; 7]
     ensures { result ≡ round_the_clock }
 {
     let mut row = [Period { from: 0, to: 0 }; 8];
     row[0] = Period { from: 0, to: 1440 };
-    let week = [row; 7];
-    week
-}
-
-// Whether some period of a row holds a minute.
-fn row_works(row: [Period; 8]) -> bool
-    ensures { result ≡ works row }
-{
-    let mut i: usize = 0;
-    while i < PERIODS {
-        let p = row[i];
-        if p.from < p.to {
-            return true;
-        }
-        i += 1;
-    }
-    false
+    [row; 7]
 }
 
 // Whether some weekday has hours: what a calendar of 01 must have.
 pub fn has_hours(week: [[Period; 8]; 7]) -> bool
     ensures { result ≡ weekly_hours week }
 {
-    let mut k: usize = 0;
-    while k < 7 {
-        let row = week[k];
-        if row_works(row) {
-            return true;
-        }
-        k += 1;
-    }
-    false
+    week.iter().any(|row| works_in(row))
 }
 
 // The day of E record `i`.
@@ -147,6 +116,7 @@ fn guess(sheet: &[u8], at: usize, n: usize, d: u64) -> usize
 }
 
 // The first of the `n` E records from `at` on whose day is `d` or later, where it is one of those from `low` up to `high`, or `high`.
+// Halved by hand: std's `partition_point` searches a slice, and the records are bytes of the sheet, which the C interface lends.
 fn first_between(sheet: &[u8], at: usize, n: usize, d: u64, low: usize, high: usize) -> usize
     requires { Listed sheet.now at n × (low ≤ high) × (high ≤ n) × ((j : ℕ) → j < low → exception_day sheet.now at j < d) × ((j : ℕ) → high ≤ j → j < n → d ≤ exception_day sheet.now at j) }
     ensures { FirstFrom sheet.now at n d result }
@@ -169,15 +139,13 @@ fn first_past(sheet: &[u8], at: usize, n: usize, d: u64, start: usize) -> usize
     requires { Listed sheet.now at n × (start < n) × (exception_day sheet.now at start < d) }
     ensures { FirstFrom sheet.now at n d result }
 {
-    let end = if n - start < NEAR { n } else { start + NEAR };
-    let mut i = start + 1;
-    while i < end {
+    let end = n.min(start + NEAR);
+    for i in start + 1..end {
         if d <= exception_day(sheet, at, i) {
             return i;
         }
-        i += 1;
     }
-    first_between(sheet, at, n, d, i, n)
+    first_between(sheet, at, n, d, end, n)
 }
 
 // The same where the day of record `start` is `d` or later: it or one of the last before it, or else searched for.
@@ -185,15 +153,13 @@ fn first_up_to(sheet: &[u8], at: usize, n: usize, d: u64, start: usize) -> usize
     requires { Listed sheet.now at n × (start < n) × (d ≤ exception_day sheet.now at start) }
     ensures { FirstFrom sheet.now at n d result }
 {
-    let end = if start < NEAR { 0 } else { start - NEAR };
-    let mut i = start;
-    while end < i {
-        if exception_day(sheet, at, i - 1) < d {
-            return i;
+    let end = start.saturating_sub(NEAR);
+    for i in (end..start).rev() {
+        if exception_day(sheet, at, i) < d {
+            return i + 1;
         }
-        i -= 1;
     }
-    first_between(sheet, at, n, d, 0, i)
+    first_between(sheet, at, n, d, 0, end)
 }
 
 // The first of the `n` E records from `at` on whose day is `d` or later. It is mostly near the guess, where a look at each costs less than halving.
@@ -216,29 +182,26 @@ fn first_after(sheet: &[u8], at: usize, n: usize, d: u64, from: usize) -> usize
     requires { (at + 9 * n ≤ length sheet.now) × ((i j : ℕ) → i ≤ j → j < n → exception_day sheet.now at i ≤ exception_day sheet.now at j) × FirstFrom sheet.now at n d from }
     ensures { FirstFrom sheet.now at n (d + 1) result }
 {
-    let mut i = from;
-    while i < n {
+    for i in from..n {
         if d < exception_day(sheet, at, i) {
             return i;
         }
-        i += 1;
     }
-    i
+    n
 }
 
 // The first of the `n` E records from `at` on whose day is `d` or later, where `to` is the first whose day is after `d`.
+// It mirrors `first_after`: one function with the direction as an argument would be no plainer.
 fn first_back(sheet: &[u8], at: usize, n: usize, d: u64, to: usize) -> usize
     requires { Listed sheet.now at n × FirstFrom sheet.now at n (d + 1) to }
     ensures { FirstFrom sheet.now at n d result }
 {
-    let mut i = to;
-    while 0 < i {
-        if exception_day(sheet, at, i - 1) < d {
-            return i;
+    for i in (0..to).rev() {
+        if exception_day(sheet, at, i) < d {
+            return i + 1;
         }
-        i -= 1;
     }
-    i
+    0
 }
 
 // The hours of day `d`, whose weekday's row is in hand, and the first E record whose day is `d` or later; so a walk forward searches no day anew.
@@ -248,7 +211,7 @@ pub fn hours_from(row: [Period; 8], sheet: &[u8], at: usize, n: usize, d: u64, f
 {
     let to = first_after(sheet, at, n, d, from);
     Hours {
-        row: row,
+        row,
         at: at + 9 * from,
         n: to - from,
     }
@@ -261,7 +224,7 @@ pub fn hours_to(row: [Period; 8], sheet: &[u8], at: usize, n: usize, d: u64, to:
 {
     let from = first_back(sheet, at, n, d, to);
     Hours {
-        row: row,
+        row,
         at: at + 9 * from,
         n: to - from,
     }
@@ -286,26 +249,78 @@ pub fn periods_on(week: [[Period; 8]; 7], sheet: &[u8], at: usize, n: usize, d: 
     hours_on(row, sheet, at, n, d)
 }
 
+// Periods in their order: a row, or the E records of a day. What is asked of either is one loop over their places, compiled for each.
+trait Periods {
+    ghost use Rattle.calendar.specs.declared.Period.{Period};
+
+    ghost list: { Self → List Period };
+
+    fn count(&self) -> usize
+        ensures { result ≡ length (list self.now) };
+
+    fn period(&self, i: usize) -> Period
+        requires { i < length (list self.now) }
+        ensures { result ≡ get_or (list self.now) i none };
+}
+
+impl Periods for [Period; 8] {
+    ghost list = { λ row. row };
+
+    fn count(&self) -> usize {
+        PERIODS
+    }
+
+    fn period(&self, i: usize) -> Period {
+        self[i]
+    }
+}
+
+// The periods of `n` E records from the byte `at` of the sheet on.
+#[derive(Clone, Copy)]
+struct DayRecords<'a> {
+    sheet: &'a [u8],
+    at: usize,
+    n: usize,
+    ghost within: { at + 9 * n ≤ length sheet.now },
+}
+
+impl<'a> Periods for DayRecords<'a> {
+    ghost list = { λ e. record_periods e.sheet.now e.at e.n };
+
+    #[tactic(auto, using(crate::specs::DayLaws::records_length))]
+    fn count(&self) -> usize {
+        self.n
+    }
+
+    fn period(&self, i: usize) -> Period {
+        exception_period(self.sheet, self.at, i)
+    }
+}
+
+// Whether some period holds a minute.
+fn works_in<P: Periods>(periods: &P) -> bool
+    ensures { result ≡ works (P.list periods.now) }
+{
+    (0..periods.count()).any(|i| {
+        let p = periods.period(i);
+        p.from < p.to
+    })
+}
+
 // Whether some period of the hours holds a minute.
+#[tactic(auto, unfolding(crate::specs::Records::periods_of))]
 fn day_works(hours: Hours, sheet: &[u8]) -> bool
     requires { Within hours sheet.now }
     ensures { result ≡ works (periods_of hours sheet.now) }
 {
     if hours.n == 0 {
-        let row = hours.row;
-        return row_works(row);
+        return works_in(&hours.row);
     }
-    let at = hours.at;
-    let n = hours.n;
-    let mut i: usize = 0;
-    while i < n {
-        let p = exception_period(sheet, at, i);
-        if p.from < p.to {
-            return true;
-        }
-        i += 1;
-    }
-    false
+    works_in(&DayRecords {
+        sheet,
+        at: hours.at,
+        n: hours.n,
+    })
 }
 
 // Whether some minute of day `d` is worked.
@@ -317,27 +332,11 @@ pub fn is_working(week: [[Period; 8]; 7], sheet: &[u8], at: usize, n: usize, d: 
     day_works(hours, sheet)
 }
 
-// The lesser of two numbers.
-fn lesser(a: u16, b: u16) -> u16
-    ensures { result ≡ min a b }
-{
-    if a < b { a } else { b }
-}
-
-// The minute of the day that is `m`, or its end where `m` is later.
-fn day_minute(m: u64) -> u16
-    ensures { result ≡ min m 1440 }
-{
-    if m < 1440 { m as u16 } else { 1440 }
-}
-
 // How many minutes of the period stand before minute `m` of the day.
 fn period_rank(p: Period, m: u16) -> u16
     ensures { result ≡ min m p.to - p.from }
 {
-    let from = p.from;
-    let to = lesser(m, p.to);
-    if from < to { to - from } else { 0 }
+    m.min(p.to).saturating_sub(p.from)
 }
 
 // How many minutes E record `i` gives its day.
@@ -353,24 +352,27 @@ pub fn exception_work(sheet: &[u8], at: usize, i: usize) -> u64
 fn period_length(p: Period) -> u16
     ensures { result ≡ p.to - p.from }
 {
-    let from = p.from;
-    let to = p.to;
-    if from < to { to - from } else { 0 }
+    p.to.saturating_sub(p.from)
 }
 
-// How many minutes of the row stand before minute `m` of the day: without a branch, so that the machine takes all eight at once.
+// How many minutes of the periods stand before minute `m` of the day: without a branch, so that the machine takes all eight of a row at once.
+fn rank_in<P: Periods>(periods: &P, m: u16) -> u16
+    requires { Ordered 0 (P.list periods.now) }
+    ensures { (result ≡ rank (P.list periods.now) m) × (result ≤ 1440) }
+{
+    let mut sum: u16 = 0;
+    for i in 0..periods.count() {
+        sum += period_rank(periods.period(i), m);
+    }
+    sum
+}
+
+// How many minutes of the row stand before minute `m` of the day.
 pub fn row_rank(row: [Period; 8], m: u16) -> u16
     requires { Ordered 0 row }
     ensures { (result ≡ rank row m) × (result ≤ 1440) }
 {
-    let mut sum: u16 = 0;
-    let mut i: usize = 0;
-    while i < PERIODS {
-        let p = row[i];
-        sum += period_rank(p, m);
-        i += 1;
-    }
-    sum
+    rank_in(&row, m)
 }
 
 // How many minutes the row has: cheaper than its rank at the day's end.
@@ -379,16 +381,14 @@ pub fn row_work(row: [Period; 8]) -> u16
     ensures { (result ≡ rank row 1440) × (result ≤ 1440) }
 {
     let mut sum: u16 = 0;
-    let mut i: usize = 0;
-    while i < PERIODS {
-        let p = row[i];
+    for p in row {
         sum += period_length(p);
-        i += 1;
     }
     sum
 }
 
 // How many minutes of the day are worked before its minute `m`.
+#[tactic(auto, using(crate::specs::HoursLaws::rank_none, crate::specs::HoursLaws::rank_top), unfolding(crate::specs::Records::periods_of))]
 pub fn day_rank(hours: Hours, sheet: &[u8], m: u64) -> u64
     requires { Within hours sheet.now × Ordered 0 (periods_of hours sheet.now) }
     ensures { (result ≡ rank (periods_of hours sheet.now) m) × (result ≤ 1440) }
@@ -396,21 +396,35 @@ pub fn day_rank(hours: Hours, sheet: &[u8], m: u64) -> u64
     if m == 0 {
         return 0;
     }
-    let before = day_minute(m);
+    let before = m.min(1440) as u16;
     if hours.n == 0 {
-        let row = hours.row;
-        return row_rank(row, before) as u64;
+        return rank_in(&hours.row, before) as u64;
     }
-    let at = hours.at;
-    let n = hours.n;
-    let mut sum: u16 = 0;
-    let mut i: usize = 0;
-    while i < n {
-        let p = exception_period(sheet, at, i);
-        sum += period_rank(p, before);
-        i += 1;
+    rank_in(
+        &DayRecords {
+            sheet,
+            at: hours.at,
+            n: hours.n,
+        },
+        before,
+    ) as u64
+}
+
+// The minute of the day by which `k` minutes of the periods are worked.
+fn select_in<P: Periods>(periods: &P, k: u64) -> u64
+    requires { Ordered 0 (P.list periods.now) × (0 < k) × (k ≤ rank (P.list periods.now) 1440) }
+    ensures { (result ≡ select (P.list periods.now) k) × (0 < result) × (result ≤ 1440) }
+{
+    let mut left = k;
+    for i in 0..periods.count() {
+        let p = periods.period(i);
+        let length = period_length(p) as u64;
+        if left <= length {
+            return p.from as u64 + left;
+        }
+        left -= length;
     }
-    sum as u64
+    0
 }
 
 // The minute of the day by which `k` minutes of the row are worked.
@@ -418,87 +432,56 @@ pub fn row_select(row: [Period; 8], k: u64) -> u64
     requires { Ordered 0 row × (0 < k) × (k ≤ rank row 1440) }
     ensures { (result ≡ select row k) × (0 < result) × (result ≤ 1440) }
 {
-    let mut left = k;
-    let mut i: usize = 0;
-    while i < PERIODS {
-        let p = row[i];
-        let length = period_length(p) as u64;
-        if left <= length {
-            return p.from as u64 + left;
-        }
-        left -= length;
-        i += 1;
-    }
-    0
+    select_in(&row, k)
 }
 
 // The minute of the day by which `k` of its minutes are worked.
+#[tactic(auto, unfolding(crate::specs::Records::periods_of))]
 pub fn day_select(hours: Hours, sheet: &[u8], k: u64) -> u64
     requires { Within hours sheet.now × Ordered 0 (periods_of hours sheet.now) × (0 < k) × (k ≤ rank (periods_of hours sheet.now) 1440) }
     ensures { (result ≡ select (periods_of hours sheet.now) k) × (0 < result) × (result ≤ 1440) }
 {
     if hours.n == 0 {
-        let row = hours.row;
-        return row_select(row, k);
+        return select_in(&hours.row, k);
     }
-    let at = hours.at;
-    let n = hours.n;
-    let mut left = k;
-    let mut i: usize = 0;
-    while i < n {
-        let p = exception_period(sheet, at, i);
-        let length = period_length(p) as u64;
-        if left <= length {
-            return p.from as u64 + left;
-        }
-        left -= length;
-        i += 1;
-    }
-    0
+    select_in(
+        &DayRecords {
+            sheet,
+            at: hours.at,
+            n: hours.n,
+        },
+        k,
+    )
 }
 
-// The later of two minutes.
-fn later(a: u64, b: u64) -> u64
-    ensures { result ≡ max a b }
+// The first minute of the periods at or after minute `m` of the day.
+fn next_in<P: Periods>(periods: &P, m: u64) -> Option<u64>
+    ensures { result ≡ next_in (P.list periods.now) m }
 {
-    if a < b { b } else { a }
-}
-
-// The first minute of the row at or after minute `m` of the day.
-fn row_next(row: [Period; 8], m: u64) -> Found
-    ensures { result ≡ next_in row m }
-{
-    let mut i: usize = 0;
-    while i < PERIODS {
-        let p = row[i];
-        let to = p.to as u64;
-        if m < to {
-            return Found::At(later(m, p.from as u64));
+    for i in 0..periods.count() {
+        let p = periods.period(i);
+        if m < p.to as u64 {
+            return Some(m.max(p.from as u64));
         }
-        i += 1;
     }
-    Found::Nothing
+    None
 }
 
 // The first worked minute of the day at or after its minute `m`.
-pub fn day_next(hours: Hours, sheet: &[u8], m: u64) -> Found
+#[tactic(auto, unfolding(crate::specs::Records::periods_of))]
+pub fn day_next(hours: Hours, sheet: &[u8], m: u64) -> Option<u64>
     requires { Within hours sheet.now }
     ensures { result ≡ next_in (periods_of hours sheet.now) m }
 {
     if hours.n == 0 {
-        let row = hours.row;
-        return row_next(row, m);
+        return next_in(&hours.row, m);
     }
-    let at = hours.at;
-    let n = hours.n;
-    let mut i: usize = 0;
-    while i < n {
-        let p = exception_period(sheet, at, i);
-        let end = p.to as u64;
-        if m < end {
-            return Found::At(later(m, p.from as u64));
-        }
-        i += 1;
-    }
-    Found::Nothing
+    next_in(
+        &DayRecords {
+            sheet,
+            at: hours.at,
+            n: hours.n,
+        },
+        m,
+    )
 }

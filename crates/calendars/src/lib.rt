@@ -44,12 +44,10 @@ fn put_week(places: &mut [u64], at: usize, week: [[Period; 8]; 7])
     requires { at + 28 ≤ length places.old }
     ensures { WeekPut places.old at week places.new }
 {
-    let mut i: usize = 0;
-    while i < 28 {
+    for i in 0..28 {
         let row = week[i / 4];
         let j = i % 4;
         places[at + i] = packed(row[j], row[j + 4]);
-        i += 1;
     }
 }
 
@@ -69,16 +67,14 @@ pub fn locate(sheet: &[u8], contents: Contents, places: &mut [u64], lengths: &mu
     ensures { Places sheet.now contents places.new × Lengths (plan_of sheet.now contents) lengths.new }
 {
     let mut at: usize = 21;
-    let mut k: usize = 0;
-    while k < contents.calendars {
+    for k in 0..contents.calendars {
         let place = sheet::calendar(sheet, at);
         let week = calendar::read_week(sheet, at + 3, place.weeks);
         put_calendar(places, k, place, week);
         lengths[k] = project::records::read_day_length(sheet, at);
         at = place.next;
-        k += 1;
     }
-    lengths[k] = 1440;
+    lengths[contents.calendars] = 1440;
 }
 
 // The row in the four numbers from `at` on. Were neighbours in one number, a week would be a plain copy, which the compiler repeats in every caller:
@@ -149,12 +145,8 @@ pub fn have_hours(sheet: &[u8], contents: Contents, places: &[u64]) -> bool
     requires { SheetRead sheet.now contents × Places sheet.now contents places.now }
     ensures { hours_verdict result ≡ first_of (judge_calendar (plan_of sheet.now contents)) contents.calendars 0 }
 {
-    let mut k: usize = 0;
-    while k < contents.calendars {
-        let week = week_of(sheet, contents, places, k);
-        if calendar::has_hours(week) {
-            k += 1;
-        } else {
+    for k in 0..contents.calendars {
+        if !calendar::has_hours(week_of(sheet, contents, places, k)) {
             return false;
         }
     }

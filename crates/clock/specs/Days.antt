@@ -1,16 +1,13 @@
 -- Counting worked minutes by days: what a day's rank, select and next minute say of the count. `h` is the hours of each day.
-use Rattle.std.specs.Prelude.{◌≡◌, refl, Bool, true, false, ◌⊎◌, List, ℕ, zero, suc, ◌+◌, ◌-◌, ◌*◌, ◌/◌, ◌%◌, ◌≤◌, ◌<◌}
-use Rattle.std.proofs.Common.{sym, ap, ◌∙◌, true≢false, inl, inr, ⊎_elim, arith, add-zero, add-one}
+use Rattle.std.specs.Prelude.{Option, Some, None, ◌≡◌, Bool, true, false, List, ℕ, zero, suc, ◌+◌, ◌-◌, ◌*◌, ◌/◌, ◌%◌, ◌≤◌, ◌<◌}
+use Rattle.std.proofs.Common.{sym, ap, ◌∙◌, ⊎_elim, arith, add-zero, add-one}
 use Rattle.std.proofs.Math.Path.{ap₂}
-use Rattle.number.specs.Order.{cases, lt_or_le}
+use Rattle.number.specs.Order.{cases}
 use Rattle.calendar.specs.declared.Period.{Period}
-use Rattle.calendar.specs.declared.Found.{Found}
-use Rattle.calendar.specs.declared.Found.TheVariants.{At, Nothing}
 use Rattle.calendar.specs.Hours.{held, worked, Ordered, rank, select, next_in}
-use Rattle.calendar.specs.HoursLaws.{rank_none, rank_work, rank_rest, Selected, select_rank, NextIn, next_at, next_nothing}
+use Rattle.calendar.specs.HoursLaws.{rank_none, rank_work, rank_rest, Selected, select_rank, next_at, next_nothing}
 use Rattle.worktime.specs.Worked.{count, closing}
-use Rattle.number.specs.Bit.{bit}
-use Rattle.worktime.specs.Count.{count_worked_one, count_idle_one, count_mono, gap, closing_suc}
+use Rattle.worktime.specs.Count.{count_worked_one, count_idle_one, gap, closing_suc}
 
 is_false : (b : Bool) → (b ≡ true → ⊥) → b ≡ false
 is_false b n = ⊎_elim (λ t. absurd (n t)) (λ f. f) (cases b)
@@ -68,7 +65,7 @@ module _ (h : ℕ → List Period) (d : ℕ) where
             }
 
     -- the next minute of the day is worked, and nothing is before it
-    pub day_next_at : (m x : ℕ) → next_in (h d) m ≡ At x
+    pub day_next_at : (m x : ℕ) → next_in (h d) m ≡ Some x
         → (m ≤ x) × (x < 1440) × (worked h (d * 1440 + x) ≡ true) × (count (worked h) (d * 1440 + x) ≡ count (worked h) (d * 1440 + m))
     day_next_at m x e =
         let n = next_at (h d) m x o e in (
@@ -82,7 +79,7 @@ module _ (h : ℕ → List Period) (d : ℕ) where
               ∙ is_false _ (λ t. omega (arith, n.3 (u - d * 1440) (omega arith) t))),
         )
 
-    pub day_next_none : (m : ℕ) → m ≤ 1440 → next_in (h d) m ≡ Nothing → count (worked h) (d * 1440 + 1440) ≡ count (worked h) (d * 1440 + m)
+    pub day_next_none : (m : ℕ) → m ≤ 1440 → next_in (h d) m ≡ None → count (worked h) (d * 1440 + 1440) ≡ count (worked h) (d * 1440 + m)
     day_next_none m l e =
         let n = next_nothing (h d) m o e in
         gap (worked h) (omega arith)
@@ -91,13 +88,13 @@ module _ (h : ℕ → List Period) (d : ℕ) where
         ap (worked h) (sym f) ∙ worked_day (u - d * 1440) (omega arith) ∙ is_false _ (n (u - d * 1440) (omega arith)))
 
     -- whether minute m is worked, by the next one
-    pub day_next_here : (m : ℕ) → m < 1440 → next_in (h d) m ≡ At m → worked h (d * 1440 + m) ≡ true
+    pub day_next_here : (m : ℕ) → m < 1440 → next_in (h d) m ≡ Some m → worked h (d * 1440 + m) ≡ true
     day_next_here m l e = (day_next_at m m e).2
 
-    pub day_next_later : (m x : ℕ) → m < 1440 → next_in (h d) m ≡ At x → (x ≡ m → ⊥) → worked h (d * 1440 + m) ≡ false
+    pub day_next_later : (m x : ℕ) → m < 1440 → next_in (h d) m ≡ Some x → (x ≡ m → ⊥) → worked h (d * 1440 + m) ≡ false
     day_next_later m x l e ne = let n = next_at (h d) m x o e in worked_day m l ∙ is_false _ (λ t. ne (omega (arith, n.0, n.3 m (omega arith) t)))
 
-    pub day_next_never : (m : ℕ) → m < 1440 → next_in (h d) m ≡ Nothing → worked h (d * 1440 + m) ≡ false
+    pub day_next_never : (m : ℕ) → m < 1440 → next_in (h d) m ≡ None → worked h (d * 1440 + m) ≡ false
     day_next_never m l e = worked_day m l ∙ is_false _ (next_nothing (h d) m o e m (omega arith))
 
 -- ---- the same, of a day's hours in hand: ps, which are those of day d
@@ -109,7 +106,7 @@ module _ (h : ℕ → List Period) (d : ℕ) (o : Ordered 0 (h d)) (ps : List Pe
   hand_select k s a b q = rw (q ∙ ap (λ x. select x k) e) (day_selected h d o k a (rw e at b))
 
   -- the day's next minute, if there is one
-  pub hand_next : (m : ℕ) (r f : Found) → r ≡ next_in ps m → r ≡ f → next_in (h d) m ≡ f
+  pub hand_next : (m : ℕ) (r f : Option ℕ) → r ≡ next_in ps m → r ≡ f → next_in (h d) m ≡ f
   hand_next m r f q t = sym (ap (λ x. next_in x m) e) ∙ sym q ∙ t
 
 -- a time is a day and a minute of it

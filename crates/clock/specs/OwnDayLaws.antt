@@ -1,5 +1,5 @@
 -- E records one by one: one more changes the work of days on its own day alone, and with all of them it is the count's.
-use Rattle.std.specs.Prelude.{◌≡◌, ◌⊎◌, eqb}
+use Rattle.std.specs.Prelude.{◌≡◌, eqb}
 use Rattle.std.proofs.Math.Path.{refl, ap}
 use Rattle.std.proofs.Common.{sym, ◌∙◌, add-zero, length-append}
 use Rattle.std.proofs.Math.Bool.{true, false}

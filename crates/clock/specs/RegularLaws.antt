@@ -1,5 +1,5 @@
 -- Days in a row without E records are counted by their weekdays: whole weeks by multiplication, and the days of a part of a week by their sum.
-use Rattle.std.specs.Prelude.{◌≡◌, refl, ◌⊎◌, get_or}
+use Rattle.std.specs.Prelude.{◌≡◌, refl, get_or}
 use Rattle.std.proofs.Common.{sym, ◌∙◌, mul-le-mul_left, mul-le-mul_right, add-one}
 use Rattle.std.proofs.Math.Path.{ap}
 use Rattle.std.proofs.Math.Logic.{⊎_elim}

@@ -1,6 +1,6 @@
 -- The minutes of the days before one, each by its weekday: as the code computes them from the sums, with that day, and in order.
 use Rattle.std.specs.Prelude.{◌≡◌, refl, ◌⊎◌, List, ℕ, ◌+◌, ◌-◌, ◌*◌, ◌/◌, ◌^◌, ◌≤◌, ◌<◌, get_or}
-use Rattle.std.proofs.Common.{ap, ◌∙◌, mul-le-mul_right}
+use Rattle.std.proofs.Common.{ap, mul-le-mul_right}
 use Rattle.std.proofs.Math.Logic.{⊎_elim}
 use native.Mathlib.Omega.{arith}
 use Rattle.std.proofs.Math.Nat.{mul-add}

@@ -3,10 +3,9 @@ use Rattle.std.specs.Prelude.{◌≡◌, refl, Bool, true, List, [], ℕ, ◌+�
 use Rattle.worktime.specs.declared.ClockError.TheVariants.{TooLong}
 use Rattle.std.proofs.Common.{sym, ap, ◌∙◌, ⊎_elim, arith, mul-le-mul_right}
 use Rattle.number.specs.Order.{lt_or_le}
-use Rattle.date.specs.Days.{weekday}
 use Rattle.date.specs.Years.{first_day}
 use Rattle.calendar.specs.declared.Period.{Period}
-use Rattle.calendar.specs.Hours.{rank, select}
+use Rattle.calendar.specs.Hours.{select}
 use Rattle.calendar.specs.Records.{exception_day, exception_period, hours_on, Valid}
 use Rattle.calendar.specs.DayLaws.{hours_week}
 use Rattle.worktime.specs.Worked.{count}
@@ -15,7 +14,7 @@ use Rattle.worktime.specs.Count.{count_mono, count_lt, count_le, reach, start_le
 use Rattle.worktime.proofs.Shift.{retreat_at, retreat_none}
 use Rattle.clock.specs.On.{worked_on}
 use Rattle.clock.specs.Days.{hand_select}
-use Rattle.clock.specs.Regular.{Rising, Sums, regular}
+use Rattle.clock.specs.Regular.{Sums, regular}
 use Rattle.clock.specs.Stands.{record_work, Behind}
 use Rattle.clock.specs.StandLaws.{record_minute}
 use Rattle.clock.specs.RegularOrder.{regular_le, regular_lt_lt}

@@ -10,7 +10,7 @@ ghost use Rattle.clock.specs.On.{worked_on};
 ghost use Rattle.worktime.specs.Worked.{count};
 ghost use Rattle.worktime.specs.Walks.{end_minute, next_start, previous_finish, next_finish, working_at, previous_start, start_by, advance, retreat, shift, between, day_work, worked_before};
 
-use calendar::{Found, Period};
+use calendar::Period;
 use worktime::ClockError;
 
 mod records;
@@ -44,10 +44,10 @@ pub fn next_start(
         let row = week[((d + 1) % 7) as usize];
         let hours = calendar::hours_from(row, sheet, at, n, d, from);
         match calendar::day_next(hours, sheet, m) {
-            Found::At(x) => {
+            Some(x) => {
                 return Ok(d * 1440 + x);
             },
-            Found::Nothing => {},
+            None => {},
         }
         from += hours.n;
         d += 1;
@@ -109,13 +109,13 @@ pub fn working_at(
     let row = week[((d + 1) % 7) as usize];
     let hours = calendar::hours_on(row, sheet, at, n, d);
     match calendar::day_next(hours, sheet, m) {
-        Found::At(x) => {
+        Some(x) => {
             if x == m {
                 return Ok(true);
             }
             Ok(false)
         }
-        Found::Nothing => Ok(false),
+        None => Ok(false),
     }
 }
 
@@ -418,8 +418,7 @@ fn days_work(
     let sums = weeks::sums_of(week);
     let mut sum = weeks::regular_work(sums, d, e);
     let mut next = d;
-    let mut j = from;
-    while j < n {
+    for j in from..n {
         let day = calendar::exception_day(sheet, at, j);
         if e <= day {
             return Days {
@@ -433,11 +432,10 @@ fn days_work(
         let out = if next <= day { 0 } else { regular };
         sum = sum + calendar::exception_work(sheet, at, j) + out - regular;
         next = day + 1;
-        j += 1;
     }
     Days {
         minutes: sum,
-        to: j,
+        to: n,
     }
 }
 

@@ -32,8 +32,7 @@ pub fn ahead(
     let mut passed: u64 = 0;
     let mut over = sums[7] * ((d + 1) / 7) + sums[((d + 1) % 7) as usize];
     let mut next = d;
-    let mut j = from;
-    while j < n {
+    for j in from..n {
         let day = calendar::exception_day(sheet, at, j);
         let k = ((day + 1) % 7) as usize;
         let before = sums[7] * ((day + 1) / 7) + sums[k];
@@ -45,25 +44,25 @@ pub fn ahead(
         if work <= done {
             return Standing {
                 at: j,
-                passed: passed,
-                over: over,
-                start: start,
+                passed,
+                over,
+                start,
             };
         }
         passed = done;
         over = before + regular;
         next = day + 1;
-        j += 1;
     }
     Standing {
-        at: j,
-        passed: passed,
-        over: over,
+        at: n,
+        passed,
+        over,
         start: passed,
     }
 }
 
 // Back from the beginning of day `d`; `from` is the first record whose day is `d` or later. It stops after the record at whose beginning `work` minutes are passed.
+// It mirrors `ahead`: one function with the direction as an argument would test it at each record, and is no plainer.
 pub fn back(
     sums: [u64; 8],
     sheet: &[u8],
@@ -79,32 +78,30 @@ pub fn back(
     let mut passed: u64 = 0;
     let mut over = sums[7] * ((d + 1) / 7) + sums[((d + 1) % 7) as usize];
     let mut next = d;
-    let mut j = from;
-    while 0 < j {
-        let day = calendar::exception_day(sheet, at, j - 1);
+    for j in (0..from).rev() {
+        let day = calendar::exception_day(sheet, at, j);
         let k = ((day + 1) % 7) as usize;
         let after = sums[7] * ((day + 1) / 7) + sums[k + 1];
         let regular = sums[k + 1] - sums[k];
         let out = if day < next { 0 } else { regular };
         let start = passed + over + out - after;
-        let done = start + calendar::exception_work(sheet, at, j - 1);
+        let done = start + calendar::exception_work(sheet, at, j);
         if work <= done {
             return Standing {
-                at: j,
-                passed: passed,
-                over: over,
-                start: start,
+                at: j + 1,
+                passed,
+                over,
+                start,
             };
         }
         passed = done;
         over = after - regular;
         next = day;
-        j -= 1;
     }
     Standing {
-        at: j,
-        passed: passed,
-        over: over,
+        at: 0,
+        passed,
+        over,
         start: passed,
     }
 }

@@ -11,11 +11,8 @@ pub fn sums_of(week: [[Period; 8]; 7]) -> [u64; 8]
     ensures { Sums week result }
 {
     let mut sums = [0u64; 8];
-    let mut k: usize = 0;
-    while k < 7 {
-        let row = week[k];
-        sums[k + 1] = sums[k] + calendar::row_work(row) as u64;
-        k += 1;
+    for k in 0..7 {
+        sums[k + 1] = sums[k] + calendar::row_work(week[k]) as u64;
     }
     sums
 }
@@ -35,12 +32,10 @@ fn weekday_at(sums: [u64; 8], y: u64) -> u64
     ensures { (get_or sums result 0 ≤ y) × (y < get_or sums (result + 1) 0) × (result < 7) }
 {
     let mut n: u64 = 0;
-    let mut k: usize = 0;
-    while k < 7 {
+    for k in 0..7 {
         if sums[k + 1] <= y {
             n += 1;
         }
-        k += 1;
     }
     n
 }

@@ -1,8 +1,7 @@
 -- Days and minutes as natural numbers, counted from the first day that an i32 can name, and 01's signed numbers of them.
-use Rattle.std.specs.Prelude.{true, false, ℕ, ◌+◌, ◌-◌, ◌*◌, ◌/◌, ◌%◌, ◌^◌, ℤ, pos, ◌-ℤ◌}
+use Rattle.std.specs.Prelude.{true, false, Option, Some, None, ℕ, ◌+◌, ◌-◌, ◌*◌, ◌/◌, ◌%◌, ◌^◌, ℤ, pos, ◌-ℤ◌}
 use Rattle.number.specs.Zed.{up, dn}
-use Rattle.date.specs.declared.FromDays.{FromDays}
-use Rattle.date.specs.declared.FromDays.TheVariants.{Is, OutOfRange}
+use Rattle.date.specs.declared.Date.{Date}
 use Rattle.date.specs.Years.{in_years}
 
 -- a signed day, and 2 ^ 31
@@ -10,8 +9,8 @@ abbrev pub biased : ℤ → ℕ
 biased day = up day + 2 ^ 31 - dn day
 
 -- the date of a day whose year is -9999 to 9999
-unfoldable pub from_days : ℤ → FromDays
-from_days day = elim (in_years (biased day)) [ true ↦ Is (record { 0 = day }) | false ↦ OutOfRange ]
+unfoldable pub from_days : ℤ → Option Date
+from_days day = elim (in_years (biased day)) [ true ↦ Some (record { 0 = day }) | false ↦ None ]
 
 -- "0 Monday; day 0 is a Thursday"
 abbrev pub weekday : ℕ → ℕ

@@ -1,12 +1,11 @@
 -- The laws of days and minutes: weekdays follow one another, a date's midnight is on its day, and the years that a date may lie in.
-use Rattle.std.specs.Prelude.{◌≡◌, refl, true, false, List, ℕ, ◌+◌, ◌*◌, ◌/◌, ◌%◌, ◌^◌, ◌≤◌, ◌<◌, ℤ, pos, negsuc, ◌-ℤ◌}
+use Rattle.std.specs.Prelude.{◌≡◌, refl, true, false, Some, None, List, ℕ, ◌+◌, ◌*◌, ◌/◌, ◌%◌, ◌^◌, ◌≤◌, ◌<◌, ℤ, pos, negsuc, ◌-ℤ◌}
 use Rattle.std.proofs.Common.{⊎_elim, arith}
 use Rattle.number.specs.Order.{cases, lt_or_le}
 use Rattle.number.specs.Bytes.{u32_at, i32_at, biased_at}
 use Rattle.number.specs.BytesLaws.{i32_biased}
 use Rattle.number.specs.Zed.{up, dn}
 use Rattle.number.specs.ZedLaws.{apart, same, minus_is}
-use Rattle.date.specs.declared.FromDays.TheVariants.{Is, OutOfRange}
 use Rattle.date.specs.Years.{first_day, end_day, in_years, years_in, years_within}
 use Rattle.date.specs.Gregorian.{IsDate, years_up, years_down}
 use Rattle.date.specs.YearLaws.{years_up_lem, years_down_lem, year_zero, epoch, up_grows, down_grows, year_before}
@@ -41,11 +40,11 @@ pub biased_at_lem : (s : List ℕ) (at : ℕ) → u32_at s at < 2 ^ 32 → biase
 biased_at_lem s at h = omega (arith, i32_biased s at h)
 
 -- ---- the two ways of `from_days`
-pub from_days_in : (day : ℤ) → in_years (biased day) ≡ true → from_days day ≡ Is (record { 0 = day })
+pub from_days_in : (day : ℤ) → in_years (biased day) ≡ true → from_days day ≡ Some (record { 0 = day })
 unfolding from_days
 from_days_in day e = rw (e, from_days)
 
-pub from_days_out : (day : ℤ) → in_years (biased day) ≡ false → from_days day ≡ OutOfRange
+pub from_days_out : (day : ℤ) → in_years (biased day) ≡ false → from_days day ≡ None
 unfolding from_days
 from_days_out day e = rw (e, from_days)
 
@@ -89,9 +88,9 @@ module _ {day year : ℤ} {month dom : ℕ} (fits : dn day ≤ 2 ^ 31) (D : IsDa
           (lt_or_le 9999 (up year))
 
   -- `from_days` by the year
-  pub from_days_within : dn year ≤ 9999 → up year ≤ 9999 → from_days day ≡ Is (record { 0 = day })
+  pub from_days_within : dn year ≤ 9999 → up year ≤ 9999 → from_days day ≡ Some (record { 0 = day })
   from_days_within h k = from_days_in day (in_years_of h k)
 
-  pub from_days_beyond : (dn year ≤ 9999 → up year ≤ 9999 → ⊥) → from_days day ≡ OutOfRange
+  pub from_days_beyond : (dn year ≤ 9999 → up year ≤ 9999 → ⊥) → from_days day ≡ None
   from_days_beyond n =
       ⊎_elim (λ (e : in_years (biased day) ≡ true). let y = years_of_in e in absurd (n y.0 y.1)) (λ (e : in_years (biased day) ≡ false). from_days_out day e) (cases (in_years (biased day)))

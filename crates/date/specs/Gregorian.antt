@@ -1,5 +1,5 @@
 -- The proleptic Gregorian calendar, year 0 before year 1: leap years, month lengths, and the day that a year, a month and a day of the month name.
-use Rattle.std.specs.Prelude.{◌≡◌, Bool, true, false, not, ◌&&◌, ◌||◌, List, [], ◌∷◌, ℕ, zero, suc, ◌+◌, ◌-◌, ◌%◌, ◌≤◌, eqb, ℤ, pos, negsuc, neg_ℤ, nat_abs, ◌+ℤ◌, get_or, take}
+use Rattle.std.specs.Prelude.{◌≡◌, Bool, not, ◌&&◌, ◌||◌, List, [], ◌∷◌, ℕ, zero, suc, ◌+◌, ◌-◌, ◌%◌, ◌≤◌, eqb, ℤ, pos, negsuc, neg_ℤ, nat_abs, ◌+ℤ◌, get_or, take}
 use Rattle.number.specs.Bit.{bit}
 
 -- every fourth year is a leap year, but a hundredth one only if it is a four-hundredth

@@ -1,6 +1,6 @@
 -- The days that a walk may read: those of the years -9999 to 9999. Days are counted from the first that an i32 can name, so that day 2 ^ 31 is 1 January 1970.
-use Rattle.std.specs.Prelude.{◌≡◌, Bool, true, false, ◌&&◌, ◌⊎◌, ℕ, ◌≤◌, ◌<◌, leb, ltb}
-use Rattle.std.proofs.Common.{sym, ◌∙◌, true≢false, inl, inr, ⊎_elim, arith, lt-ltb, le-ltb, le-leb}
+use Rattle.std.specs.Prelude.{◌≡◌, Bool, true, false, ◌&&◌, ℕ, ◌≤◌, ◌<◌, leb, ltb}
+use Rattle.std.proofs.Common.{sym, ◌∙◌, true≢false, ⊎_elim, arith, lt-ltb, le-ltb, le-leb}
 use Rattle.std.proofs.lemmas.Bool.{lt-leb}
 use Rattle.number.specs.Order.{lt_or_le}
 

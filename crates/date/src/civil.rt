@@ -52,12 +52,12 @@ pub fn from_march(t: u64) -> Ymd
         return Ymd {
             year: signed_year(n),
             month: (mp + 3) as u32,
-            day: day,
+            day,
         };
     }
     Ymd {
         year: signed_year(n + 1),
         month: (mp - 9) as u32,
-        day: day,
+        day,
     }
 }

@@ -10,22 +10,15 @@ ghost use Rattle.date.specs.Days.{biased, from_days, weekday, midnight, signed_d
 mod civil;
 
 // A day, counted from 1 January 1970 (negative before it).
-#[derive(Clone, Copy)]
+#[derive(Clone, Copy, PartialEq, Eq, Debug)]
 pub struct Date(pub i32);
 
 // A date as the calendar has it: the month from 1 on, and the day of the month.
-#[derive(Clone, Copy)]
+#[derive(Clone, Copy, PartialEq, Eq, Debug)]
 pub struct Ymd {
     pub year: i32,
     pub month: u32,
     pub day: u32,
-}
-
-// The date of a day, if its year is one that a date may lie in.
-#[derive(Clone, Copy)]
-pub enum FromDays {
-    Is(Date),
-    OutOfRange,
 }
 
 // The first day that a walk may read, and the last: those of the years -9999 to 9999, counted from the first day that an i32 can name.
@@ -34,16 +27,11 @@ pub const FIRST_DAY: u64 = 2143112061;
 pub const LAST_DAY: u64 = 2150416544;
 
 // Whether `day` lies in the years -9999 to 9999.
+#[tactic(auto, unfolding(crate::specs::Years::in_years))]
 pub fn in_years(day: u64) -> bool
     ensures { result ≡ in_years day }
 {
-    if day < FIRST_DAY {
-        return false;
-    }
-    if LAST_DAY < day {
-        return false;
-    }
-    true
+    FIRST_DAY <= day && day <= LAST_DAY
 }
 
 // A signed day, counted from the first that an i32 can name.
@@ -78,13 +66,11 @@ impl Date {
     }
 
     // The day `days` from 1 January 1970, if its year is in range.
-    pub fn from_days(days: i32) -> FromDays
+    #[tactic(auto, unfolding(crate::specs::Days::from_days))]
+    pub fn from_days(days: i32) -> Option<Date>
         ensures { result ≡ from_days days }
     {
-        if in_years(biased(days)) {
-            return FromDays::Is(Date(days));
-        }
-        FromDays::OutOfRange
+        in_years(biased(days)).then_some(Date(days))
     }
 
     // Days from 1 January 1970.

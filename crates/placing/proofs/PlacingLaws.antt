@@ -9,7 +9,6 @@ use Rattle.std.proofs.lemmas.Bool.{lt-leb}
 use Rattle.std.proofs.Math.Dec.{leb}
 use Rattle.date.specs.declared.Date.{Date}
 use Rattle.calendar.specs.declared.Period.{Period}
-use Rattle.calendar.specs.declared.Found.TheVariants.{At as FoundAt, Nothing}
 use Rattle.calendar.specs.Hours.{worked, Ordered, next_in}
 use Rattle.clock.specs.Days.{day_next_at, day_next_none}
 use Rattle.worktime.specs.Worked.{count}
@@ -204,8 +203,8 @@ module _ (h : ℕ → List Period) (d : ℕ) (o : Ordered 0 (h d)) where
   midnight_count : count (worked h) (d * 1440 + 0) ≡ count (worked h) (d * 1440)
   midnight_count = ap (count (worked h)) (omega arith)
 
-  pub day_start_found : (m : ℕ) → next_in (h d) 0 ≡ FoundAt m → (day_start (worked h) (d * 1440) ≡ d * 1440 + m) × (m < 1440)
+  pub day_start_found : (m : ℕ) → next_in (h d) 0 ≡ Some m → (day_start (worked h) (d * 1440) ≡ d * 1440 + m) × (m < 1440)
   day_start_found m e = let n = day_next_at h d o 0 m e in (day_start_at (worked h) (d * 1440) m n.1 n.2 (n.3 ∙ midnight_count), n.1)
 
-  pub day_start_free : next_in (h d) 0 ≡ Nothing → day_start (worked h) (d * 1440) ≡ d * 1440
+  pub day_start_free : next_in (h d) 0 ≡ None → day_start (worked h) (d * 1440) ≡ d * 1440
   day_start_free e = day_start_none (worked h) (d * 1440) (day_next_none h d o 0 (omega arith) e ∙ midnight_count)

@@ -7,7 +7,7 @@ ghost use Rattle.project.specs.Status.{on_start};
 ghost use Rattle.placing.specs.Placing.{midnight_of, moment_of, day_start, constraint_time, actual};
 
 use crate::Actual;
-use calendar::{Found, Period};
+use calendar::Period;
 use date::Date;
 use project::{Activity, Constraint, End};
 use worktime::ClockError;
@@ -28,10 +28,10 @@ fn start_of_day(
     if date::in_years(d) {
         let hours = calendar::periods_on(week, sheet, at, n, d);
         match calendar::day_next(hours, sheet, 0) {
-            Found::At(m) => {
+            Some(m) => {
                 return Ok(t + m);
             },
-            Found::Nothing => {
+            None => {
                 return Ok(t);
             },
         }

@@ -1,8 +1,6 @@
 -- `calendar::hours_from` meets its contract: the records of a day are those from its first to the first of a later day.
 use mathlib.Core.Path.{refl}
-use borrow.Author.Rules.{rules}
 use Rattle.calendar.specs.DayLaws.{from_to, in_hand, next_from}
-use borrow.Author.Rules.{rules}
 use Rattle.calendar.proofs.hours_from.Goals as goal
 
 pub overflow_sub-result : goal.overflow_sub-result

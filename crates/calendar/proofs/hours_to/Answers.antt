@@ -1,9 +1,7 @@
 -- `calendar::hours_to` meets its contract: the records of a day are those from its first to the first of a later day.
 use mathlib.Core.Path.{refl}
 use native.Mathlib.Omega.{arith}
-use borrow.Author.Rules.{rules}
 use Rattle.calendar.specs.DayLaws.{from_to, in_hand, day_from}
-use borrow.Author.Rules.{rules}
 use Rattle.calendar.proofs.hours_to.Goals as goal
 
 pub overflow_sub-result : goal.overflow_sub-result

@@ -1,7 +1,6 @@
 -- `calendars::exceptions_of` meets its contract: the table of places has what the plan's definition says.
 use mathlib.Core.Path.{sym, ◌∙◌}
 use Rattle.calendars.specs.CalendarLaws.{place_named, number_named, place_last, number_last}
-use borrow.Author.Rules.{rules}
 use Rattle.calendars.proofs.exceptions_of.Goals as goal
 
 pub returns-then-k-contents : goal.returns-then-k-contents

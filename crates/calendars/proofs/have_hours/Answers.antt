@@ -1,9 +1,8 @@
 -- `calendars::have_hours` meets its contract: the calendars before k have weekly hours, and the verdict is that of the rest.
-use mathlib.Core.Path.{◌≡◌, sym, ◌∙◌}
-use Prim.Native.Nat.{◌-◌, ◌≤◌}
-use native.Mathlib.Omega.{arith}
+use mathlib.Core.Path.{sym, ◌∙◌}
+use Rattle.std.proofs.Common.{arith, rules}
 use Rattle.order.specs.Plan.{plan_of}
-use Rattle.order.specs.Checks.{first_of, judge_calendar}
+use Rattle.order.specs.Checks.{judge_calendar}
 use Rattle.order.specs.VerdictLaws.{first_start, first_end}
 use Rattle.calendars.specs.HoursLaws.{hours_turn, hours_stop}
 use Rattle.calendars.proofs.have_hours.Goals as goal
@@ -13,25 +12,19 @@ loop-k-init c =
     let x = c.args in
     (omega arith, first_start (judge_calendar (plan_of x.sheet.now x.contents)) x.contents.calendars)
 
-pub week_of-week-requires : goal.week_of-week-requires
-week_of-week-requires c = c.requires
-
-pub has_hours-requires : goal.has_hours-requires
-has_hours-requires c = tt
-
 pub loop-k-preserved : goal.loop-k-preserved
 loop-k-preserved c =
     let x = c.args in
-    let w = c.week_of-week in
-    (omega arith, sym (hours_turn x.sheet.now x.contents c.loop-k.k w.result w.ensures c.loop-k-test.true (sym c.has_hours.ensures ∙ c.if-has_hours.true)) ∙ c.loop-k.invariant.1)
+    let w = c.week_of in
+    (omega arith, sym (hours_turn x.sheet.now x.contents c.loop-k.k w.result w.ensures c.loop-k-test.true (sym c.has_hours.ensures ∙ search rules)) ∙ c.loop-k.invariant.1)
 
-pub returns-else-has_hours : goal.returns-else-has_hours
-returns-else-has_hours c =
+pub returns-then-not-has_hours : goal.returns-then-not-has_hours
+returns-then-not-has_hours c =
     let x = c.args in
-    let w = c.week_of-week in
-    sym (hours_stop x.sheet.now x.contents c.loop-k.k w.result w.ensures c.loop-k-test.true (sym c.has_hours.ensures ∙ c.if-has_hours.false)) ∙ c.loop-k.invariant.1
+    let w = c.week_of in
+    sym (hours_stop x.sheet.now x.contents c.loop-k.k w.result w.ensures c.loop-k-test.true (sym c.has_hours.ensures ∙ search rules)) ∙ c.loop-k.invariant.1
 
 pub returns : goal.returns
 returns c =
     let x = c.args in
-    sym (first_end (judge_calendar (plan_of x.sheet.now x.contents)) x.contents.calendars c.loop-k.k c.loop-k-test.false) ∙ c.loop-k.invariant.1
+    sym (first_end (judge_calendar (plan_of x.sheet.now x.contents)) x.contents.calendars c.loop-k.k (omega arith)) ∙ c.loop-k.invariant.1

@@ -1,17 +1,11 @@
 -- `calendars::have_hours` meets its contract: the calendars before k have weekly hours, and the verdict is that of the rest.
-use mathlib.Core.Path.{◌≡◌, sym, ◌∙◌}
+use mathlib.Core.Path.{◌≡◌}
 use Prim.Native.Nat.{◌-◌, ◌≤◌}
-use native.Mathlib.Omega.{arith}
 use Rattle.order.specs.Plan.{plan_of}
 use Rattle.order.specs.Checks.{first_of, judge_calendar}
-use Rattle.order.specs.VerdictLaws.{first_start, first_end}
-use Rattle.calendars.specs.HoursLaws.{hours_turn, hours_stop}
 use Rattle.calendars.proofs.have_hours.Given as goal
 
 abbrev pub invariant-loop-k : goal.invariant-loop-k
 invariant-loop-k l =
     (l.k ≤ l.contents.calendars)
     × (first_of (judge_calendar (plan_of l.sheet l.contents)) (l.contents.calendars - l.k) l.k ≡ first_of (judge_calendar (plan_of l.sheet l.contents)) l.contents.calendars 0)
-
-abbrev pub decreases-loop-k : goal.decreases-loop-k
-decreases-loop-k l = l.contents.calendars - l.k

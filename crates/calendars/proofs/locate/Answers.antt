@@ -1,11 +1,8 @@
 -- `calendars::locate` meets its contract: the calendars before k stand in both tables, and calendar k stands at `at`.
 use mathlib.Core.Path.{◌≡◌, refl, ◌∙◌}
-use Prim.Native.Nat.{◌-◌, ◌≤◌}
 use native.Mathlib.Omega.{arith}
-use lib.ListN.{length, length-set}
-use Rattle.sheet.specs.Places.{calendar_at}
-use Rattle.calendars.specs.Calendars.{Located}
-use Rattle.calendars.specs.TableLaws.{Measured, calendar_first, calendar_next, place_weeks, located_none, located_more, measured_more, measured_all}
+use lib.ListN.{length-set}
+use Rattle.calendars.specs.TableLaws.{calendar_first, calendar_next, place_weeks, located_none, located_more, measured_more, measured_all}
 use Rattle.calendars.proofs.locate.Goals as goal
 
 pub loop-k-init : goal.loop-k-init
@@ -41,23 +38,10 @@ read_day_length-requires c =
     let C = c.requires.0.calendar c.loop-k.k l in
     omega (arith, c.loop-k.invariant.1, C.within)
 
-pub offset_bounds-lengths-k : goal.offset_bounds-lengths-k
-offset_bounds-lengths-k c =
-    let l = c.loop-k-test.true in
-    omega (arith, c.requires.0.calendars_few, l)
-
 pub bounds-lengths-k : goal.bounds-lengths-k
 bounds-lengths-k c =
     let l = c.loop-k-test.true in
     omega (arith, c.requires.0.calendars_few, c.requires.2, c.loop-k.invariant.3, l)
-
-pub overflow_add-k : goal.overflow_add-k
-overflow_add-k c =
-    let l = c.loop-k-test.true in
-    omega (arith, c.requires.0.calendars_few, l)
-
-pub loop-k-smaller : goal.loop-k-smaller
-loop-k-smaller c = omega (arith, c.loop-k-test.true)
 
 pub loop-k-preserved : goal.loop-k-preserved
 loop-k-preserved c =
@@ -77,23 +61,9 @@ loop-k-preserved c =
       measured_more s c.loop-k.k c.loop-k.lengths v.5 (omega (arith, c.requires.0.calendars_few, c.requires.2, v.3, l)) c.loop-k.at v.1 c.read_day_length.result c.read_day_length.ensures.0,
     )
 
-pub offset_bounds-lengths-k-2 : goal.offset_bounds-lengths-k-2
-offset_bounds-lengths-k-2 c =
-    omega (arith, c.requires.0.calendars_few, c.loop-k.invariant.0)
-
-pub bounds-lengths-k-2 : goal.bounds-lengths-k-2
-bounds-lengths-k-2 c =
-    omega (arith, c.requires.0.calendars_few, c.loop-k.invariant.0, c.loop-k.invariant.3, c.requires.2)
-
-pub shape_of-places : goal.shape_of-places
-shape_of-places c = c.loop-k.invariant.2
-
-pub shape_of-lengths : goal.shape_of-lengths
-shape_of-lengths c = simp length-set c.loop-k.invariant.3
-
 pub returns : goal.returns
 returns c =
     let x = c.args in
     let v = c.loop-k.invariant in
     let e : c.loop-k.k ≡ x.contents.calendars = omega (arith, v.0, c.loop-k-test.false) in
-    (rw e at v.4, rw e (measured_all x.sheet.now x.contents c.requires.0 c.loop-k.lengths (rw e at v.5) (omega (arith, c.requires.0.calendars_few, c.requires.2, v.3))))
+    (rw e at v.4, measured_all x.sheet.now x.contents c.requires.0 c.loop-k.lengths (rw e at v.5) (omega (arith, c.requires.0.calendars_few, c.requires.2, v.3)))

@@ -1,7 +1,6 @@
 -- `calendars::packed` meets its contract: what is packed into 64 bits is found there again.
 use Rattle.calendars.specs.PackedLaws.{packed_low, packed_high}
 use native.Mathlib.Omega.{arith}
-use borrow.Author.Rules.{rules}
 use Rattle.calendars.proofs.packed.Goals as goal
 
 pub returns : goal.returns

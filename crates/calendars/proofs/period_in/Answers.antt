@@ -1,7 +1,6 @@
 -- `calendars::period_in` meets its contract, by its definition.
 use mathlib.Core.Path.{refl}
 use Rattle.calendars.specs.Packed.{period_in}
-use borrow.Author.Rules.{rules}
 use Rattle.calendars.proofs.period_in.Goals as goal
 
 pub returns : goal.returns

@@ -2,7 +2,6 @@
 use native.Mathlib.Omega.{arith}
 use lib.ListN.{length-set}
 use Rattle.calendars.specs.TableLaws.{calendar_put}
-use borrow.Author.Rules.{rules}
 use Rattle.calendars.proofs.put_calendar.Goals as goal
 
 pub bounds-places-k-2 : goal.bounds-places-k-2

@@ -1,20 +1,13 @@
 -- `calendars::put_week` meets its contract: the numbers before i hold their periods, and what stands before them is as it was.
 use mathlib.Core.Path.{◌≡◌, refl, ◌∙◌}
-use Prim.Native.Nat.{ℕ, ◌+◌, ◌-◌, ◌≤◌, ◌<◌}
+use Prim.Native.Nat.{◌+◌}
 use native.Mathlib.Omega.{arith}
-use lib.ListN.{length, get_or, length-set}
-use Rattle.calendars.specs.Packed.{Holds}
+use lib.ListN.{length-set}
 use Rattle.calendars.specs.PackedLaws.{earlier, holds_more}
 use Rattle.calendars.proofs.put_week.Goals as goal
 
 pub loop-i-init : goal.loop-i-init
 loop-i-init c = (omega arith, refl, λ j l. refl, λ q l. absurd (omega arith))
-
-pub packed-requires : goal.packed-requires
-packed-requires c = tt
-
-pub offset_bounds-places-at : goal.offset_bounds-places-at
-offset_bounds-places-at c = omega (arith, c.well_formed.0)
 
 pub loop-i-preserved : goal.loop-i-preserved
 loop-i-preserved c =
@@ -22,9 +15,6 @@ loop-i-preserved c =
     let v = c.loop-i.invariant in
     let p = c.packed in
     (omega arith, simp length-set v.1, λ j l. earlier c.loop-i.places (x.at + c.loop-i.i) j p.result (omega arith) ∙ v.2 j l, holds_more c.loop-i.places x.at x.week c.loop-i.i p.result (omega arith) v.3 p.ensures.0 p.ensures.1)
-
-pub shape_of-places : goal.shape_of-places
-shape_of-places c = c.loop-i.invariant.1
 
 pub returns : goal.returns
 returns c =

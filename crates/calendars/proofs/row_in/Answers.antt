@@ -1,6 +1,5 @@
 -- `calendars::row_in` meets its contract, period by period.
 use Rattle.calendars.specs.Packed.{row_in}
-use borrow.Author.Rules.{rules}
 use Rattle.calendars.proofs.row_in.Goals as goal
 
 pub returns : goal.returns

@@ -1,6 +1,5 @@
 -- `calendars::week_in` meets its contract, row by row.
 use Rattle.calendars.specs.Packed.{week_in}
-use borrow.Author.Rules.{rules}
 use Rattle.calendars.proofs.week_in.Goals as goal
 
 pub returns : goal.returns

@@ -1,7 +1,6 @@
 -- `calendars::week_of` meets its contract: the table has the plan's week.
 use mathlib.Core.Path.{sym, ◌∙◌}
 use Rattle.calendars.specs.CalendarLaws.{week_named, week_last}
-use borrow.Author.Rules.{rules}
 use Rattle.calendars.proofs.week_of.Goals as goal
 
 pub returns-then-k-contents : goal.returns-then-k-contents

@@ -159,4 +159,5 @@ pub returns : goal.returns
 returns c =
     let p = c.requires in
     let i = c.loop-j.invariant in
-    ended _ _ _ _ _ _ _ _ _ p.0 p.1 p.2 i.1 i.3 i.5 (λ k h l. absurd (omega arith)) (i.4 c.args.week c.sums_of-sums.ensures)
+    let e : c.loop-j.j ≡ c.args.n = omega (arith, i.1, c.loop-j-test.false) in
+    rw e at (ended _ _ _ _ _ _ _ _ _ p.0 p.1 p.2 i.1 i.3 i.5 (λ k h l. absurd (omega arith)) (i.4 c.args.week c.sums_of-sums.ensures))

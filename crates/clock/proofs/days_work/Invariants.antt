@@ -14,6 +14,3 @@ invariant-loop-j l =
     × ((week : List (List Period)) → Sums week l.sums → l.sum ≡ days_work (hours_on week l.sheet l.at l.j) l.d (l.e - l.d))
     × ((i : ℕ) → i < l.j → exception_day l.sheet l.at i < l.next)
     × ((l.next ≡ l.d) ⊎ ((0 < l.j) × (l.next ≡ exception_day l.sheet l.at (l.j - 1) + 1)))
-
-abbrev pub decreases-loop-j : goal.decreases-loop-j
-decreases-loop-j l = l.n - l.j

@@ -30,11 +30,11 @@ pub day_next-requires : goal.day_next-requires
 day_next-requires c = c.hours_from-hours.ensures.0.within
 
 -- what the day's answer says of the calendar
-found : (c : goal.In-At) →
+found : (c : goal.In-Some) →
     let a = c.args in
     let w = worked_on a.week a.sheet.now a.at a.n in
     let d = c.loop-d.d in
-    let x = c.in-At.x in
+    let x = c.in-Some.x in
     (c.loop-d.m ≤ x) × (x < 1440) × (w (d * 1440 + x) ≡ true) × (count w (d * 1440 + x) ≡ count w (d * 1440 + c.loop-d.m))
 found c =
     let a = c.args in
@@ -42,13 +42,13 @@ found c =
     let d = c.loop-d.d in
     let o = c.requires.ordered d in
     day_next_at h d o c.loop-d.m _
-    (hand_next h d o _ (c.hours_from-hours.ensures.0.is a.week refl) c.loop-d.m _ _ c.day_next.ensures c.in-At.is)
+    (hand_next h d o _ (c.hours_from-hours.ensures.0.is a.week refl) c.loop-d.m _ _ c.day_next.ensures c.in-Some.is)
 
 pub overflow_add-result : goal.overflow_add-result
 overflow_add-result c = omega (arith, (found c).1)
 
-pub returns-in-At : goal.returns-in-At
-returns-in-At c = let f = found c in sym (next_start_at _ (omega arith) (omega arith) f.2 (omega arith))
+pub returns-in-Some : goal.returns-in-Some
+returns-in-Some c = let f = found c in sym (next_start_at _ (omega arith) (omega arith) f.2 (omega arith))
 
 pub overflow_add-from : goal.overflow_add-from
 overflow_add-from c = omega (arith, c.hours_from-hours.ensures.1.within)
@@ -62,7 +62,7 @@ loop-d-preserved c =
     let f = c.hours_from-hours.ensures in
     let none =
     day_next_none h d o c.loop-d.m (omega arith)
-    (hand_next h d o _ (f.0.is a.week refl) c.loop-d.m _ _ c.day_next.ensures c.in-Nothing.is) in
+    (hand_next h d o _ (f.0.is a.week refl) c.loop-d.m _ _ c.day_next.ensures c.in-None.is) in
     (omega arith, omega arith, omega arith, sym (count_next_day (worked h) d) ∙ none ∙ c.loop-d.invariant.3, f.1)
 
 pub returns : goal.returns

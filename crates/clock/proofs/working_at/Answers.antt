@@ -3,7 +3,7 @@ use Rattle.std.specs.Prelude.{Ok}
 use mathlib.Core.Path.{◌≡◌, refl, sym, ap, ◌∙◌}
 use native.Mathlib.Omega.{arith}
 use Prim.Native.Nat.{◌/◌, ◌%◌}
-use Rattle.calendar.specs.declared.Found.TheVariants.{At as FoundAt}
+use Rattle.std.proofs.Common.{Some}
 use Rattle.calendar.specs.Hours.{worked}
 use Rattle.calendar.specs.Records.{hours_on}
 use Rattle.date.specs.Years.{years_before, years_after, years_within}
@@ -22,9 +22,9 @@ returns-then-x-m c =
     let a = c.args in
     let h = hours_on a.week a.sheet.now a.at a.n in
     let o = c.requires.ordered (a.t / 1440) in
-    let e = hand_next h (a.t / 1440) o _ (c.hours_on-hours.ensures.is a.week refl) (a.t % 1440) _ _ c.day_next.ensures c.in-At.is in
-    let x : c.in-At.x ≡ a.t % 1440 = c.if-x-m.true in
-    let t = day_next_here h (a.t / 1440) o (a.t % 1440) (omega arith) (e ∙ ap FoundAt x) in
+    let e = hand_next h (a.t / 1440) o _ (c.hours_on-hours.ensures.is a.week refl) (a.t % 1440) _ _ c.day_next.ensures c.in-Some.is in
+    let x : c.in-Some.x ≡ a.t % 1440 = c.if-x-m.true in
+    let t = day_next_here h (a.t / 1440) o (a.t % 1440) (omega arith) (e ∙ ap Some x) in
     sym (working_at_in (worked h) a.t (years_within _ (omega arith) (omega arith)) ∙ ap Ok (sym (worked_time (worked h) a.t) ∙ t))
 
 pub returns-else-x-m : goal.returns-else-x-m
@@ -32,15 +32,15 @@ returns-else-x-m c =
     let a = c.args in
     let h = hours_on a.week a.sheet.now a.at a.n in
     let o = c.requires.ordered (a.t / 1440) in
-    let e = hand_next h (a.t / 1440) o _ (c.hours_on-hours.ensures.is a.week refl) (a.t % 1440) _ _ c.day_next.ensures c.in-At.is in
+    let e = hand_next h (a.t / 1440) o _ (c.hours_on-hours.ensures.is a.week refl) (a.t % 1440) _ _ c.day_next.ensures c.in-Some.is in
     let t = day_next_later h (a.t / 1440) o (a.t % 1440) _ (omega arith) e c.if-x-m.false in
     sym (working_at_in (worked h) a.t (years_within _ (omega arith) (omega arith)) ∙ ap Ok (sym (worked_time (worked h) a.t) ∙ t))
 
-pub returns-in-Nothing : goal.returns-in-Nothing
-returns-in-Nothing c =
+pub returns-in-None : goal.returns-in-None
+returns-in-None c =
     let a = c.args in
     let h = hours_on a.week a.sheet.now a.at a.n in
     let o = c.requires.ordered (a.t / 1440) in
-    let e = hand_next h (a.t / 1440) o _ (c.hours_on-hours.ensures.is a.week refl) (a.t % 1440) _ _ c.day_next.ensures c.in-Nothing.is in
+    let e = hand_next h (a.t / 1440) o _ (c.hours_on-hours.ensures.is a.week refl) (a.t % 1440) _ _ c.day_next.ensures c.in-None.is in
     let t = day_next_never h (a.t / 1440) o (a.t % 1440) (omega arith) e in
     sym (working_at_in (worked h) a.t (years_within _ (omega arith) (omega arith)) ∙ ap Ok (sym (worked_time (worked h) a.t) ∙ t))

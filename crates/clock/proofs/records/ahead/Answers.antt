@@ -150,4 +150,5 @@ loop-j-preserved c =
 pub returns : goal.returns
 returns c =
     let i = c.loop-j.invariant in
-    (i.5, i.1, λ h. absurd (omega arith), i.2)
+    let e : c.loop-j.j ≡ c.args.n = omega (arith, i.0, c.loop-j-test.false) in
+    (rw e at i.5, i.1, λ h. absurd (omega arith), i.2)

@@ -1,7 +1,7 @@
 -- `clock::records::ahead` meets its contract. The loop keeps where the walk stands, with less passed than it has to work.
 use mathlib.Core.Path.{◌≡◌}
 use mathlib.Core.List.{List}
-use Prim.Native.Nat.{ℕ, ◌+◌, ◌-◌, ◌*◌, ◌^◌, ◌≤◌, ◌<◌}
+use Prim.Native.Nat.{ℕ, ◌+◌, ◌*◌, ◌^◌, ◌≤◌, ◌<◌}
 use Rattle.calendar.specs.declared.Period.{Period}
 use Rattle.calendar.specs.Records.{exception_day, Valid}
 use Rattle.worktime.specs.Worked.{count}
@@ -14,6 +14,3 @@ abbrev pub invariant-loop-j : goal.invariant-loop-j
 invariant-loop-j l =
     (l.j ≤ l.n) × (l.passed < l.work) × (l.over < 2 ^ 43) × (l.over ≡ regular l.sums l.next) × ((i : ℕ) → l.j ≤ i → i < l.n → l.next ≤ exception_day l.sheet l.at i + 1)
     × ((week : List (List Period)) → Valid week l.sheet l.at l.n → Sums week l.sums → Ahead week l.sheet l.at l.n l.sums l.j (count (worked_on week l.sheet l.at l.n) (l.d * 1440) + l.passed) l.over)
-
-abbrev pub decreases-loop-j : goal.decreases-loop-j
-decreases-loop-j l = l.n - l.j

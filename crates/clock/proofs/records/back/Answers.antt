@@ -122,7 +122,9 @@ returns-then-work-done c =
     (omega (arith, day.ensures.0, c.loop-j.invariant.4 (c.loop-j.j - 1) (omega arith))) c.loop-j.invariant.3
     (elim c.if-day-next.branch [ then-day-next w ↦ inl (w.if-day-next.true, w.out-is) | else-day-next w ↦ inr (w.if-day-next.false, w.out-is) ]) in
     let own = ap (λ z. regular c.args.sums (z + 1)) day.ensures.0 in
-    (i.5, i.1, λ p. (omega (arith, f.0, f.1, own), omega (arith, c.if-work-done.true, c.exception_work.ensures.0)), omega (arith, i.0, c.requires.3.within), i.2)
+    let e : c.loop-j.j ≡ c.loop-j.j - 1 + 1 = omega arith in
+    let last : c.loop-j.j - 1 + 1 - 1 ≡ c.loop-j.j - 1 = omega arith in
+    (rw e at i.5, i.1, λ p. rw last (omega (arith, f.0, f.1, own), omega (arith, c.if-work-done.true, c.exception_work.ensures.0)), omega (arith, i.0, c.requires.3.within), i.2)
 
 pub overflow_sub-over : goal.overflow_sub-over
 overflow_sub-over c =
@@ -158,4 +160,5 @@ loop-j-preserved c =
 pub returns : goal.returns
 returns c =
     let i = c.loop-j.invariant in
-    (i.5, i.1, λ p. absurd (omega (arith, c.loop-j-test.false)), omega (arith, i.0, c.requires.3.within), i.2)
+    let e : c.loop-j.j ≡ 0 = omega (arith, c.loop-j-test.false) in
+    (rw e at i.5, i.1, λ p. absurd (omega (arith, p)), omega arith, i.2)

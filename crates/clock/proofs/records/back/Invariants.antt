@@ -15,6 +15,3 @@ invariant-loop-j l =
     (l.j ≤ l.from) × (l.passed < l.work) × (l.over < 2 ^ 43) × (l.over ≡ regular l.sums l.next) × ((i : ℕ) → i < l.j → exception_day l.sheet l.at i ≤ l.next)
     × ((week : List (List Period)) → Valid week l.sheet l.at l.n → Sums week l.sums
     → (l.passed ≤ count (worked_on week l.sheet l.at l.n) (l.d * 1440)) × Behind week l.sheet l.at l.n l.sums l.j (count (worked_on week l.sheet l.at l.n) (l.d * 1440) - l.passed) l.over)
-
-abbrev pub decreases-loop-j : goal.decreases-loop-j
-decreases-loop-j l = l.j

@@ -1,7 +1,7 @@
 -- `clock::weeks::sums_of` meets its contract. The sums of the first `k` weekdays are found.
 use mathlib.Core.Path.{◌≡◌}
 use mathlib.Core.List.{[]}
-use Prim.Native.Nat.{ℕ, ◌≤◌, ◌<◌, ◌+◌, ◌-◌, ◌*◌}
+use Prim.Native.Nat.{ℕ, ◌≤◌, ◌<◌, ◌+◌, ◌*◌}
 use lib.ListN.{length, get_or}
 use Rattle.calendar.specs.Hours.{rank}
 use Rattle.clock.proofs.weeks.sums_of.Given as goal
@@ -9,6 +9,3 @@ use Rattle.clock.proofs.weeks.sums_of.Given as goal
 abbrev pub invariant-loop-k : goal.invariant-loop-k
 invariant-loop-k l =
     (l.k ≤ 7) × (length l.sums ≡ 8) × (get_or l.sums 0 0 ≡ 0) × ((j : ℕ) → j < l.k → get_or l.sums (j + 1) 0 ≡ get_or l.sums j 0 + rank (get_or l.week j []) 1440) × (get_or l.sums l.k 0 ≤ 1440 * l.k)
-
-abbrev pub decreases-loop-k : goal.decreases-loop-k
-decreases-loop-k l = 7 - l.k

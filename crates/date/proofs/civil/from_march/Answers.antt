@@ -1,5 +1,4 @@
 -- `date::civil::from_march` meets its contract: March to December are of the year, January and February of the next.
-use borrow.Author.Rules.{rules}
 use mir.Facts.{to_z-of_z}
 use Rattle.date.specs.CivilLaws.{spring, winter}
 use Rattle.date.proofs.civil.from_march.Goals as goal

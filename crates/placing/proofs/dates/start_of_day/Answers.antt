@@ -23,32 +23,32 @@ overflow_add-result c =
     let e = c.midnight-t.ensures.0 in
     let o = c.requires.ordered (t / 1440) in
     let q : t / 1440 * 1440 ≡ t = omega (arith, e) in
-    let f = day_start_found h (t / 1440) o _ (hand_next h (t / 1440) o _ c.periods_on-hours.ensures.0 0 _ _ c.day_next.ensures c.in-At.is) in
+    let f = day_start_found h (t / 1440) o _ (hand_next h (t / 1440) o _ c.periods_on-hours.ensures.0 0 _ _ c.day_next.ensures c.in-Some.is) in
     omega (arith, f.1, c.midnight-t.ensures.1)
 
-pub returns-in-At : goal.returns-in-At
-returns-in-At c =
+pub returns-in-Some : goal.returns-in-Some
+returns-in-Some c =
     let a = c.args in
     let h = hours_on a.week a.sheet.now a.at a.n in
     let t = c.midnight-t.result in
     let e = c.midnight-t.ensures.0 in
     let o = c.requires.ordered (t / 1440) in
     let q : t / 1440 * 1440 ≡ t = omega (arith, e) in
-    let f = day_start_found h (t / 1440) o _ (hand_next h (t / 1440) o _ c.periods_on-hours.ensures.0 0 _ _ c.day_next.ensures c.in-At.is) in
-    let g : day_start (worked h) t ≡ t + c.in-At.m = rw q at f.0 in
+    let f = day_start_found h (t / 1440) o _ (hand_next h (t / 1440) o _ c.periods_on-hours.ensures.0 0 _ _ c.day_next.ensures c.in-Some.is) in
+    let g : day_start (worked h) t ≡ t + c.in-Some.m = rw q at f.0 in
     sym
     (reads_in Err _ _ (ap (λ (x : ℕ). in_years (x / 1440)) (sym e) ∙ sym c.in_years.ensures ∙ c.if-in_years.true)
     ∙ ap Ok (ap (day_start (worked h)) (sym e) ∙ g))
 
-pub returns-in-Nothing : goal.returns-in-Nothing
-returns-in-Nothing c =
+pub returns-in-None : goal.returns-in-None
+returns-in-None c =
     let a = c.args in
     let h = hours_on a.week a.sheet.now a.at a.n in
     let t = c.midnight-t.result in
     let e = c.midnight-t.ensures.0 in
     let o = c.requires.ordered (t / 1440) in
     let q : t / 1440 * 1440 ≡ t = omega (arith, e) in
-    let f = day_start_free h (t / 1440) o (hand_next h (t / 1440) o _ c.periods_on-hours.ensures.0 0 _ _ c.day_next.ensures c.in-Nothing.is) in
+    let f = day_start_free h (t / 1440) o (hand_next h (t / 1440) o _ c.periods_on-hours.ensures.0 0 _ _ c.day_next.ensures c.in-None.is) in
     let g : day_start (worked h) t ≡ t = rw q at f in
     sym
     (reads_in Err _ _ (ap (λ (x : ℕ). in_years (x / 1440)) (sym e) ∙ sym c.in_years.ensures ∙ c.if-in_years.true)

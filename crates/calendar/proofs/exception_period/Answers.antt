@@ -1,6 +1,0 @@
--- `calendar::exception_period` meets its contract.
-use borrow.Author.Rules.{rules}
-use Rattle.calendar.proofs.exception_period.Goals as goal
-
-pub returns : goal.returns
-returns c = cc
