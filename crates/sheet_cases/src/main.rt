@@ -65,7 +65,10 @@ fn build(file: &[u8], from: usize, parts: usize, sheet: &mut [u8]) -> Built
 fn answer(rt: &impl Print, index: u64, sheet: &[u8]) -> io::Result<()> {
     match sheet::read(sheet) {
         Ok(c) => {
-            println!(rt; "{index} read {} {} {} {}", c.calendars, c.at, c.activities, c.links)
+            println!(rt;
+                "{index} read {} {} {} {}",
+                c.calendars, c.at, c.activities, c.links
+            )
         }
         Err(e) => println!(rt; "{index} refused {}", e.number()),
     }

@@ -2,5 +2,5 @@
 use Rattle.std.proofs.Common.{◌≤◌, length}
 use Rattle.sheet_cases.proofs.build.Given as goal
 
-abbrev pub invariant-loop-range : goal.invariant-loop-range
-invariant-loop-range l = (l.from ≤ l.next) × (l.next ≤ length l.file) × (l.size ≤ length l.sheet)
+abbrev pub invariant-loop : goal.invariant-loop
+invariant-loop l = (l.from ≤ l.next) × (l.next ≤ length l.file) × (l.size ≤ length l.sheet)
