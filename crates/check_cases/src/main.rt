@@ -8,7 +8,7 @@ ghost use Rattle.order.specs.Plan.{plan_of};
 ghost use Rattle.calendars.specs.Calendars.{Places, Lengths};
 
 use checks::Checked;
-use sheet::{Contents, Sheet};
+use sheet::Contents;
 use std::{fs, io};
 
 fn print(rt: &impl Print, n: u64) -> io::Result<()> {
@@ -158,14 +158,13 @@ fn check_read(rt: &impl Print, sheet: &[u8], contents: Contents) -> io::Result<(
 // The line of a sheet.
 fn answer(rt: &impl Print, index: u64, sheet: &[u8]) -> io::Result<()> {
     print!(rt; "{index}")?;
-    let read = sheet::read(sheet);
-    match read {
-        Sheet::Read(contents) => {
+    match sheet::read(sheet) {
+        Ok(contents) => {
             check_read(rt, sheet, contents)?;
         }
-        Sheet::Refused(number) => {
+        Err(e) => {
             print!(rt; " refused")?;
-            print(rt, number)?;
+            print(rt, e.number())?;
             print(rt, 0)?;
         }
     }

@@ -2,14 +2,14 @@
 // by minute as document 01 words the clock and shares nothing with the code here.
 #![tactic(auto)]
 
-ghost use Rattle.std.specs.Prelude.{◌≡◌, ℕ, ◌+◌, ◌*◌, ◌^◌, min, ◌≤◌, ◌<◌, length};
+ghost use Rattle.std.specs.Prelude.{◌≡◌, Ok, ℕ, ◌+◌, ◌*◌, ◌^◌, min, ◌≤◌, ◌<◌, length};
 ghost use Rattle.number.specs.Zed.{dn};
 ghost use Rattle.calendar.specs.Records.{Valid};
-ghost use Rattle.sheet.specs.declared.Run.TheVariants.{Count};
-ghost use Rattle.sheet.specs.Reading.{weeks_from, exceptions_from};
+ghost use Rattle.sheet.specs.declared.runs.RecordKind.TheVariants.{Week, Exception};
+ghost use Rattle.sheet.specs.Reading.{run_of};
 
 use calendar::Period;
-use sheet::Run;
+use sheet::runs::RecordKind;
 use std::{fs, io};
 use worktime::{Walk, Work, Working};
 
@@ -329,7 +329,7 @@ fn print_calendar(rt: &impl Print, week: [[Period; 8]; 7], w: usize, e: usize) -
 
 // The cases of a calendar of `w` W records from `at` on and `e` E records from `from` on; after a mark of 1 they are cases round the clock.
 fn run_week(rt: &impl Print, file: &[u8], at: usize, w: usize, from: usize, e: usize) -> Ran
-    requires { (at ≤ from) × (at ≤ length file.now) × (from ≤ length file.now) × (weeks_from file.now at ≡ Count w) × (exceptions_from file.now from ≡ Count e) }
+    requires { (at ≤ from) × (at ≤ length file.now) × (from ≤ length file.now) × (run_of file.now Week at ≡ Ok w) × (run_of file.now Exception from ≡ Ok e) }
     ensures { (min (at + 1) (length file.now) ≤ result.end) × (result.end ≤ length file.now) }
 {
     let end = from + 9 * e;
@@ -352,17 +352,16 @@ fn run_week(rt: &impl Print, file: &[u8], at: usize, w: usize, from: usize, e: u
 
 // The cases of a calendar whose `w` W records stand from `at` on.
 fn run_weeks(rt: &impl Print, file: &[u8], at: usize, w: usize) -> Ran
-    requires { (at ≤ length file.now) × (weeks_from file.now at ≡ Count w) }
+    requires { (at ≤ length file.now) × (run_of file.now Week at ≡ Ok w) }
     ensures { (min (at + 1) (length file.now) ≤ result.end) × (result.end ≤ length file.now) }
 {
     let from = at + 6 * w;
-    let exceptions = sheet::runs::read_exceptions(file, from);
-    match exceptions {
-        Run::Refused(r) => Ran {
+    match sheet::runs::read_run(file, RecordKind::Exception, from) {
+        Err(e) => Ran {
             end: file.len(),
-            printed: print_refused(rt, r),
+            printed: print_refused(rt, e.number()),
         },
-        Run::Count(e) => run_week(rt, file, at, w, from, e),
+        Ok(e) => run_week(rt, file, at, w, from, e),
     }
 }
 
@@ -371,13 +370,12 @@ fn run_calendar(rt: &impl Print, file: &[u8], at: usize) -> Ran
     requires { at ≤ length file.now }
     ensures { (min (at + 1) (length file.now) ≤ result.end) × (result.end ≤ length file.now) }
 {
-    let weeks = sheet::runs::read_weeks(file, at);
-    match weeks {
-        Run::Refused(r) => Ran {
+    match sheet::runs::read_run(file, RecordKind::Week, at) {
+        Err(e) => Ran {
             end: file.len(),
-            printed: print_refused(rt, r),
+            printed: print_refused(rt, e.number()),
         },
-        Run::Count(w) => run_weeks(rt, file, at, w),
+        Ok(w) => run_weeks(rt, file, at, w),
     }
 }
 

@@ -1,5 +1,5 @@
 -- Demand 3 about the call's own answers: loops are refused exactly where kept links close one, and named; the early starts shown are the earliest.
-use Rattle.std.specs.Prelude.{◌≡◌, true, false, List, ◌++◌, ◌≢◌, ◌↔◌, ℕ, ◌+◌, ◌*◌, ◌<◌, eqb, ℤ, pos, length, get_or, drop}
+use Rattle.std.specs.Prelude.{◌≡◌, true, false, Ok, List, ◌++◌, ◌≢◌, ◌↔◌, ℕ, ◌+◌, ◌*◌, ◌<◌, eqb, ℤ, pos, length, get_or, drop}
 use Rattle.std.proofs.Math.Path.{refl, ap}
 use Rattle.std.proofs.Common.{sym, ◌∙◌, arith, eq-eqb, ne_eqb}
 use Rattle.std.proofs.Math.Logic.{⊎_elim}
@@ -9,7 +9,6 @@ use Rattle.number.specs.Bytes.{byte_at}
 use Rattle.worktime.specs.Reads.{on_true, on_false}
 use Rattle.date.specs.Days.{signed_minute}
 use Rattle.sheet.specs.declared.Contents.{Contents}
-use Rattle.sheet.specs.declared.Sheet.TheVariants.{Read}
 use Rattle.sheet.specs.Reading.{read_sheet}
 use Rattle.sheet.specs.Known.{SheetRead}
 use Rattle.sheet.specs.ReadLaws.{read_known}
@@ -89,7 +88,7 @@ module _ (m : Lent) (p : Plan) where
       rw (planned_run z) (ran_accepted (run p) (run_eight p) refl (ap (λ (x : Ended). number_of x.answer) (sym (planned_run z)) ∙ e) z))
       (λ n. absurd (n (ap (λ (x : Ended). number_of x.answer) (sym (planned_refused n)) ∙ e))) (eq_or_ne (checked p).number 0)
 
-module _ (s : List ℕ) (bytes : (i : ℕ) → byte_at s i < 256) (m : Lent) (c : Contents) (read : read_sheet s ≡ Read c) (room : room_for m c ≡ true) where
+module _ (s : List ℕ) (bytes : (i : ℕ) → byte_at s i < 256) (m : Lent) (c : Contents) (read : read_sheet s ≡ Ok c) (room : room_for m c ≡ true) where
   pub outcome_planned : outcome s m ≡ planned m (plan_of s c)
   unfolding outcome
   outcome_planned = rw read (on_true (room_for m c) (planned m (plan_of s c)) (untouched m 1) room)

@@ -1,5 +1,5 @@
 // The tests of one record's fields: 3 of 01's table is given where one of them fails.
-#![tactic(auto)]
+#![tactic(auto, unfolding(project::specs::Fields::day_ok, project::specs::Fields::day_or_absent, project::specs::Fields::header_ok, project::specs::Fields::calendar_ok, project::specs::Fields::constraint_ok, project::specs::Fields::activity_ok, project::specs::Fields::link_ok))]
 
 ghost use Rattle.std.specs.Prelude.{◌≡◌, ◌+◌, ◌≤◌, ◌<◌, leb, length};
 ghost use Rattle.number.specs.Bytes.{byte_at, biased_at};

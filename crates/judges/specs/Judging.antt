@@ -1,25 +1,26 @@
--- What one record in its place and whole is judged: row 4 or 3 of 01's table, or 0 where it may stand.
-use Rattle.std.specs.Prelude.{Bool, true, false, ◌&&◌, ◌||◌, not, List, ℕ, zero, suc, ◌+◌, ◌*◌, eqb, leb, ltb, length}
+-- What one record in its place and whole is judged: row 4 or 3 of 01's table, or `Ok` where it may stand.
+use Rattle.std.specs.Prelude.{Bool, true, false, ◌&&◌, ◌||◌, not, Result, Ok, Err, List, ℕ, zero, suc, ◌+◌, ◌*◌, eqb, leb, ltb, length}
 use Rattle.calendar.specs.declared.Period.{Period}
 use Rattle.calendar.specs.Records.{weekday_at, week_period_at, week_periods, exception_day, exception_period}
+use Rattle.judges.specs.declared.SheetError.{SheetError}
+use Rattle.judges.specs.declared.SheetError.TheVariants.{Malformed, OutOfRange, BeyondLimit}
 use Rattle.project.specs.Fields.{activity_size, link_size, day_ok, calendar_ok, activity_ok, link_ok}
 
 -- rows 2, 3 and 4 of 01's table
-abbrev pub misplaced : ℕ
-misplaced = 2
+abbrev pub sheet_number : SheetError → ℕ
+sheet_number Malformed = 2
+sheet_number OutOfRange = 3
+sheet_number BeyondLimit = 4
 
-abbrev pub out_of_range : ℕ
-out_of_range = 3
+abbrev pub Verdict : Type 0
+Verdict = Result Unit SheetError
 
-abbrev pub beyond_limit : ℕ
-beyond_limit = 4
-
--- ---- "sheet records in turn, each 2, 4, 3": 4 or 3 for a record that is in its place and whole, 0 where it may stand
-unfoldable pub judged : Bool → Bool → ℕ
-judged beyond ok = elim beyond [ true ↦ beyond_limit | false ↦ elim ok [ true ↦ 0 | false ↦ out_of_range ] ]
+-- ---- "sheet records in turn, each 2, 4, 3": 4 or 3 for a record that is in its place and whole, `Ok` where it may stand
+unfoldable pub judged : Bool → Bool → Verdict
+judged beyond ok = elim beyond [ true ↦ Err BeyondLimit | false ↦ elim ok [ true ↦ Ok tt | false ↦ Err OutOfRange ] ]
 
 -- "At most 15 C"
-unfoldable pub judge_calendar : List ℕ → ℕ → ℕ → ℕ
+unfoldable pub judge_calendar : List ℕ → ℕ → ℕ → Verdict
 judge_calendar s at k = judged (leb 15 k) (calendar_ok s at)
 
 -- "From < to ≤ 1,440"
@@ -34,7 +35,7 @@ week_after s at (suc i) =
     || (eqb (weekday_at s at i) (weekday_at s at (suc i)) && leb (week_period_at s at i).to (week_period_at s at (suc i)).from)
 
 -- "at most 8 a weekday"; a weekday of 7 or more has no count
-unfoldable pub judge_week : List ℕ → ℕ → ℕ → ℕ
+unfoldable pub judge_week : List ℕ → ℕ → ℕ → Verdict
 judge_week s at i =
     judged (ltb (weekday_at s at i) 7 && leb 8 (length (week_periods s at (weekday_at s at i) i)))
     (ltb (weekday_at s at i) 7 && period_ok (week_period_at s at i) && week_after s at i)
@@ -52,15 +53,15 @@ exception_after s at (suc i) =
     && leb (exception_period s at i).to (exception_period s at (suc i)).from)
 
 -- "At most 256 a calendar"
-unfoldable pub judge_exception : List ℕ → ℕ → ℕ → ℕ
+unfoldable pub judge_exception : List ℕ → ℕ → ℕ → Verdict
 judge_exception s at i =
     judged (leb 256 i)
     (day_ok (exception_day s at i) && (no_work (exception_period s at i) || period_ok (exception_period s at i)) && exception_after s at i)
 
 -- "At most 4,096"
-unfoldable pub judge_activity : List ℕ → ℕ → ℕ → ℕ
+unfoldable pub judge_activity : List ℕ → ℕ → ℕ → Verdict
 judge_activity s at i = judged (leb 4096 i) (activity_ok s (at + activity_size * i))
 
 -- "At most 16,384"
-unfoldable pub judge_link : List ℕ → ℕ → ℕ → ℕ
+unfoldable pub judge_link : List ℕ → ℕ → ℕ → Verdict
 judge_link s at i = judged (leb 16384 i) (link_ok s (at + link_size * i))

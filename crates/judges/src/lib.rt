@@ -1,29 +1,72 @@
-// The judges of one record: 4 or 3 of 01's table for one that is in its place and whole, 0 where it may stand.
-#![tactic(auto)]
+// The judges of one record: row 4 or 3 of 01's table for one that is in its place and whole, Ok where it may stand.
+#![tactic(auto, unfolding(crate::specs::Judging::judged, crate::specs::Judging::judge_calendar, crate::specs::Judging::judge_week, crate::specs::Judging::judge_exception, crate::specs::Judging::judge_activity, crate::specs::Judging::judge_link, crate::specs::Judging::period_ok, crate::specs::Judging::no_work))]
 
 ghost use Rattle.std.specs.Prelude.{◌≡◌, ◌+◌, ◌*◌, ◌≤◌, length};
 ghost use Rattle.calendar.specs.Records.{week_periods};
 ghost use Rattle.project.specs.Fields.{calendar_size};
-ghost use Rattle.judges.specs.Judging.{judged, judge_calendar, period_ok, week_after, judge_week, no_work, exception_after, judge_exception, judge_activity, judge_link};
+ghost use Rattle.judges.specs.Judging.{sheet_number, judged, judge_calendar, period_ok, week_after, judge_week, no_work, exception_after, judge_exception, judge_activity, judge_link};
 
 use calendar::Period;
+use std::error::Error;
+use std::fmt;
 
-fn verdict(beyond: bool, ok: bool) -> u64
-    ensures { (result ≡ judged beyond ok) × (result ≤ 4) }
+// Why a sheet is refused.
+#[derive(Clone, Copy, Debug, PartialEq, Eq)]
+pub enum SheetError {
+    // An unknown kind, a cut record, a wrong order, no P or no C.
+    Malformed,
+    // A field out of its range.
+    OutOfRange,
+    // A record beyond a limit.
+    BeyondLimit,
+}
+
+impl SheetError {
+    // Its row in 01's table.
+    pub fn number(self) -> u64
+        ensures { (result ≡ sheet_number self) × (result ≤ 4) }
+    {
+        match self {
+            SheetError::Malformed => 2,
+            SheetError::OutOfRange => 3,
+            SheetError::BeyondLimit => 4,
+        }
+    }
+}
+
+impl fmt::Display for SheetError {
+    fn fmt<W: fmt::Write>(&self, f: &mut fmt::Formatter<W>) -> fmt::Result {
+        match self {
+            SheetError::Malformed => {
+                write!(
+                    f,
+                    "an unknown kind, a cut record, a wrong order, no P or no C"
+                )
+            }
+            SheetError::OutOfRange => write!(f, "a field out of its range"),
+            SheetError::BeyondLimit => write!(f, "a record beyond a limit"),
+        }
+    }
+}
+
+impl Error for SheetError {}
+
+fn verdict(beyond: bool, ok: bool) -> Result<(), SheetError>
+    ensures { result ≡ judged beyond ok }
 {
     if beyond {
-        return 4;
+        return Err(SheetError::BeyondLimit);
     }
     if ok {
-        return 0;
+        return Ok(());
     }
-    3
+    Err(SheetError::OutOfRange)
 }
 
 // C number `k`, at a place.
-pub fn judge_calendar(sheet: &[u8], at: usize, k: usize) -> u64
+pub fn judge_calendar(sheet: &[u8], at: usize, k: usize) -> Result<(), SheetError>
     requires { at + calendar_size ≤ length sheet.now }
-    ensures { (result ≡ judge_calendar sheet.now at k) × (result ≤ 4) }
+    ensures { result ≡ judge_calendar sheet.now at k }
 {
     verdict(15 <= k, fields::calendar_ok(sheet, at))
 }
@@ -41,6 +84,7 @@ fn no_work(p: Period) -> bool
 }
 
 // Whether W record `i` comes after the one before it.
+#[tactic(auto, using(crate::specs::StepLaws::week_first, crate::specs::StepLaws::week_next))]
 fn week_after(sheet: &[u8], at: usize, i: usize) -> bool
     requires { at + 6 * i + 6 ≤ length sheet.now }
     ensures { result ≡ week_after sheet.now at i }
@@ -57,24 +101,23 @@ fn week_after(sheet: &[u8], at: usize, i: usize) -> bool
 }
 
 // How many of the first `n` W records have weekday `k`.
+#[tactic(auto, using(crate::specs::StepLaws::count_none, crate::specs::StepLaws::count_take, crate::specs::StepLaws::count_skip))]
 fn weekday_count(sheet: &[u8], at: usize, k: u64, n: usize) -> usize
     requires { at + 6 * n ≤ length sheet.now }
     ensures { result ≡ length (week_periods sheet.now at k n) }
 {
     let mut count: usize = 0;
-    let mut i: usize = 0;
-    while i < n {
+    for i in 0..n {
         if number::byte(sheet, at + 6 * i + 1) == k {
             count += 1;
         }
-        i += 1;
     }
     count
 }
 
-pub fn judge_week(sheet: &[u8], at: usize, i: usize) -> u64
+pub fn judge_week(sheet: &[u8], at: usize, i: usize) -> Result<(), SheetError>
     requires { at + 6 * i + 6 ≤ length sheet.now }
-    ensures { (result ≡ judge_week sheet.now at i) × (result ≤ 4) }
+    ensures { result ≡ judge_week sheet.now at i }
 {
     let day = number::byte(sheet, at + 6 * i + 1);
     let p = calendar::week_period(sheet, at, i);
@@ -86,6 +129,7 @@ pub fn judge_week(sheet: &[u8], at: usize, i: usize) -> u64
 }
 
 // Whether E record `i` comes after the one before it.
+#[tactic(auto, using(crate::specs::StepLaws::exception_first, crate::specs::StepLaws::exception_next))]
 fn exception_after(sheet: &[u8], at: usize, i: usize) -> bool
     requires { at + 9 * i + 9 ≤ length sheet.now }
     ensures { result ≡ exception_after sheet.now at i }
@@ -101,9 +145,9 @@ fn exception_after(sheet: &[u8], at: usize, i: usize) -> bool
     (last < day) | ((last == day) & !no_work(before) & !no_work(p) & (before.to <= p.from))
 }
 
-pub fn judge_exception(sheet: &[u8], at: usize, i: usize) -> u64
+pub fn judge_exception(sheet: &[u8], at: usize, i: usize) -> Result<(), SheetError>
     requires { at + 9 * i + 9 ≤ length sheet.now }
-    ensures { (result ≡ judge_exception sheet.now at i) × (result ≤ 4) }
+    ensures { result ≡ judge_exception sheet.now at i }
 {
     let day = calendar::exception_day(sheet, at, i);
     let p = calendar::exception_period(sheet, at, i);
@@ -113,16 +157,16 @@ pub fn judge_exception(sheet: &[u8], at: usize, i: usize) -> u64
     )
 }
 
-pub fn judge_activity(sheet: &[u8], at: usize, i: usize) -> u64
+pub fn judge_activity(sheet: &[u8], at: usize, i: usize) -> Result<(), SheetError>
     requires { at + 45 * i + 45 ≤ length sheet.now }
-    ensures { (result ≡ judge_activity sheet.now at i) × (result ≤ 4) }
+    ensures { result ≡ judge_activity sheet.now at i }
 {
     verdict(4096 <= i, fields::activity_ok(sheet, at + 45 * i))
 }
 
-pub fn judge_link(sheet: &[u8], at: usize, i: usize) -> u64
+pub fn judge_link(sheet: &[u8], at: usize, i: usize) -> Result<(), SheetError>
     requires { at + 16 * i + 16 ≤ length sheet.now }
-    ensures { (result ≡ judge_link sheet.now at i) × (result ≤ 4) }
+    ensures { result ≡ judge_link sheet.now at i }
 {
     verdict(16384 <= i, fields::link_ok(sheet, at + 16 * i))
 }

@@ -1,5 +1,5 @@
 -- The outcome by the ways of the code: what is left at each of its ends is what the definition says.
-use Rattle.std.specs.Prelude.{◌≡◌, Bool, true, false, ◌&&◌, List, [], ◌++◌, ◌≢◌, ℕ, ◌+◌, ◌-◌, ◌*◌, ◌≤◌, ◌<◌, max, eqb, leb, ℤ, pos, drop, replicate}
+use Rattle.std.specs.Prelude.{◌≡◌, Bool, true, false, ◌&&◌, Ok, Err, List, [], ◌++◌, ◌≢◌, ℕ, ◌+◌, ◌-◌, ◌*◌, ◌≤◌, ◌<◌, max, eqb, leb, ℤ, pos, drop, replicate}
 use Rattle.std.proofs.Math.Path.{refl, sym, ap}
 use Rattle.std.proofs.Common.{◌∙◌, eq-eqb, ne_eqb, le-leb, leb-true, length-append}
 use native.Mathlib.Omega.{arith}
@@ -8,8 +8,8 @@ use Rattle.std.proofs.Math.ListN.{length}
 use Rattle.std.proofs.lemmas.List.{length-replicate}
 use Rattle.worktime.specs.Reads.{on_true, on_false}
 use Rattle.sheet.specs.declared.Contents.{Contents}
-use Rattle.sheet.specs.declared.Sheet.{Sheet}
-use Rattle.sheet.specs.declared.Sheet.TheVariants.{Read}
+use Rattle.judges.specs.declared.SheetError.{SheetError}
+use Rattle.judges.specs.Judging.{sheet_number}
 use Rattle.sheet.specs.Reading.{read_sheet}
 use Rattle.order.specs.Plan.{Plan, plan_of}
 use Rattle.order.specs.Ties.{ignored_links, open_ends}
@@ -150,11 +150,12 @@ module _ (m : Lent) (p : Plan) where
 
 -- ---- the ways of a sheet
 module _ (s : List ℕ) (m : Lent) where
-  pub unread_is : (number : ℕ) → read_sheet s ≡ Sheet.Refused number → ended_with (Answer.Refused number 0) m.results m.names m.work ≡ outcome s m
+  pub unread_is : (number : ℕ) (x : SheetError) → number ≡ sheet_number x → read_sheet s ≡ Err x
+      → ended_with (Answer.Refused number 0) m.results m.names m.work ≡ outcome s m
   unfolding outcome
-  unread_is number e = sym (ap (read_with s m) e)
+  unread_is number x d e = rw d (sym (ap (read_with s m) e))
 
-  module _ (c : Contents) (read : read_sheet s ≡ Read c) where
+  module _ (c : Contents) (read : read_sheet s ≡ Ok c) where
     pub short_is : room_for m c ≡ false → ended_with (Answer.Refused 1 0) m.results m.names m.work ≡ outcome s m
     unfolding outcome
     short_is e = sym (on_false (room_for m c) (planned m (plan_of s c)) (untouched m 1) e) ∙ sym (ap (read_with s m) read)

@@ -1,8 +1,8 @@
 -- The outcome of the scheduling call: its answer, and every lent slice afterwards.
-use Rattle.std.specs.Prelude.{Bool, true, false, ◌&&◌, List, [], ◌++◌, ℕ, ◌+◌, ◌*◌, max, eqb, leb, ℤ, pos, length, drop, replicate}
+use Rattle.std.specs.Prelude.{Bool, true, false, ◌&&◌, Result, Ok, Err, List, [], ◌++◌, ℕ, ◌+◌, ◌*◌, max, eqb, leb, ℤ, pos, length, drop, replicate}
 use Rattle.sheet.specs.declared.Contents.{Contents}
-use Rattle.sheet.specs.declared.Sheet.{Sheet}
-use Rattle.sheet.specs.declared.Sheet.TheVariants.{Read}
+use Rattle.judges.specs.declared.SheetError.{SheetError}
+use Rattle.judges.specs.Judging.{sheet_number}
 use Rattle.sheet.specs.Reading.{read_sheet}
 use Rattle.order.specs.Plan.{Plan, plan_of}
 use Rattle.order.specs.Ties.{ignored_links, open_ends}
@@ -71,9 +71,9 @@ room_for m c =
     leb (15 * c.activities) (length m.results) && leb (max (c.activities + 1) c.links) (length m.names)
     && leb (64 * c.activities + 16 * c.links) (length m.work)
 
-abbrev pub read_with : List ℕ → Lent → Sheet → Ended
-read_with s m (Sheet.Refused number) = untouched m number
-read_with s m (Read c) = elim (room_for m c) [ true ↦ planned m (plan_of s c) | false ↦ untouched m 1 ]
+abbrev pub read_with : List ℕ → Lent → Result Contents SheetError → Ended
+read_with s m (Err e) = untouched m (sheet_number e)
+read_with s m (Ok c) = elim (room_for m c) [ true ↦ planned m (plan_of s c) | false ↦ untouched m 1 ]
 
 -- the sheet's bytes and what is lent, to the answer and what is lent afterwards
 unfoldable pub outcome : List ℕ → Lent → Ended

@@ -18,7 +18,7 @@ ghost use Rattle.sched.specs.CallLaws.{ended_with, zeros, LentAs, AcceptedAs};
 use checks::Checked;
 use dates::Step;
 use run::Late;
-use sheet::{Contents, Sheet};
+use sheet::Contents;
 
 pub mod c;
 
@@ -181,10 +181,10 @@ pub fn schedule(sheet: &[u8], results: &mut [i64], names: &mut [u32], work: &mut
     ensures { ended_with result results.new names.new work.new ≡ outcome sheet.now (record { results = results.old; names = names.old; work = work.old }) }
 {
     match sheet::read(sheet) {
-        Sheet::Refused(number) => {
-            return Answer::Refused(number, 0);
+        Err(e) => {
+            return Answer::Refused(e.number(), 0);
         }
-        Sheet::Read(contents) => {
+        Ok(contents) => {
             if has_room(contents, results.len(), names.len(), work.len()) {
                 return plan_sheet(sheet, contents, results, names, work);
             }

@@ -1,38 +1,33 @@
 -- What the judges of one record say: each way of `judged`, and the facts of a record that may stand.
-use Rattle.std.specs.Prelude.{◌≡◌, refl, Bool, true, false, ◌&&◌, ◌||◌, not, ◌⊎◌, List, ℕ, suc, ◌+◌, ◌*◌, ◌≤◌, ◌<◌, eqb, leb, ltb, length}
+use Rattle.std.specs.Prelude.{◌≡◌, refl, Ok, Err, Bool, true, false, ◌&&◌, ◌||◌, not, ◌⊎◌, List, ℕ, suc, ◌+◌, ◌*◌, ◌≤◌, ◌<◌, eqb, leb, ltb, length}
 use Rattle.std.proofs.Common.{inl, inr, ⊎_elim, arith, ltb-true, leb-true, leb-false, eqb-true}
 use Rattle.number.specs.Tests.{and_both, or_either}
 use Rattle.calendar.specs.declared.Period.{Period}
 use Rattle.calendar.specs.Records.{weekday_at, week_period_at, week_periods, exception_day, exception_period}
 use Rattle.project.specs.Fields.{activity_size, link_size, day_ok, calendar_ok, activity_ok, link_ok}
-use Rattle.judges.specs.Judging.{out_of_range, beyond_limit, judged, judge_calendar, period_ok, week_after, judge_week, no_work, exception_after, judge_exception, judge_activity, judge_link}
-use Rattle.sheet.specs.RunLaws.{Row}
+use Rattle.judges.specs.declared.SheetError.TheVariants.{OutOfRange, BeyondLimit}
+use Rattle.judges.specs.Judging.{judged, judge_calendar, period_ok, week_after, judge_week, no_work, exception_after, judge_exception, judge_activity, judge_link}
+use Rattle.sheet.specs.RunLaws.{never_ok}
 
 -- ---- judged
 module _ (beyond ok : Bool) where
-  pub judged_beyond : beyond ≡ true → judged beyond ok ≡ beyond_limit
+  pub judged_beyond : beyond ≡ true → judged beyond ok ≡ Err BeyondLimit
   unfolding judged
   judged_beyond e = rw (e, judged)
 
-  pub judged_range : beyond ≡ false → ok ≡ false → judged beyond ok ≡ out_of_range
+  pub judged_range : beyond ≡ false → ok ≡ false → judged beyond ok ≡ Err OutOfRange
   unfolding judged
   judged_range e k = rw (e, k, judged)
 
-  pub judged_stands : beyond ≡ false → ok ≡ true → judged beyond ok ≡ 0
+  pub judged_stands : beyond ≡ false → ok ≡ true → judged beyond ok ≡ Ok tt
   unfolding judged
   judged_stands e k = rw (e, k, judged)
 
-pub judged_zero : (beyond ok : Bool) → judged beyond ok ≡ 0 → (beyond ≡ false) × (ok ≡ true)
+pub judged_ok : (beyond ok : Bool) → judged beyond ok ≡ Ok tt → (beyond ≡ false) × (ok ≡ true)
 unfolding judged
-judged_zero true ok e = absurd (omega arith)
-judged_zero false true e = (refl, refl)
-judged_zero false false e = absurd (omega arith)
-
-pub judged_row : (beyond ok : Bool) → (judged beyond ok ≡ 0 → ⊥) → Row (judged beyond ok)
-unfolding judged
-judged_row true ok h = record { least = omega arith; most = omega arith }
-judged_row false true h = absurd (h refl)
-judged_row false false h = record { least = omega arith; most = omega arith }
+judged_ok true ok e = absurd (never_ok e)
+judged_ok false true e = (refl, refl)
+judged_ok false false e = absurd (never_ok e)
 
 -- ---- a period
 pub period_in_lem : (p : Period) → period_ok p ≡ true → (p.from < p.to) × (p.to ≤ 1440)
@@ -44,13 +39,9 @@ unfolding no_work
 no_work_in p e = let (a, b) = and_both (eqb p.from 0) (eqb p.to 0) e in (eqb-true p.from 0 a, eqb-true p.to 0 b)
 
 -- ---- C
-pub calendar_stands : (s : List ℕ) (at k : ℕ) → judge_calendar s at k ≡ 0 → (k < 15) × (calendar_ok s at ≡ true)
+pub calendar_stands : (s : List ℕ) (at k : ℕ) → judge_calendar s at k ≡ Ok tt → (k < 15) × (calendar_ok s at ≡ true)
 unfolding judge_calendar
-calendar_stands s at k e = let (a, b) = judged_zero (leb 15 k) (calendar_ok s at) e in (leb-false 15 k a, b)
-
-pub calendar_row : (s : List ℕ) (at k : ℕ) → (judge_calendar s at k ≡ 0 → ⊥) → Row (judge_calendar s at k)
-unfolding judge_calendar
-calendar_row s at k = judged_row (leb 15 k) (calendar_ok s at)
+calendar_stands s at k e = let (a, b) = judged_ok (leb 15 k) (calendar_ok s at) e in (leb-false 15 k a, b)
 
 -- ---- W
 pub record WeekStands (s : List ℕ) (at i : ℕ) : Type 0 where
@@ -60,11 +51,11 @@ pub record WeekStands (s : List ℕ) (at i : ℕ) : Type 0 where
   pub midnight : (week_period_at s at i).to ≤ 1440
   pub after : week_after s at i ≡ true
 
-pub week_stands : (s : List ℕ) (at i : ℕ) → judge_week s at i ≡ 0 → WeekStands s at i
+pub week_stands : (s : List ℕ) (at i : ℕ) → judge_week s at i ≡ Ok tt → WeekStands s at i
 unfolding judge_week
 week_stands s at i e =
     let (a, b) =
-    judged_zero (ltb (weekday_at s at i) 7 && leb 8 (length (week_periods s at (weekday_at s at i) i)))
+    judged_ok (ltb (weekday_at s at i) 7 && leb 8 (length (week_periods s at (weekday_at s at i) i)))
     (ltb (weekday_at s at i) 7 && period_ok (week_period_at s at i) && week_after s at i) e
     in
     let (b1, b2) = and_both (ltb (weekday_at s at i) 7 && period_ok (week_period_at s at i)) (week_after s at i) b in
@@ -72,12 +63,6 @@ week_stands s at i e =
     let (p, q) = period_in_lem (week_period_at s at i) b4 in
     let w : weekday_at s at i < 7 = ltb-true (weekday_at s at i) 7 b3 in
     record { weekday = w; few = leb-false 8 (length (week_periods s at (weekday_at s at i) i)) (rw b3 at a); hours = p; midnight = q; after = b2 }
-
-pub week_row : (s : List ℕ) (at i : ℕ) → (judge_week s at i ≡ 0 → ⊥) → Row (judge_week s at i)
-unfolding judge_week
-week_row s at i =
-    judged_row (ltb (weekday_at s at i) 7 && leb 8 (length (week_periods s at (weekday_at s at i) i)))
-    (ltb (weekday_at s at i) 7 && period_ok (week_period_at s at i) && week_after s at i)
 
 pub week_after_lem : (s : List ℕ) (at i : ℕ) → week_after s at (suc i) ≡ true
     → (weekday_at s at i < weekday_at s at (suc i))
@@ -100,11 +85,11 @@ pub record ExceptionStands (s : List ℕ) (at i : ℕ) : Type 0 where
   pub hours : 0 < (exception_period s at i).to → (exception_period s at i).from < (exception_period s at i).to
   pub after : exception_after s at i ≡ true
 
-pub exception_stands : (s : List ℕ) (at i : ℕ) → judge_exception s at i ≡ 0 → ExceptionStands s at i
+pub exception_stands : (s : List ℕ) (at i : ℕ) → judge_exception s at i ≡ Ok tt → ExceptionStands s at i
 unfolding judge_exception
 exception_stands s at i e =
     let p = exception_period s at i in
-    let (a, b) = judged_zero (leb 256 i) (day_ok (exception_day s at i) && (no_work p || period_ok p) && exception_after s at i) e in
+    let (a, b) = judged_ok (leb 256 i) (day_ok (exception_day s at i) && (no_work p || period_ok p) && exception_after s at i) e in
     let (b1, b2) = and_both (day_ok (exception_day s at i) && (no_work p || period_ok p)) (exception_after s at i) b in
     let (b3, b4) = and_both (day_ok (exception_day s at i)) (no_work p || period_ok p) b1 in
     let (m, f, h) = hours p b4 in
@@ -114,12 +99,6 @@ exception_stands s at i e =
     hours p k =
         ⊎_elim (λ n. let (f, t) = no_work_in p n in (omega arith, omega arith, λ l. absurd (omega arith))) (λ o. let (f, t) = period_in_lem p o in (t, omega arith, λ l. f))
         (or_either (no_work p) (period_ok p) k)
-
-pub exception_row : (s : List ℕ) (at i : ℕ) → (judge_exception s at i ≡ 0 → ⊥) → Row (judge_exception s at i)
-unfolding judge_exception
-exception_row s at i =
-    judged_row (leb 256 i)
-    (day_ok (exception_day s at i) && (no_work (exception_period s at i) || period_ok (exception_period s at i)) && exception_after s at i)
 
 pub exception_after_lem : (s : List ℕ) (at i : ℕ) → exception_after s at (suc i) ≡ true
     → (exception_day s at i < exception_day s at (suc i))
@@ -139,18 +118,10 @@ exception_after_lem s at i e =
     (or_either (ltb d g) (eqb d g && not (no_work p) && not (no_work q) && leb p.to q.from) e)
 
 -- ---- A and L
-pub activity_stands : (s : List ℕ) (at i : ℕ) → judge_activity s at i ≡ 0 → (i < 4096) × (activity_ok s (at + activity_size * i) ≡ true)
+pub activity_stands : (s : List ℕ) (at i : ℕ) → judge_activity s at i ≡ Ok tt → (i < 4096) × (activity_ok s (at + activity_size * i) ≡ true)
 unfolding judge_activity
-activity_stands s at i e = let (a, b) = judged_zero (leb 4096 i) (activity_ok s (at + activity_size * i)) e in (leb-false 4096 i a, b)
+activity_stands s at i e = let (a, b) = judged_ok (leb 4096 i) (activity_ok s (at + activity_size * i)) e in (leb-false 4096 i a, b)
 
-pub activity_row : (s : List ℕ) (at i : ℕ) → (judge_activity s at i ≡ 0 → ⊥) → Row (judge_activity s at i)
-unfolding judge_activity
-activity_row s at i = judged_row (leb 4096 i) (activity_ok s (at + activity_size * i))
-
-pub link_stands_lem : (s : List ℕ) (at i : ℕ) → judge_link s at i ≡ 0 → (i < 16384) × (link_ok s (at + link_size * i) ≡ true)
+pub link_stands_lem : (s : List ℕ) (at i : ℕ) → judge_link s at i ≡ Ok tt → (i < 16384) × (link_ok s (at + link_size * i) ≡ true)
 unfolding judge_link
-link_stands_lem s at i e = let (a, b) = judged_zero (leb 16384 i) (link_ok s (at + link_size * i)) e in (leb-false 16384 i a, b)
-
-pub link_row : (s : List ℕ) (at i : ℕ) → (judge_link s at i ≡ 0 → ⊥) → Row (judge_link s at i)
-unfolding judge_link
-link_row s at i = judged_row (leb 16384 i) (link_ok s (at + link_size * i))
+link_stands_lem s at i e = let (a, b) = judged_ok (leb 16384 i) (link_ok s (at + link_size * i)) e in (leb-false 16384 i a, b)

@@ -1,25 +1,25 @@
--- The runs of W, E, A and L records as one, by their byte of kind; any other byte counts as L's.
-use Rattle.std.specs.Prelude.{true, false, List, ℕ, suc, eqb, length}
-use Rattle.project.specs.Fields.{week_kind, exception_kind, activity_kind, week_size, exception_size, activity_size, link_size}
-use Rattle.sheet.specs.declared.Run.{Run}
-use Rattle.sheet.specs.Reading.{run}
-use Rattle.judges.specs.Judging.{judge_week, judge_exception, judge_activity, judge_link}
+-- The kinds of record that stand in runs: the byte, the length and the judge of each.
+use Rattle.std.specs.Prelude.{List, ℕ}
+use Rattle.project.specs.Fields.{week_kind, exception_kind, activity_kind, link_kind, week_size, exception_size, activity_size, link_size}
+use Rattle.judges.specs.Judging.{Verdict, judge_week, judge_exception, judge_activity, judge_link}
+use Rattle.sheet.specs.declared.runs.RecordKind.{RecordKind}
+use Rattle.sheet.specs.declared.runs.RecordKind.TheVariants.{Week, Exception, Activity, Link}
 
-unfoldable pub size_of : ℕ → ℕ
-size_of kind = elim (eqb kind week_kind) [
-  | true ↦ week_size
-  | false ↦ elim (eqb kind exception_kind) [ true ↦ exception_size | false ↦ elim (eqb kind activity_kind) [ true ↦ activity_size | false ↦ link_size ] ]
-]
+abbrev pub byte_of : RecordKind → ℕ
+byte_of Week = week_kind
+byte_of Exception = exception_kind
+byte_of Activity = activity_kind
+byte_of Link = link_kind
 
-unfoldable pub judge_of : ℕ → List ℕ → ℕ → ℕ → ℕ
-judge_of kind s at i = elim (eqb kind week_kind) [
-  | true ↦ judge_week s at i
-  | false ↦
-      elim (eqb kind exception_kind) [
-        | true ↦ judge_exception s at i
-        | false ↦ elim (eqb kind activity_kind) [ true ↦ judge_activity s at i | false ↦ judge_link s at i ]
-      ]
-]
+abbrev pub size_of : RecordKind → ℕ
+size_of Week = week_size
+size_of Exception = exception_size
+size_of Activity = activity_size
+size_of Link = link_size
 
-unfoldable pub run_of : List ℕ → ℕ → ℕ → Run
-run_of s kind at = run s kind (size_of kind) (judge_of kind s at) at (suc (length s)) 0
+-- record i of a run that begins at `at`
+abbrev pub judge_of : RecordKind → List ℕ → ℕ → ℕ → Verdict
+judge_of Week s at i = judge_week s at i
+judge_of Exception s at i = judge_exception s at i
+judge_of Activity s at i = judge_activity s at i
+judge_of Link s at i = judge_link s at i

@@ -1,11 +1,11 @@
 -- What is known of a sheet that was read: the promises that the layers above rest on, record by record.
-use Rattle.std.specs.Prelude.{◌≡◌, true, List, ℕ, ◌+◌, ◌*◌, ◌≤◌, ◌<◌, length}
+use Rattle.std.specs.Prelude.{◌≡◌, true, Ok, List, ℕ, ◌+◌, ◌*◌, ◌≤◌, ◌<◌, length}
 use Rattle.number.specs.Bytes.{byte_at}
 use Rattle.calendar.specs.Records.{weekday_at, week_periods, Valid}
 use Rattle.project.specs.Fields.{header_kind, calendar_kind, activity_kind, link_kind, header_size, calendar_size, week_size, activity_size, link_size, header_ok, calendar_ok, activity_ok, link_ok}
-use Rattle.sheet.specs.declared.Run.TheVariants.{Count}
+use Rattle.sheet.specs.declared.runs.RecordKind.TheVariants.{Week, Exception}
 use Rattle.sheet.specs.declared.Contents.{Contents}
-use Rattle.sheet.specs.Reading.{weeks_from, exceptions_from}
+use Rattle.sheet.specs.Reading.{run_of}
 use Rattle.sheet.specs.Places.{weeks_at, week_count, exceptions_at, exception_count, calendar_at, week_at, activity_at, link_at}
 
 -- the calendar whose C stands at `at`
@@ -13,8 +13,8 @@ pub record CalendarRead (s : List ℕ) (at : ℕ) : Type 0 where
   pub kind : byte_at s at ≡ calendar_kind
   pub within : at + calendar_size ≤ length s
   pub fields : calendar_ok s at ≡ true
-  pub weeks : weeks_from s (weeks_at at) ≡ Count (week_count s at)
-  pub exceptions : exceptions_from s (exceptions_at s at) ≡ Count (exception_count s at)
+  pub weeks : run_of s Week (weeks_at at) ≡ Ok (week_count s at)
+  pub exceptions : run_of s Exception (exceptions_at s at) ≡ Ok (exception_count s at)
   pub weeks_within : weeks_at at + week_size * week_count s at ≤ length s
   pub weekdays : (i : ℕ) → i < week_count s at → weekday_at s (weeks_at at) i < 7
   pub weeks_few : (k : ℕ) → length (week_periods s (weeks_at at) k (week_count s at)) ≤ 8

@@ -5,7 +5,6 @@ pub mod Kinds
 pub mod Known
 pub mod RunLaws
 pub mod JudgeLaws
-pub mod KindLaws
 pub mod RunSteps
 pub mod PlaceLaws
 pub mod InOrder

@@ -1,21 +1,18 @@
 -- Counting the records of a calendar that was read gives where they stand.
-use Rattle.std.specs.Prelude.{◌≡◌, List, ℕ, ◌+◌, ◌*◌, ◌≤◌, length}
-use Rattle.std.proofs.Common.{sym, ◌∙◌, arith}
-use Rattle.std.proofs.Math.Path.{ap}
-use Rattle.project.specs.Fields.{week_kind, exception_kind}
-use Rattle.sheet.specs.declared.Run.TheVariants.{Count}
-use Rattle.sheet.specs.Kinds.{run_of}
-use Rattle.sheet.specs.KindLaws.{weeks_are, exceptions_are}
+use Rattle.std.specs.Prelude.{◌≡◌, refl, Ok, List, ℕ, ◌+◌, ◌*◌, ◌≤◌, length}
+use Rattle.std.proofs.Common.{arith}
+use Rattle.sheet.specs.declared.runs.RecordKind.TheVariants.{Week, Exception}
+use Rattle.sheet.specs.Reading.{run_of}
 use Rattle.sheet.specs.Places.{count_of, week_count, exceptions_at, exception_count, next_calendar, place_at}
 use Rattle.sheet.specs.Known.{CalendarRead}
 
 module _ (s : List ℕ) (at : ℕ) (read : CalendarRead s at) where
-  pub count_weeks : count_of (run_of s week_kind (at + 3)) ≡ week_count s at
+  pub count_weeks : count_of s Week (at + 3) ≡ week_count s at
   unfolding week_count
-  count_weeks = ap count_of (weeks_are s (at + 3))
+  count_weeks = refl
 
-  pub run_weeks : run_of s week_kind (at + 3) ≡ Count (count_of (run_of s week_kind (at + 3)))
-  run_weeks = weeks_are s (at + 3) ∙ read.weeks ∙ ap (λ (n : ℕ). Count n) (sym count_weeks)
+  pub run_weeks : run_of s Week (at + 3) ≡ Ok (count_of s Week (at + 3))
+  run_weeks = rw count_weeks read.weeks
 
   module _ (w : ℕ) (counted : w ≡ week_count s at) where
     from_at : at + 3 + 6 * w ≡ exceptions_at s at
@@ -25,12 +22,12 @@ module _ (s : List ℕ) (at : ℕ) (read : CalendarRead s at) where
     pub weeks_end_lem : at + 3 + 6 * w ≤ length s
     weeks_end_lem = omega (arith, read.weeks_within)
 
-    pub count_exceptions : count_of (run_of s exception_kind (at + 3 + 6 * w)) ≡ exception_count s at
+    pub count_exceptions : count_of s Exception (at + 3 + 6 * w) ≡ exception_count s at
     unfolding exception_count
-    count_exceptions = rw from_at (ap count_of (exceptions_are s (exceptions_at s at)))
+    count_exceptions = rw from_at
 
-    pub run_exceptions : run_of s exception_kind (at + 3 + 6 * w) ≡ Count (count_of (run_of s exception_kind (at + 3 + 6 * w)))
-    run_exceptions = rw (count_exceptions, from_at) (exceptions_are s (exceptions_at s at) ∙ read.exceptions)
+    pub run_exceptions : run_of s Exception (at + 3 + 6 * w) ≡ Ok (count_of s Exception (at + 3 + 6 * w))
+    run_exceptions = rw (count_exceptions, from_at) read.exceptions
 
     module _ (e : ℕ) (also : e ≡ exception_count s at) where
       pub exceptions_end_lem : at + 3 + 6 * w + 9 * e ≤ length s

@@ -13,27 +13,16 @@ use Rattle.calendar.specs.Records.{weekday_at, week_period_at, week_periods, wee
 use Rattle.date.specs.Days.{weekday}
 use Rattle.calendar.specs.WeekLaws.{week_row}
 use Rattle.calendar.specs.DayLaws.{hours_week, hours_own}
-use Rattle.project.specs.Fields.{week_kind, exception_kind, week_size, exception_size}
-use Rattle.sheet.specs.declared.Run.TheVariants.{Count}
-use Rattle.sheet.specs.Reading.{weeks_from, exceptions_from}
-use Rattle.judges.specs.Judging.{judge_week, judge_exception}
-use Rattle.sheet.specs.RunLaws.{Counted, run_counted}
+use Rattle.sheet.specs.declared.runs.RecordKind.TheVariants.{Week, Exception}
+use Rattle.sheet.specs.RunLaws.{Counted}
 use Rattle.sheet.specs.JudgeLaws.{WeekStands, week_stands, week_after_lem, ExceptionStands, exception_stands, exception_after_lem}
 use Rattle.sheet.specs.InOrder.{InOrder, chosen, chosen_take, chosen_skip, keys_sorted, chosen_ordered, ordered_pad}
 
 abbrev pub WeeksCounted : List ℕ → ℕ → ℕ → Type 0
-WeeksCounted s at w = Counted s week_kind week_size (judge_week s at) at w
+WeeksCounted s at w = Counted s Week at w
 
 abbrev pub ExceptionsCounted : List ℕ → ℕ → ℕ → Type 0
-ExceptionsCounted s at e = Counted s exception_kind exception_size (judge_exception s at) at e
-
-pub weeks_counted_lem : (s : List ℕ) (at w : ℕ) → at ≤ length s → weeks_from s at ≡ Count w → WeeksCounted s at w
-unfolding weeks_from
-weeks_counted_lem s at w = run_counted s week_kind week_size (judge_week s at) at w
-
-pub exceptions_counted_lem : (s : List ℕ) (at e : ℕ) → at ≤ length s → exceptions_from s at ≡ Count e → ExceptionsCounted s at e
-unfolding exceptions_from
-exceptions_counted_lem s at e = run_counted s exception_kind exception_size (judge_exception s at) at e
+ExceptionsCounted s at e = Counted s Exception at e
 
 -- ---- W
 week_chosen : (s : List ℕ) (at k n : ℕ) → week_periods s at k n ≡ chosen (weekday_at s at) (week_period_at s at) k n

@@ -12,99 +12,73 @@ struct Built {
     size: usize,
 }
 
-// Copies `n` bytes from `from` on to `at`.
-fn copy(file: &[u8], from: usize, n: usize, sheet: &mut [u8], at: usize)
-    requires { (from + n ≤ length file.now) × (at + n ≤ length sheet.old) }
-{
-    let mut i: usize = 0;
-    while i < n {
-        sheet[at + i] = file[from + i];
-        i += 1;
-    }
-}
-
-// Copies them `times` times in a row, while there is room, and answers where that ends.
-fn repeat(file: &[u8], from: usize, n: usize, times: usize, sheet: &mut [u8], at: usize) -> usize
-    requires { (from + n ≤ length file.now) × (at ≤ length sheet.old) }
+// Copies `part` `times` times in a row to `at`, while there is room, and answers where that ends.
+fn repeat(part: &[u8], times: usize, sheet: &mut [u8], at: usize) -> usize
+    requires { at ≤ length sheet.old }
     ensures { result ≤ length sheet.new }
 {
     let mut p = at;
-    let mut t: usize = 0;
-    while t < times {
-        if sheet.len() - p < n {
+    for _ in 0..times {
+        if sheet.len() - p < part.len() {
             return p;
         }
-        copy(file, from, n, sheet, p);
-        p += n;
-        t += 1;
+        let end = p + part.len();
+        sheet[p..end].copy_from_slice(part);
+        p = end;
     }
     p
 }
 
-// Puts the sheet together whose `parts` parts stand from `from` on.
+// Puts the sheet together whose `parts` parts stand from `from` on; a part that is cut ends the file.
 fn build(file: &[u8], from: usize, parts: usize, sheet: &mut [u8]) -> Built
     requires { from ≤ length file.now }
     ensures { (result.next ≤ length file.now) × (from ≤ result.next) × (result.size ≤ length sheet.new) }
 {
-    let mut q = from;
+    let mut next = from;
     let mut size: usize = 0;
-    let mut i: usize = 0;
-    while i < parts {
-        if file.len() - q < 4 {
+    for _ in 0..parts {
+        if file.len() - next < 4 {
             return Built {
                 next: file.len(),
                 size: size,
             };
         }
-        let times = number::read_u16(file, q) as usize;
-        let n = number::read_u16(file, q + 2) as usize;
-        if file.len() - q - 4 < n {
+        let times = number::read_u16(file, next) as usize;
+        let n = number::read_u16(file, next + 2) as usize;
+        let part = next + 4;
+        if file.len() - part < n {
             return Built {
                 next: file.len(),
                 size: size,
             };
         }
-        size = repeat(file, q + 4, n, times, sheet, size);
-        q = q + 4 + n;
-        i += 1;
+        next = part + n;
+        size = repeat(&file[part..next], times, sheet, size);
     }
     Built {
-        next: q,
+        next: next,
         size: size,
     }
 }
 
-fn print(rt: &impl Print, n: usize) -> io::Result<()> {
-    print!(rt; " {n}")
-}
-
 // The line of a sheet.
 fn answer(rt: &impl Print, index: u64, sheet: &[u8]) -> io::Result<()> {
-    print!(rt; "{index}")?;
-    let read = sheet::read(sheet);
-    match read {
-        sheet::Sheet::Read(c) => {
-            print!(rt; " read")?;
-            print(rt, c.calendars)?;
-            print(rt, c.at)?;
-            print(rt, c.activities)?;
-            print(rt, c.links)?;
+    match sheet::read(sheet) {
+        Ok(c) => {
+            println!(rt;
+                "{index} read {} {} {} {}",
+                c.calendars, c.at, c.activities, c.links
+            )
         }
-        sheet::Sheet::Refused(r) => {
-            print!(rt; " refused {r}")?;
-        }
+        Err(e) => println!(rt; "{index} refused {}", e.number()),
     }
-    println!(rt)
 }
 
 // The lines of all sheets of the file, each put together in `sheet`.
 fn answer_all(rt: &impl Print, file: &[u8], sheet: &mut [u8]) -> io::Result<()> {
     let mut at: usize = 0;
     let mut index: u64 = 0;
-    while at < file.len() {
-        if file.len() - at < 2 {
-            break;
-        }
+    while 2 <= file.len() - at {
         let parts = number::read_u16(file, at) as usize;
         let built = build(file, at + 2, parts, sheet);
         let size = built.size;

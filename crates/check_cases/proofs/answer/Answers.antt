@@ -4,4 +4,4 @@ use Rattle.sheet.specs.ReadLaws.{read_known}
 use Rattle.check_cases.proofs.answer.Goals as goal
 
 pub check_read-requires : goal.check_read-requires
-check_read-requires g c = read_known c.args.sheet.now c.in-Read.contents (sym c.in-Read.ensures)
+check_read-requires g c = read_known c.args.sheet.now c.in-Ok.contents (sym c.in-Ok.ensures)

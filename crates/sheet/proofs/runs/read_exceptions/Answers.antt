@@ -1,8 +1,0 @@
--- `sheet::runs::read_exceptions` meets its contract: the run of its kind.
-use mathlib.Core.Path.{◌∙◌}
-use Rattle.sheet.specs.KindLaws.{exceptions_are}
-use borrow.Author.Rules.{rules}
-use Rattle.sheet.proofs.runs.read_exceptions.Goals as goal
-
-pub returns : goal.returns
-returns c = let x = c.args in c.read_run.ensures ∙ exceptions_are x.sheet.now x.at
