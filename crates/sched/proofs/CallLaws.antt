@@ -15,6 +15,8 @@ use Rattle.order.specs.Plan.{Plan, plan_of}
 use Rattle.order.specs.Ties.{ignored_links, open_ends}
 use Rattle.order.specs.TieLaws.{ignored_le}
 use Rattle.order.specs.Checks.{checked}
+use Rattle.worktime.specs.declared.ClockError.{ClockError}
+use Rattle.worktime.specs.Number.{clock_number}
 use Rattle.passes.specs.Dates.{leaves, refused}
 use Rattle.passes.specs.Run.{Ran, run}
 use Rattle.results.specs.declared.Shown.{Shown}
@@ -128,16 +130,16 @@ module _ (m : Lent) (p : Plan) where
     cleared k names work e f = refused_is k 0 [] names work (e ∙ sym (zeros_alone m.names)) f
 
     -- a walk of the passes is refused
-    pub planned_passes : (k : ℕ) (names : List ℕ) (work : List ℤ) → run p ≡ refused k → names ≡ replicate (length m.names) 0 → work ≡ zeros m.work
-        → ended_with (Answer.Refused k 0) m.results names work ≡ planned m p
-    planned_passes k names work r e f = cleared k names work e f ∙ sym (ap (ran_with m p) r) ∙ sym planned_run
+    pub planned_passes : (k : ClockError) (names : List ℕ) (work : List ℤ) → run p ≡ refused k → names ≡ replicate (length m.names) 0 → work ≡ zeros m.work
+        → ended_with (Answer.Refused (clock_number k) 0) m.results names work ≡ planned m p
+    planned_passes k names work r e f = cleared (clock_number k) names work e f ∙ sym (ap (ran_with m p) r) ∙ sym planned_run
 
     module _ (ran : Ran) (runs : run p ≡ leaves ran) where
       -- a walk of the results is refused
-      pub planned_results : (k : ℕ) (names : List ℕ) (work : List ℤ) → results p ran ≡ refused k → names ≡ replicate (length m.names) 0 → work ≡ zeros m.work
-          → ended_with (Answer.Refused k 0) m.results names work ≡ planned m p
+      pub planned_results : (k : ClockError) (names : List ℕ) (work : List ℤ) → results p ran ≡ refused k → names ≡ replicate (length m.names) 0 → work ≡ zeros m.work
+          → ended_with (Answer.Refused (clock_number k) 0) m.results names work ≡ planned m p
       planned_results k names work r e f =
-          cleared k names work e f ∙ sym (ap (shown_with m p ran) r) ∙ sym (ap (ran_with m p) runs) ∙ sym planned_run
+          cleared (clock_number k) names work e f ∙ sym (ap (shown_with m p ran) r) ∙ sym (ap (ran_with m p) runs) ∙ sym planned_run
 
       -- nothing is refused
       pub planned_accepted : (f : ℕ → Shown) → results p ran ≡ leaves f → (day : ℤ) (a n o : ℕ) (rows : List ℤ) (names : List ℕ) (work : List ℤ)
@@ -176,17 +178,17 @@ module _ (m : Lent) (p : Plan) {results₀ : List ℤ} {names₀ : List ℕ} {wo
   answered_as r r' names work e = λ z. ended_with (e z) (L.results_is z) names work
 
   -- a walk of the passes is refused; work₁ is what the passes leave
-  pub run_refuses : (r : Answer) (k : ℕ) (names : List ℕ) (work₁ work : List ℤ) → run p ≡ refused k → r ≡ Answer.Refused k 0 → names ≡ replicate (length names₀) 0
+  pub run_refuses : (r : Answer) (k : ClockError) (names : List ℕ) (work₁ work : List ℤ) → run p ≡ refused k → r ≡ Answer.Refused (clock_number k) 0 → names ≡ replicate (length names₀) 0
       → length work₁ ≡ length work₀ → work ≡ zeros work₁ → ended_with r results₀ names work ≡ planned m p
   run_refuses r k names work₁ work q e f g h =
-      answered_as r (Answer.Refused k 0) names work e ∙ planned_passes m p fine k names work q (cleared_names names f) (cleared_work work₁ work g h)
+      answered_as r (Answer.Refused (clock_number k) 0) names work e ∙ planned_passes m p fine k names work q (cleared_names names f) (cleared_work work₁ work g h)
 
   module _ (ran : Ran) (runs : run p ≡ leaves ran) where
     -- a walk of the results is refused
-    pub show_refuses : (r : Answer) (k : ℕ) (names : List ℕ) (work₁ work : List ℤ) → results p ran ≡ refused k → r ≡ Answer.Refused k 0 → names ≡ replicate (length names₀) 0
+    pub show_refuses : (r : Answer) (k : ClockError) (names : List ℕ) (work₁ work : List ℤ) → results p ran ≡ refused k → r ≡ Answer.Refused (clock_number k) 0 → names ≡ replicate (length names₀) 0
         → length work₁ ≡ length work₀ → work ≡ zeros work₁ → ended_with r results₀ names work ≡ planned m p
     show_refuses r k names work₁ work q e f g h =
-        answered_as r (Answer.Refused k 0) names work e ∙ planned_results m p fine ran runs k names work q (cleared_names names f) (cleared_work work₁ work g h)
+        answered_as r (Answer.Refused (clock_number k) 0) names work e ∙ planned_results m p fine ran runs k names work q (cleared_names names f) (cleared_work work₁ work g h)
 
     -- nothing is refused
     pub show_accepts : (f : ℕ → Shown) → results p ran ≡ leaves f → (r : Answer) (day : ℤ) (a n o : ℕ) (rows : List ℤ) (work₁ work : List ℤ) → r ≡ Accepted day a n o

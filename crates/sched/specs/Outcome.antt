@@ -8,6 +8,7 @@ use Rattle.order.specs.Plan.{Plan, plan_of}
 use Rattle.order.specs.Ties.{ignored_links, open_ends}
 use Rattle.order.specs.Checks.{checked}
 use Rattle.checks.specs.Names.{then_zeros}
+use Rattle.worktime.specs.Number.{clock_number}
 use Rattle.passes.specs.Dates.{Pass, leaves, refused}
 use Rattle.passes.specs.Run.{Ran, run}
 use Rattle.results.specs.declared.Shown.{Shown}
@@ -53,11 +54,11 @@ accepted m p r f = record {
 -- "then 8 in the passes"
 abbrev pub shown_with : Lent → Plan → Ran → Pass (ℕ → Shown) → Ended
 shown_with m p r (leaves f) = accepted m p r f
-shown_with m p r (refused k) = refused_with m k 0 []
+shown_with m p r (refused k) = refused_with m (clock_number k) 0 []
 
 abbrev pub ran_with : Lent → Plan → Pass Ran → Ended
 ran_with m p (leaves r) = shown_with m p r (results p r)
-ran_with m p (refused k) = refused_with m k 0 []
+ran_with m p (refused k) = refused_with m (clock_number k) 0 []
 
 unfoldable pub planned : Lent → Plan → Ended
 planned m p = elim (eqb (checked p).number 0) [

@@ -16,8 +16,6 @@ ghost use Rattle.sched.specs.Outcome.{Lent, planned, outcome};
 ghost use Rattle.sched.specs.CallLaws.{ended_with, zeros, LentAs, AcceptedAs};
 
 use checks::Checked;
-use dates::Step;
-use run::Late;
 use sheet::Contents;
 
 pub mod c;
@@ -97,12 +95,8 @@ fn show_plan(
     ensures { (m : Lent) → LentAs m (plan_of sheet.now contents) results.old names.old work.old → ended_with result results.new names.new work.new ≡ planned m (plan_of sheet.now contents) }
 {
     match rollup::results(sheet, contents, places, lengths, t, work) {
-        Step::Refused(k) => {
-            return refuse(names, work, k);
-        }
-        Step::Done => {
-            return accept(sheet, contents, lengths, results, work, ignored, ends);
-        }
+        Ok(()) => accept(sheet, contents, lengths, results, work, ignored, ends),
+        Err(e) => refuse(names, work, e.number()),
     }
 }
 
@@ -123,14 +117,10 @@ fn run_plan(
     ensures { (m : Lent) → LentAs m (plan_of sheet.now contents) results.old names.old work.old → ended_with result results.new names.new work.new ≡ planned m (plan_of sheet.now contents) }
 {
     match run::run(sheet, contents, places, t, work) {
-        Late::Refused(number) => {
-            return refuse(names, work, number);
-        }
-        Late::By(last) => {
-            return show_plan(
-                sheet, contents, places, lengths, t, last, ignored, ends, results, names, work,
-            );
-        }
+        Ok(last) => show_plan(
+            sheet, contents, places, lengths, t, last, ignored, ends, results, names, work,
+        ),
+        Err(e) => refuse(names, work, e.number()),
     }
 }
 

@@ -1,21 +1,23 @@
 -- `sched::run_plan` meets its contract.
-use mathlib.Core.Path.{subst, ◌∙◌}
+use Rattle.std.specs.Prelude.{ℕ}
+use mathlib.Core.Path.{ap, subst, ◌∙◌}
 use native.Mathlib.Omega.{arith}
 use Rattle.memory.specs.State.{state_of}
 use Rattle.order.specs.Plan.{plan_of}
 use Rattle.run.specs.Stages.{RunIn}
 use Rattle.dates.specs.KeptLaws.{ready_kept}
 use Rattle.sched.proofs.CallLaws.{run_refuses}
+use Rattle.sched.specs.declared.Answer.{Answer}
 use Rattle.sched.proofs.run_plan.Goals as goal
 
-pub returns-in-Refused : goal.returns-in-Refused
-returns-in-Refused c =
+pub returns-in-Err : goal.returns-in-Err
+returns-in-Err c =
     let x = c.args in
     let p = plan_of x.sheet.now x.contents in
     let ran = c.run in
     let call = c.refuse in
     λ m L.
-    run_refuses m p L c.requires.0.fine call.result c.in-Refused.number call.new.names ran.new.work call.new.work (subst (RunIn p (state_of x.contents.activities x.contents.links ran.new.work)) c.in-Refused.is ran.ensures.0) call.ensures.0 call.ensures.1
+    run_refuses m p L c.requires.0.fine call.result c.in-Err.e call.new.names ran.new.work call.new.work (subst (RunIn p (state_of x.contents.activities x.contents.links ran.new.work)) c.in-Err.is ran.ensures.0) (call.ensures.0 ∙ ap (λ (n : ℕ). Answer.Refused n 0) c.number.ensures.0) call.ensures.1
     ran.ensures.3 call.ensures.2
 
 pub show_plan-requires : goal.show_plan-requires
@@ -24,16 +26,16 @@ show_plan-requires c =
     let p = plan_of x.sheet.now x.contents in
     let ran = c.run in (
       ready_kept c.requires.0 ran.ensures.2 ran.ensures.3 (omega arith),
-      ran.ensures.1 c.in-By.last c.in-By.is,
+      ran.ensures.1 c.in-Ok.last c.in-Ok.is,
       c.requires.1,
       c.requires.2,
       c.requires.3,
       c.requires.4,
-      subst (RunIn p (state_of x.contents.activities x.contents.links ran.new.work)) c.in-By.is ran.ensures.0,
+      subst (RunIn p (state_of x.contents.activities x.contents.links ran.new.work)) c.in-Ok.is ran.ensures.0,
     )
 
-pub returns-in-By : goal.returns-in-By
-returns-in-By c =
+pub returns-in-Ok : goal.returns-in-Ok
+returns-in-Ok c =
     let x = c.args in
     let p = plan_of x.sheet.now x.contents in
     let ran = c.run in

@@ -1,4 +1,5 @@
 -- `sched::show_plan` meets its contract.
+use Rattle.std.specs.Prelude.{ℕ}
 use mathlib.Core.Path.{refl, sym, ap, subst, ◌∙◌}
 use native.Mathlib.Omega.{arith}
 use Rattle.memory.specs.State.{state_of}
@@ -11,10 +12,11 @@ use Rattle.rows.specs.WritingLaws.{to_write}
 use Rattle.dates.specs.KeptLaws.{ready_kept, recorded_kept}
 use Rattle.sched.specs.CallLaws.{AcceptedAs}
 use Rattle.sched.proofs.CallLaws.{show_refuses, show_accepts}
+use Rattle.sched.specs.declared.Answer.{Answer}
 use Rattle.sched.proofs.show_plan.Goals as goal
 
-pub returns-in-Refused : goal.returns-in-Refused
-returns-in-Refused c =
+pub returns-in-Err : goal.returns-in-Err
+returns-in-Err c =
     let x = c.args in
     let p = plan_of x.sheet.now x.contents in
     let S = state_of x.contents.activities x.contents.links x.work.now in
@@ -23,8 +25,8 @@ returns-in-Refused c =
     let other = c.requires.6.other in
     let T = state_of x.contents.activities x.contents.links shown.new.work in
     λ m L.
-    show_refuses m p L c.requires.0.fine (ran_in p S x.last other) c.requires.6.is call.result c.in-Refused.k call.new.names shown.new.work call.new.work
-    (sym (shown.ensures.0 x.last other) ∙ ap (ended (shown_in p T)) c.in-Refused.is) call.ensures.0 call.ensures.1 shown.ensures.2 call.ensures.2
+    show_refuses m p L c.requires.0.fine (ran_in p S x.last other) c.requires.6.is call.result c.in-Err.e call.new.names shown.new.work call.new.work
+    (sym (shown.ensures.0 x.last other) ∙ ap (ended (shown_in p T)) c.in-Err.is) (call.ensures.0 ∙ ap (λ (n : ℕ). Answer.Refused n 0) c.number.ensures.0) call.ensures.1 shown.ensures.2 call.ensures.2
 
 pub accept-requires : goal.accept-requires
 accept-requires c =
@@ -36,8 +38,8 @@ accept-requires c =
       c.requires.3,
     )
 
-pub returns-in-Done : goal.returns-in-Done
-returns-in-Done c =
+pub returns-in-Ok : goal.returns-in-Ok
+returns-in-Ok c =
     let x = c.args in
     let p = plan_of x.sheet.now x.contents in
     let S = state_of x.contents.activities x.contents.links x.work.now in
@@ -49,5 +51,5 @@ returns-in-Done c =
     let f = shown_in p T in
     let A = subst (λ (q : Ran). AcceptedAs p q f x.ignored x.ends x.results.now call.new.results call.result) (ran_kept shown.ensures.1 p x.last other (omega arith)) (call.ensures.0 x.last other) in
     λ m L.
-    show_accepts m p L c.requires.0.fine ran c.requires.6.is f (sym (shown.ensures.0 x.last other) ∙ ap (ended f) c.in-Done.is) call.result A.day p.activities x.ignored x.ends call.new.results
+    show_accepts m p L c.requires.0.fine ran c.requires.6.is f (sym (shown.ensures.0 x.last other) ∙ ap (ended f) c.in-Ok.is) call.result A.day p.activities x.ignored x.ends call.new.results
     shown.new.work call.new.work A.is A.day_is refl c.requires.4 c.requires.5 A.rows_is shown.ensures.2 call.ensures.1
