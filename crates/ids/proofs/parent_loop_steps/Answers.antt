@@ -1,10 +1,8 @@
 -- `ids::parent_loop_steps` meets its contract: k steps are made and lead to `up`.
-use borrow.Author.Rules.{rules}
-use Prim.Native.Nat.{◌+◌, ◌-◌}
 use native.Mathlib.Omega.{arith}
 use Rattle.memory.specs.State.{state_of}
 use Rattle.memory.specs.Fields.{parent}
-use Rattle.ids.specs.ClimbSteps.{Climb, climb_start, climb_none, climb_back, climb_turn, climb_end}
+use Rattle.ids.specs.ClimbSteps.{climb_start, climb_none, climb_back, climb_turn, climb_end}
 use Rattle.ids.proofs.parent_loop_steps.Goals as goal
 
 pub loop-k-init : goal.loop-k-init
