@@ -11,7 +11,7 @@ pub put_act-requires-3 : goal.put_act-requires-3
 unfolding plan_of
 put_act-requires-3 c =
     let w = vacant_within (id_of (plan_of c.args.sheet.now c.args.contents)) c.args.contents.activities c.in_ok-vacancy.ensures.1 c.requires.1 in
-    (omega arith, w.0, w.1, omega (arith, c.requires.0.read.activities_few))
+    (omega arith, w.0, omega (arith, w.1), omega (arith, c.requires.0.read.activities_few))
 
 pub returns : goal.returns
 unfolding plan_of

@@ -8,7 +8,7 @@ use Rattle.ids.specs.SearchLaws.{child_later, seeking_nowhere, seeking_start, se
 use Rattle.ids.proofs.seek.Goals as goal
 
 pub get_act-first-requires : goal.get_act-first-requires
-get_act-first-requires c = (c.requires.0.room, mod-lt c.args.id c.requires.2, omega arith)
+get_act-first-requires c = (c.requires.0.room, mod-lt _ c.requires.2, omega arith)
 
 pub returns-then-first-eq0 : goal.returns-then-first-eq0
 unfolding plan_of
