@@ -127,7 +127,7 @@ fn answer(rt: &impl Print, index: u64, sheet: &[u8]) -> io::Result<()> {
     println!(rt)
 }
 
-// The lines of all sheets of the file.
+// The lines of all sheets of the file. A sheet stands after its length, so a `while` goes from one to the next: an iterator would be the same loop and its type.
 fn answer_all(rt: &impl Print, file: &[u8]) -> io::Result<()> {
     let mut at: usize = 0;
     let mut index: u64 = 0;

@@ -122,6 +122,7 @@ fn index_one(sheet: &[u8], contents: Contents, work: &mut [i64], i: usize) -> Re
 }
 
 // Rows 6 to 9 for all activities: where they are fine, the memory has the index of their ids.
+// This pass, `parents` and `summaries` are a `for` and a `?` each: one function over the step would be as long, and say less.
 pub fn index_all(sheet: &[u8], contents: Contents, work: &mut [i64]) -> Result<(), PlanError>
     requires { Lent sheet.now contents work.old }
     ensures { Answered result (first_of (judge_activity (plan_of sheet.now contents)) contents.activities 0) × IndexedBy (plan_of sheet.now contents) contents.activities (state_in contents work.old) (state_in contents work.new) result × (length work.new ≡ length work.old) }

@@ -26,16 +26,6 @@ returns-in-Err c =
     (first_refused p (ids_verdict p) (summaries_verdict p) size room _ _
     (plain_refused p (ids_verdict p) size room _ _ c.in-Err.error (sym a.0.answered.is) r.1 (r.2 ∙ ap (λ (k : ℕ). replicate k (pos 0)) a.1))))
 
-pub check_summaries-requires : goal.check_summaries-requires
-check_summaries-requires c =
-    let a = c.in-Ok.ensures in (
-      record { read = c.requires.0; room = omega (arith, a.1, c.requires.1) },
-      a.0.holds,
-      c.requires.3,
-      omega (arith, c.requires.4),
-      omega (arith, c.requires.4),
-    )
-
 pub returns-in-Ok : goal.returns-in-Ok
 returns-in-Ok c =
     let x = c.args in

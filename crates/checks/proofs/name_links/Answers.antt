@@ -22,9 +22,6 @@ loop-k-init c =
       naming_here (named (id_of p) (named_loop (kept_links p) x.contents.activities)) (length x.names.now) _ 0 N,
     )
 
-pub get_act-i-requires : goal.get_act-i-requires
-get_act-i-requires c = (c.requires.0.room, omega (arith, c.requires.2), omega arith)
-
 pub name_one-requires : goal.name_one-requires
 name_one-requires c =
     let L = c.loop-k in
@@ -40,9 +37,6 @@ loop-k-preserved c =
       naming_more xs _ _ L.k L.invariant.1 _ _ (omega (arith, loop_length (id_of p) c.requires.1)) (omega (arith, L.invariant.0))
           (loop_at_lem (id_of p) c.requires.1 L.k _ (omega arith) c.get_act-i.ensures.0) c.name_one.ensures,
     )
-
-pub get_act-i-requires-2 : goal.get_act-i-requires-2
-get_act-i-requires-2 c = (c.requires.0.room, omega (arith, c.requires.2, c.requires.1.some), omega arith)
 
 pub name_one-requires-2 : goal.name_one-requires-2
 name_one-requires-2 c =

@@ -10,12 +10,6 @@ use Rattle.checks.proofs.open_ends.Goals.{then-is_open, else-is_open}
 pub loop-i-init : goal.loop-i-init
 loop-i-init c = let x = c.args in (sym (open_none (plan_of x.sheet.now x.contents)), omega arith)
 
-pub is_open-requires : goal.is_open-requires
-is_open-requires c = let h = c.requires in (h.0, h.1, omega arith)
-
-pub overflow_add-n : goal.overflow_add-n
-overflow_add-n c = omega (arith, c.requires.0.read.activities_few, c.loop-i.invariant.1)
-
 pub loop-i-preserved : goal.loop-i-preserved
 loop-i-preserved c =
     let x = c.args in

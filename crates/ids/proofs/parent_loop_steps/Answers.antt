@@ -25,9 +25,6 @@ returns-then-up-i c =
     let L = c.loop-k in
     (climb_back up x.a x.i L.up L.k L.invariant (omega arith) (omega arith), omega arith)
 
-pub get_act-up-requires-in-loop-k : goal.get_act-up-requires-in-loop-k
-get_act-up-requires-in-loop-k c = (omega arith, omega (arith, c.loop-k.invariant.low), omega arith)
-
 pub loop-k-preserved : goal.loop-k-preserved
 loop-k-preserved c =
     let x = c.args in

@@ -1,14 +1,10 @@
 -- `ids::seek` meets its contract: it goes down the tree of the id's remainder by the bits of the quotient.
 use mathlib.Core.Path.{sym, ◌∙◌}
 use native.Mathlib.Omega.{arith}
-use native.Mathlib.Nat.{mod-lt}
 use Rattle.order.specs.Plan.{plan_of}
 use Rattle.ids.specs.Lent.{state_in}
 use Rattle.ids.specs.SearchLaws.{child_later, seeking_nowhere, seeking_start, seeking_found, seeking_end, seeking_turn}
 use Rattle.ids.proofs.seek.Goals as goal
-
-pub get_act-first-requires : goal.get_act-first-requires
-get_act-first-requires c = (c.requires.0.room, mod-lt _ c.requires.2, omega arith)
 
 pub returns-then-first-eq0 : goal.returns-then-first-eq0
 unfolding plan_of
@@ -22,9 +18,6 @@ loop-contents-init c =
     let x = c.args in
     seeking_start (plan_of x.sheet.now x.contents) (state_in x.contents x.work.now) x.n x.id c.requires.3 _ c.get_act-first.ensures.0 c.if-first-eq0.false
 
-pub id_of-requires : goal.id_of-requires
-id_of-requires c = (c.requires.0.read, omega (arith, c.loop-contents.invariant.below))
-
 pub returns-then-id_of-id : goal.returns-then-id_of-id
 returns-then-id_of-id c =
     let x = c.args in
@@ -32,9 +25,6 @@ returns-then-id_of-id c =
       seeking_found (plan_of x.sheet.now x.contents) (state_in x.contents x.work.now) x.n x.id c.requires.3 L.j L.rest L.invariant (sym c.id_of.ensures.0 ∙ c.if-id_of-id.true),
       L.invariant.below,
     )
-
-pub get_act-k-requires : goal.get_act-k-requires
-get_act-k-requires c = (c.requires.0.room, omega (arith, c.loop-contents.invariant.below), omega arith)
 
 pub returns-then-k-eq0 : goal.returns-then-k-eq0
 unfolding plan_of

@@ -7,9 +7,6 @@ use Rattle.order.specs.Plan.{plan_of}
 use Rattle.links.specs.StoreLaws.{kept_short}
 use Rattle.links.proofs.link_one.Goals as goal
 
-pub link_check-requires : goal.link_check-requires
-link_check-requires c = let J = c.requires.0 in (J.lent, c.requires.1, J.distinct, J.indexed, J.parented, J.activities, J.lengths_are)
-
 pub returns-in_err-ends : goal.returns-in_err-ends
 returns-in_err-ends c =
     let q = err_from_is_err_and c.from_residual.result c.from_residual.ensures.1 in

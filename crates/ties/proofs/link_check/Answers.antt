@@ -5,9 +5,6 @@ use Rattle.ids.specs.Lent.{state_in}
 use Rattle.ties.specs.CheckSteps.{check_ignored, check_long, check_kept}
 use Rattle.ties.proofs.link_check.Goals as goal
 
-pub link_ends-requires : goal.link_ends-requires
-link_ends-requires c = let h = c.requires in (h.0, h.1, h.2, h.3)
-
 pub returns-in_err-ends : goal.returns-in_err-ends
 returns-in_err-ends c =
     let q = err_from_is_err_and c.from_residual.result c.from_residual.ensures.1 in rw (q.1, q.2) c.in_err-ends.ensures
@@ -21,9 +18,6 @@ unfolding plan_of
 returns-then-is_either_marked c =
     let x = c.args in
     check_ignored (plan_of x.sheet.now x.contents) (state_in x.contents x.work.now) c.requires.4 x.k _ c.in_ok-ends.ensures _ c.is_either_marked.ensures c.if-is_either_marked.true
-
-pub is_tie_too_long-requires : goal.is_tie_too_long-requires
-is_tie_too_long-requires c = let h = c.requires in (h.0.read, h.1, h.5, c.in_ok-ends.ensures, h.6)
 
 pub returns-then-is_tie_too_long : goal.returns-then-is_tie_too_long
 unfolding plan_of
