@@ -7,56 +7,31 @@ ghost use Rattle.sheet.specs.Known.{SheetRead};
 ghost use Rattle.order.specs.Plan.{plan_of};
 ghost use Rattle.calendars.specs.Calendars.{Places, Lengths};
 
-use checks::Checked;
+use checks::PlanCounts;
+use order::PlanError;
 use sheet::Contents;
 use std::{fs, io};
-
-fn print(rt: &impl Print, n: u64) -> io::Result<()> {
-    print!(rt; " {n}")
-}
 
 // Where the first 0 stands, or the end.
 fn first_zero(names: &[u32]) -> usize
     ensures { result ≤ length names.now }
 {
-    let mut i: usize = 0;
-    while i < names.len() {
-        if names[i] == 0 {
-            return i;
-        }
-        i += 1;
-    }
-    i
+    names
+        .iter()
+        .position(|name| *name == 0)
+        .unwrap_or(names.len())
 }
 
 // Whether the names from `from` on are zeros.
 fn are_names_zero(names: &[u32], from: usize) -> bool
     requires { from ≤ length names.now }
 {
-    let mut i = from;
-    while i < names.len() {
-        if names[i] != 0 {
-            return false;
-        }
-        i += 1;
-    }
-    true
+    names[from..].iter().all(|name| *name == 0)
 }
 
 // Whether all of the memory is zeros.
 fn is_work_zero(work: &[i64]) -> bool {
-    let mut i: usize = 0;
-    while i < work.len() {
-        if work[i] != 0 {
-            return false;
-        }
-        i += 1;
-    }
-    true
-}
-
-fn wide(x: u32) -> u64 {
-    x as u64
+    work.iter().all(|cell| *cell == 0)
 }
 
 // The first `n` names.
@@ -64,7 +39,7 @@ fn print_first(rt: &impl Print, names: &[u32], n: usize) -> io::Result<()>
     requires { n ≤ length names.now }
 {
     for name in &names[..n] {
-        print(rt, wide(*name))?;
+        print!(rt; " {name}")?;
     }
     Ok(())
 }
@@ -81,34 +56,20 @@ fn print_names(rt: &impl Print, names: &[u32], n: usize) -> io::Result<()>
 }
 
 // A plan that is fine: its kept and ignored links and its open ends, and where the ignored ones stand.
-fn print_fine(
-    rt: &impl Print,
-    names: &[u32],
-    kept: usize,
-    ignored: usize,
-    open: u64,
-) -> io::Result<()> {
-    print!(rt; " fine")?;
-    print(rt, kept as u64)?;
-    print(rt, ignored as u64)?;
-    print(rt, open)?;
-    if ignored <= names.len() {
-        print_names(rt, names, ignored)?;
+fn print_fine(rt: &impl Print, names: &[u32], counts: PlanCounts) -> io::Result<()> {
+    print!(rt;
+        " fine {} {} {}",
+        counts.kept, counts.ignored, counts.open_ends
+    )?;
+    if counts.ignored <= names.len() {
+        print_names(rt, names, counts.ignored)?;
     }
     Ok(())
 }
 
 // A refusal: its number and its id, and the loop that is named.
-fn print_refused(
-    rt: &impl Print,
-    names: &[u32],
-    work: &[i64],
-    number: u64,
-    id: u64,
-) -> io::Result<()> {
-    print!(rt; " refused")?;
-    print(rt, number)?;
-    print(rt, id)?;
+fn print_refused(rt: &impl Print, names: &[u32], work: &[i64], error: PlanError) -> io::Result<()> {
+    print!(rt; " refused {} {}", error.number(), error.id())?;
     print_names(rt, names, first_zero(names))?;
     if is_work_zero(work) {
         return Ok(());
@@ -128,10 +89,9 @@ fn check_lent(
 ) -> io::Result<()>
     requires { SheetRead sheet.now contents × Places sheet.now contents places.now × Lengths (plan_of sheet.now contents) lengths.now × (max (contents.activities + 1) contents.links ≤ length names.old) × (64 * contents.activities + 16 * contents.links ≤ length work.old) }
 {
-    let checked = checks::check_plan(sheet, contents, places, lengths, names, work);
-    match checked {
-        Checked::Fine(kept, ignored, open) => print_fine(rt, names, kept, ignored, open),
-        Checked::Refused(number, id) => print_refused(rt, names, work, number, id),
+    match checks::check_plan(sheet, contents, places, lengths, names, work) {
+        Ok(counts) => print_fine(rt, names, counts),
+        Err(error) => print_refused(rt, names, work, error),
     }
 }
 
@@ -139,10 +99,7 @@ fn check_lent(
 fn check_read(rt: &impl Print, sheet: &[u8], contents: Contents) -> io::Result<()>
     requires { SheetRead sheet.now contents }
 {
-    if contents.activities > 64 {
-        return print!(rt; " no room");
-    }
-    if contents.links > 128 {
+    if contents.activities > 64 || contents.links > 128 {
         return print!(rt; " no room");
     }
     let mut places = [0u64; 450];
@@ -163,15 +120,14 @@ fn answer(rt: &impl Print, index: u64, sheet: &[u8]) -> io::Result<()> {
             check_read(rt, sheet, contents)?;
         }
         Err(e) => {
-            print!(rt; " refused")?;
-            print(rt, e.number())?;
-            print(rt, 0)?;
+            let number = e.number();
+            print!(rt; " refused {number} 0")?;
         }
     }
     println!(rt)
 }
 
-// The lines of all sheets of the file.
+// The lines of all sheets of the file. A sheet stands after its length, so a `while` goes from one to the next: an iterator would be the same loop and its type.
 fn answer_all(rt: &impl Print, file: &[u8]) -> io::Result<()> {
     let mut at: usize = 0;
     let mut index: u64 = 0;

@@ -1,24 +1,21 @@
 -- What stands once all links are judged: the kept ones in the memory, the ignored ones' positions in names over zeros.
-use Rattle.std.specs.Prelude.{◌≡◌, List, ◌++◌, ℕ, zero, suc, ◌-◌, length, drop, replicate}
+use Rattle.std.specs.Prelude.{◌≡◌, List, ◌++◌, ℕ, ◌-◌, length, drop, replicate}
 use Rattle.std.proofs.Common.{sym, ap, ◌∙◌, arith}
+use Rattle.std.proofs.lemmas.List.{drop-replicate}
 use Rattle.memory.specs.State.{State}
 use Rattle.memory.specs.Fields.{parent, is_summary}
 use Rattle.order.specs.Plan.{Plan}
 use Rattle.order.specs.Ties.{ignored_links}
 use Rattle.order.specs.TieLaws.{kept_and_ignored}
 use Rattle.ids.specs.SummaryLaws.{marks_summary}
+use Rattle.links.specs.declared.LinkCounts.{LinkCounts}
 use Rattle.links.specs.Answers.{ActsKept, LinksIn}
 use Rattle.checks.specs.Names.{then_zeros}
 use Rattle.checks.specs.StoredLinks.{StoredLinks}
 use Rattle.checks.specs.Stages.{Prepared}
 
-drop_zeros : (n size : ℕ) → ◌≡◌ {A = List ℕ} (drop n (replicate size 0)) (replicate (size - n) 0)
-drop_zeros zero size = let e : size - 0 ≡ size = omega arith in rw e
-drop_zeros (suc n) zero = let e : 0 - suc n ≡ 0 = omega arith in rw e
-drop_zeros (suc n) (suc size) = let e : suc size - suc n ≡ size - n = omega arith in rw e (drop_zeros n size)
-
-module _ (p : Plan) {T : State} {t n : ℕ} {names after : List ℕ} (L : LinksIn p p.links t n T names after) where
-  pub links_stored : {S : State} → Prepared p S → ActsKept S T → StoredLinks p t T
+module _ (p : Plan) {T : State} {c : LinkCounts} {names after : List ℕ} (L : LinksIn p p.links c T names after) where
+  pub links_stored : {S : State} → Prepared p S → ActsKept S T → StoredLinks p c.kept T
   links_stored {S} P K = record {
     count = L.kept_count;
     within = omega (arith, L.kept_count, kept_and_ignored p p.links);
@@ -29,5 +26,5 @@ module _ (p : Plan) {T : State} {t n : ℕ} {names after : List ℕ} (L : LinksI
 
   pub ignored_named : (size : ℕ) → names ≡ replicate size 0 → length after ≡ size → after ≡ then_zeros (ignored_links p) after
   ignored_named size e k =
-      L.named ∙ ap (λ (ys : List ℕ). ignored_links p ++ drop n ys) e ∙ ap (λ (ys : List ℕ). ignored_links p ++ ys) (drop_zeros n size)
-      ∙ ap (λ (m : ℕ). ignored_links p ++ replicate (m - n) 0) (sym k) ∙ ap (λ (m : ℕ). ignored_links p ++ replicate (length after - m) 0) L.ignored_count
+      L.named ∙ ap (λ (ys : List ℕ). ignored_links p ++ drop c.ignored ys) e ∙ ap (λ (ys : List ℕ). ignored_links p ++ ys) (drop-replicate c.ignored size 0)
+      ∙ ap (λ (m : ℕ). ignored_links p ++ replicate (m - c.ignored) 0) (sym k) ∙ ap (λ (m : ℕ). ignored_links p ++ replicate (length after - m) 0) L.ignored_count

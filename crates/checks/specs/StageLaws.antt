@@ -1,14 +1,17 @@
 -- How the checks follow each other: what a part of them answers is what all of them answer.
-use Rattle.std.specs.Prelude.{◌≡◌, refl, ◌≢◌, List, ◌++◌, ℕ, ◌-◌, ◌<◌, ℤ, pos, length, get_or, replicate}
+use Rattle.std.specs.Prelude.{◌≡◌, refl, ◌≢◌, List, ◌++◌, ℕ, ◌-◌, ◌<◌, ℤ, pos, length, get_or, replicate, Result}
 use Rattle.std.proofs.Math.Path.{sym, ap}
 use Rattle.std.proofs.Common.{subst, ◌∙◌, ⊎_elim, arith}
 use Rattle.std.proofs.Math.ListN.{get_or-append}
 use Rattle.number.specs.Order.{eq_or_ne}
 use Rattle.order.specs.Plan.{Plan}
-use Rattle.order.specs.Checks.{Verdict, refuse, refuse_loop, or_else, before_ordering, judge_order, checked}
+use Rattle.order.specs.Checks.{Verdict, refuse_loop, or_else, before_ordering, judge_order, checked}
 use Rattle.order.specs.CheckLaws.{calendars_first, activities_first, parents_first, summaries_first, links_first}
 use Rattle.order.specs.VerdictLaws.{or_first, or_second}
-use Rattle.checks.specs.declared.Checked.{Checked}
+use Rattle.order.specs.declared.PlanError.{PlanError}
+use Rattle.order.specs.Refusals.{plan_number, plan_id, refused}
+use Rattle.order.specs.RefusalLaws.{number_some}
+use Rattle.checks.specs.declared.PlanCounts.{PlanCounts}
 use Rattle.checks.specs.Stages.{ids_verdict, summaries_verdict, Judged, RefusedAs}
 
 or_assoc : (u v w : Verdict) → or_else (or_else u v) w ≡ or_else u (or_else v w)
@@ -35,36 +38,33 @@ module _ (p : Plan) where
 
   module _ (v w : Verdict) (size room : ℕ) (names : List ℕ) (work : List ℤ) where
     -- the first part is fine, so the rest decides
-    pub then_judged : v.number ≡ 0 → (r : Checked) → Judged p w size room names work r → Judged p (or_else v w) size room names work r
+    pub then_judged : v.number ≡ 0 → (r : Result PlanCounts PlanError) → Judged p w size room names work r → Judged p (or_else v w) size room names work r
     then_judged e r h = subst (λ (u : Verdict). Judged p u size room names work r) (sym (or_second v w e)) h
 
     -- the first part refuses
-    pub first_refused : (number id : ℕ) → RefusedAs p v size room names work number id → RefusedAs p (or_else v w) size room names work number id
-    first_refused number id h =
-        subst (λ (u : Verdict). RefusedAs p u size room names work number id) (sym (or_first v w (λ z. omega (arith, h.some, h.number_is)))) h
+    pub first_refused : {e : PlanError} → RefusedAs p v size room names work e → RefusedAs p (or_else v w) size room names work e
+    first_refused {e} h =
+        subst (λ (u : Verdict). RefusedAs p u size room names work e) (sym (or_first v w (λ z. omega (arith, number_some e, h.number_is)))) h
 
-  module _ (v : Verdict) (size room : ℕ) (names : List ℕ) (work : List ℤ) (number : ℕ) (some : 0 < number) where
+  module _ (v : Verdict) (size room : ℕ) (names : List ℕ) (work : List ℤ) (e : PlanError) where
     -- a row without names
-    pub plain_refused : (id : ℕ) → v ≡ refuse number id → names ≡ replicate size 0 → work ≡ replicate room (pos 0)
-        → RefusedAs p v size room names work number id
-    plain_refused id e n w =
-        let z : size - 0 ≡ size = omega arith in
-        rw e (record { number_is = refl; id_is = refl; some = some; named = rw z n; cleared = w })
+    pub plain_refused : v ≡ refused e → names ≡ replicate size 0 → work ≡ replicate room (pos 0) → RefusedAs p v size room names work e
+    plain_refused d n w =
+        let z : size - 0 ≡ size = omega arith in rw d (record { number_is = refl; id_is = refl; named = rw z n; cleared = w })
 
     -- a row that names a loop
-    pub loop_refused : (xs : List ℕ) → 0 < length xs → v ≡ refuse_loop number xs → names ≡ xs ++ replicate (size - length xs) 0
-        → work ≡ replicate room (pos 0) → RefusedAs p v size room names work number (get_or names 0 0)
-    loop_refused xs h e n w =
-        rw e (record {
+    pub loop_refused : (xs : List ℕ) → 0 < length xs → v ≡ refuse_loop (plan_number e) xs → plan_id e ≡ get_or names 0 0
+        → names ≡ xs ++ replicate (size - length xs) 0 → work ≡ replicate room (pos 0) → RefusedAs p v size room names work e
+    loop_refused xs h d i n w =
+        rw d (record {
           number_is = refl;
-          id_is = ap (λ (ys : List ℕ). get_or ys 0 0) n ∙ get_or-append xs (replicate (size - length xs) 0) 0 0 h;
-          some = some;
+          id_is = i ∙ ap (λ (ys : List ℕ). get_or ys 0 0) n ∙ get_or-append xs (replicate (size - length xs) 0) 0 0 h;
           named = n;
           cleared = w;
         })
 
   -- by the lengths that names and memory had before
-  pub judged_sizes : (v : Verdict) {size size' room room' : ℕ} (names : List ℕ) (work : List ℤ) (r : Checked) → size ≡ size' → room ≡ room'
+  pub judged_sizes : (v : Verdict) {size size' room room' : ℕ} (names : List ℕ) (work : List ℤ) (r : Result PlanCounts PlanError) → size ≡ size' → room ≡ room'
       → Judged p v size room names work r → Judged p v size' room' names work r
   judged_sizes v {size} {size'} {room} {room'} names work r e f h =
       subst (λ (n : ℕ). Judged p v size' n names work r) f (subst (λ (n : ℕ). Judged p v n room names work r) e h)

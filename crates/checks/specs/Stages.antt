@@ -1,21 +1,20 @@
 -- The answer of the checks, and what it says of the lent names and the lent memory.
-use Rattle.std.specs.Prelude.{◌≡◌, List, ◌++◌, ℕ, ◌-◌, ◌<◌, ℤ, pos, length, replicate}
+use Rattle.std.specs.Prelude.{◌≡◌, List, ◌++◌, ℕ, ◌-◌, ℤ, pos, length, replicate, Result, Ok, Err, IfOk}
 use Rattle.memory.specs.State.{State, state_of}
 use Rattle.sheet.specs.declared.Contents.{Contents}
 use Rattle.order.specs.Plan.{Plan, plan_of}
 use Rattle.order.specs.Ties.{ignored_links, open_ends}
 use Rattle.order.specs.Checks.{Verdict, or_else, judge_order, checked}
 use Rattle.order.specs.CheckLaws.{calendars_first, activities_first, parents_first, summaries_first, links_first}
+use Rattle.order.specs.declared.PlanError.{PlanError}
+use Rattle.order.specs.Refusals.{plan_number, plan_id}
 use Rattle.order.specs.IdLaws.{DistinctIds}
 use Rattle.order.specs.FineLaws.{ActivitiesFine, ParentsKnown}
-use Rattle.ids.specs.declared.Check.{Check}
-use Rattle.ids.specs.declared.Check.TheVariants as check
 use Rattle.ids.specs.Index.{Indexed}
 use Rattle.ids.specs.Parented.{Parented}
 use Rattle.ids.specs.Answers.{Answered}
 use Rattle.dates.specs.Standing.{Standing, Ready}
-use Rattle.checks.specs.declared.Checked.{Checked}
-use Rattle.checks.specs.declared.Checked.TheVariants.{Fine, Refused}
+use Rattle.checks.specs.declared.PlanCounts.{PlanCounts}
 use Rattle.checks.specs.Names.{then_zeros}
 use Rattle.checks.specs.Elsewhere.{Elsewhere}
 
@@ -41,51 +40,48 @@ module _ (p : Plan) where
     pub indexed : Indexed p S p.activities
     pub parented : Parented p S p.activities
 
-  pub record IdsChecked (r : Check) (S : State) : Type 0 where
+  pub record IdsChecked {T : Type 0} (r : Result T PlanError) (S : State) : Type 0 where
     pub answered : Answered r ids_verdict
-    pub holds : r ≡ check.Fine → Prepared S
+    pub holds : IfOk r (λ x. Prepared S)
 
 -- ---- some of the checks: v is their verdict, `size` the length of the names and `room` that of the memory
 module _ (p : Plan) (v : Verdict) (size room : ℕ) (names : List ℕ) (work : List ℤ) where
-  pub record FineAs (t n o : ℕ) : Type 0 where
+  pub record FineAs (c : PlanCounts) : Type 0 where
     pub fine : v.number ≡ 0
-    pub standing : Standing p t (state_of p.activities p.links work)
-    pub elsewhere : Elsewhere p.activities p.links t work
+    pub standing : Standing p c.kept (state_of p.activities p.links work)
+    pub elsewhere : Elsewhere p.activities p.links c.kept work
     pub named : names ≡ ignored_links p ++ replicate (size - length (ignored_links p)) 0
-    pub ignored : n ≡ length (ignored_links p)
-    pub ends : o ≡ open_ends p
+    pub ignored : c.ignored ≡ length (ignored_links p)
+    pub ends : c.open_ends ≡ open_ends p
     pub kept : length work ≡ room
 
-  pub record RefusedAs (number id : ℕ) : Type 0 where
-    pub number_is : number ≡ v.number
-    pub id_is : id ≡ v.id
-    pub some : 0 < number
+  pub record RefusedAs (e : PlanError) : Type 0 where
+    pub number_is : plan_number e ≡ v.number
+    pub id_is : plan_id e ≡ v.id
     pub named : names ≡ v.loop ++ replicate (size - length v.loop) 0
     pub cleared : work ≡ replicate room (pos 0)
 
-  abbrev pub Judged : Checked → Type 0
-  Judged (Fine t n o) = FineAs t n o
-  Judged (Refused number id) = RefusedAs number id
+  abbrev pub Judged : Result PlanCounts PlanError → Type 0
+  Judged (Ok c) = FineAs c
+  Judged (Err e) = RefusedAs e
 
 -- ---- all of them: names and memory before and after
-module _ (s : List ℕ) (c : Contents) (places names : List ℕ) (work : List ℤ) (names' : List ℕ) (work' : List ℤ) where
-  -- t kept links, n ignored ones and o open ends
-  pub record PlanFine (t n o : ℕ) : Type 0 where
-    pub fine : (checked (plan_of s c)).number ≡ 0
-    pub ready : Ready s c places t work'
-    pub elsewhere : Elsewhere c.activities c.links t work'
-    pub named : names' ≡ then_zeros (ignored_links (plan_of s c)) names
-    pub ignored : n ≡ length (ignored_links (plan_of s c))
-    pub ends : o ≡ open_ends (plan_of s c)
+module _ (s : List ℕ) (contents : Contents) (places names : List ℕ) (work : List ℤ) (names' : List ℕ) (work' : List ℤ) where
+  pub record PlanFine (c : PlanCounts) : Type 0 where
+    pub fine : (checked (plan_of s contents)).number ≡ 0
+    pub ready : Ready s contents places c.kept work'
+    pub elsewhere : Elsewhere contents.activities contents.links c.kept work'
+    pub named : names' ≡ then_zeros (ignored_links (plan_of s contents)) names
+    pub ignored : c.ignored ≡ length (ignored_links (plan_of s contents))
+    pub ends : c.open_ends ≡ open_ends (plan_of s contents)
     pub kept : length work' ≡ length work
 
-  pub record PlanRefused (number id : ℕ) : Type 0 where
-    pub number_is : number ≡ (checked (plan_of s c)).number
-    pub id_is : id ≡ (checked (plan_of s c)).id
-    pub some : 0 < number
-    pub named : names' ≡ then_zeros (checked (plan_of s c)).loop names
+  pub record PlanRefused (e : PlanError) : Type 0 where
+    pub number_is : plan_number e ≡ (checked (plan_of s contents)).number
+    pub id_is : plan_id e ≡ (checked (plan_of s contents)).id
+    pub named : names' ≡ then_zeros (checked (plan_of s contents)).loop names
     pub cleared : work' ≡ replicate (length work) (pos 0)
 
-  abbrev pub PlanChecked : Checked → Type 0
-  PlanChecked (Fine t n o) = PlanFine t n o
-  PlanChecked (Refused number id) = PlanRefused number id
+  abbrev pub PlanChecked : Result PlanCounts PlanError → Type 0
+  PlanChecked (Ok c) = PlanFine c
+  PlanChecked (Err e) = PlanRefused e

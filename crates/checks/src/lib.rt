@@ -1,7 +1,7 @@
 // Rows 5 to 15 of 01's table in one call: the plan is ready for the passes, or it is refused with the names of its loop.
 #![tactic(auto)]
 
-ghost use Rattle.std.specs.Prelude.{◌≡◌, ◌+◌, ◌≤◌, ◌<◌, max, length, get_or, set, replicate, pos};
+ghost use Rattle.std.specs.Prelude.{◌≡◌, ◌+◌, ◌≤◌, ◌<◌, max, length, set, replicate, pos, Err};
 ghost use Rattle.sheet.specs.Known.{SheetRead};
 ghost use Rattle.memory.specs.State.{Room};
 ghost use Rattle.network.specs.Parents.{upward};
@@ -21,16 +21,18 @@ ghost use Rattle.checks.specs.Column.{LoopIn};
 ghost use Rattle.checks.specs.StoredLinks.{StoredLinks};
 ghost use Rattle.checks.specs.Stages.{links_verdict, summaries_verdict, Prepared, IdsChecked, Judged, PlanChecked};
 
-use ids::{Check, SummaryCheck};
-use links::Linked;
+use ids::SummaryError;
+use links::LinkCounts;
 use memory::fields;
+use order::PlanError;
 use sheet::Contents;
 
-// The answer: how many links are kept and how many ignored, and how many open ends there are; or a row's number and its id.
+// Of a plan that is fine: how many links are kept and how many ignored, and how many open ends there are.
 #[derive(Clone, Copy)]
-pub enum Checked {
-    Fine(usize, usize, u64),
-    Refused(u64, u64),
+pub struct PlanCounts {
+    pub kept: usize,
+    pub ignored: usize,
+    pub open_ends: u64,
 }
 
 // Puts the id of activity `i` at place `k` of the names.
@@ -58,11 +60,9 @@ fn name_parents(
     let a = contents.activities;
     let l = contents.links;
     let mut i = first;
-    let mut k: usize = 0;
-    while k < steps {
+    for k in 0..steps {
         i = memory::get_act(work, a, l, i, fields::PARENT) as usize - 1;
-        k += 1;
-        name_one(sheet, contents, names, k, i);
+        name_one(sheet, contents, names, k + 1, i);
     }
 }
 
@@ -74,11 +74,9 @@ fn name_links(sheet: &[u8], contents: Contents, names: &mut [u32], work: &[i64],
     cells::clear_u32(names);
     let a = contents.activities;
     let l = contents.links;
-    let mut k: usize = 0;
-    while k < m {
+    for k in 0..m {
         let i = memory::get_act(work, a, l, k, fields::SEEN) as usize;
         name_one(sheet, contents, names, k, i);
-        k += 1;
     }
     let i = memory::get_act(work, a, l, 0, fields::SEEN) as usize;
     name_one(sheet, contents, names, m, i);
@@ -109,75 +107,67 @@ fn open_ends(sheet: &[u8], contents: Contents, work: &[i64], t: usize) -> u64
     ensures { (result ≡ open_ends (plan_of sheet.now contents)) × (result ≤ contents.activities) }
 {
     let mut n: u64 = 0;
-    let mut i: usize = 0;
-    while i < contents.activities {
+    for i in 0..contents.activities {
         if is_open(sheet, contents, work, t, i) {
             n += 1;
         }
-        i += 1;
     }
     n
 }
 
-// Refuses with the names of a loop: the id is the first name, and the memory is cleared.
-fn refuse_loop(names: &[u32], work: &mut [i64], number: u64) -> Checked
-    requires { 0 < length names.now }
-    ensures { (result ≡ Checked.Refused number (get_or names.now 0 0)) × (work.new ≡ replicate (length work.old) (pos 0)) }
-{
-    cells::clear(work);
-    Checked::Refused(number, names[0] as u64)
-}
-
-// Row 15: the order by the `t` kept links, which are stored; then the plan is ready and the rest of the memory cleared, or the loop is named. The names hold the
-// `n` ignored links.
+// Row 15: the order by the kept links, which are stored; then the plan is ready and the rest of the memory cleared, or the loop is named. The names hold the
+// ignored links.
 fn check_order(
     sheet: &[u8],
     contents: Contents,
     names: &mut [u32],
     work: &mut [i64],
-    t: usize,
-    n: usize,
-) -> Checked
-    requires { Lent sheet.now contents work.old × StoredLinks (plan_of sheet.now contents) t (state_in contents work.old) × LinksFine (plan_of sheet.now contents) × (n ≡ length (ignored_links (plan_of sheet.now contents))) × (names.old ≡ then_zeros (ignored_links (plan_of sheet.now contents)) names.old) × (contents.activities < length names.old) }
+    counts: LinkCounts,
+) -> Result<PlanCounts, PlanError>
+    requires { Lent sheet.now contents work.old × StoredLinks (plan_of sheet.now contents) counts.kept (state_in contents work.old) × LinksFine (plan_of sheet.now contents) × (counts.ignored ≡ length (ignored_links (plan_of sheet.now contents))) × (names.old ≡ then_zeros (ignored_links (plan_of sheet.now contents)) names.old) × (contents.activities < length names.old) }
     ensures { Judged (plan_of sheet.now contents) (judge_order (plan_of sheet.now contents)) (length names.old) (length work.old) names.new work.new result }
 {
     let a = contents.activities;
     let l = contents.links;
+    let t = counts.kept;
     if topology::order_activities(work, a, l, t) == a {
         rest::clear_rest(work, a, l, t);
-        return Checked::Fine(t, n, open_ends(sheet, contents, work, t));
+        return Ok(PlanCounts {
+            kept: t,
+            ignored: counts.ignored,
+            open_ends: open_ends(sheet, contents, work, t),
+        });
     }
     let m = topology::name_loop(work, a, l, t);
     name_links(sheet, contents, names, work, m);
-    refuse_loop(names, work, 15)
+    cells::clear(work);
+    Err(PlanError::LinkLoop(names[0] as u64))
 }
 
 // Refuses without names: names and memory are cleared.
-fn refuse(names: &mut [u32], work: &mut [i64], number: u64, id: u64) -> Checked
-    ensures { (result ≡ Checked.Refused number id) × (names.new ≡ replicate (length names.old) 0) × (work.new ≡ replicate (length work.old) (pos 0)) }
+fn refuse(names: &mut [u32], work: &mut [i64], error: PlanError) -> Result<PlanCounts, PlanError>
+    ensures { (result ≡ Err error) × (names.new ≡ replicate (length names.old) 0) × (work.new ≡ replicate (length work.old) (pos 0)) }
 {
     cells::clear_u32(names);
     cells::clear(work);
-    Checked::Refused(number, id)
+    Err(error)
 }
 
 // Rows 5 to 10: calendars, ids and parents.
-fn check_ids(sheet: &[u8], contents: Contents, places: &[u64], work: &mut [i64]) -> Check
+fn check_ids(
+    sheet: &[u8],
+    contents: Contents,
+    places: &[u64],
+    work: &mut [i64],
+) -> Result<(), PlanError>
     requires { Lent sheet.now contents work.old × Places sheet.now contents places.now }
     ensures { IdsChecked (plan_of sheet.now contents) result (state_in contents work.new) × (length work.new ≡ length work.old) }
 {
-    if calendars::have_hours(sheet, contents, places) {
-        let check = ids::index_all(sheet, contents, work);
-        match check {
-            Check::Refused(number, id) => {
-                return Check::Refused(number, id);
-            }
-            Check::Fine => {
-                return ids::parents(sheet, contents, work);
-            }
-        }
+    if !calendars::have_hours(sheet, contents, places) {
+        return Err(PlanError::NoHours);
     }
-    Check::Refused(5, 0)
+    ids::index_all(sheet, contents, work)?;
+    ids::parents(sheet, contents, work)
 }
 
 // Rows 13, 14 and 8 of the links, then 15.
@@ -187,19 +177,14 @@ fn check_links(
     lengths: &[u64],
     names: &mut [u32],
     work: &mut [i64],
-) -> Checked
+) -> Result<PlanCounts, PlanError>
     requires { Lent sheet.now contents work.old × Prepared (plan_of sheet.now contents) (state_in contents work.old) × Lengths (plan_of sheet.now contents) lengths.now × (contents.activities < length names.old) × (contents.links ≤ length names.old) }
     ensures { Judged (plan_of sheet.now contents) (links_verdict (plan_of sheet.now contents)) (length names.old) (length work.old) names.new work.new result }
 {
     cells::clear_u32(names);
-    let linked = links::link_all(sheet, contents, lengths, names, work);
-    match linked {
-        Linked::Refused(number, id) => {
-            return refuse(names, work, number, id);
-        }
-        Linked::Linked(t, n) => {
-            return check_order(sheet, contents, names, work, t, n);
-        }
+    match links::link_all(sheet, contents, lengths, names, work) {
+        Ok(counts) => check_order(sheet, contents, names, work, counts),
+        Err(error) => refuse(names, work, error),
     }
 }
 
@@ -210,21 +195,17 @@ fn check_summaries(
     lengths: &[u64],
     names: &mut [u32],
     work: &mut [i64],
-) -> Checked
+) -> Result<PlanCounts, PlanError>
     requires { Lent sheet.now contents work.old × Prepared (plan_of sheet.now contents) (state_in contents work.old) × Lengths (plan_of sheet.now contents) lengths.now × (contents.activities < length names.old) × (contents.links ≤ length names.old) }
     ensures { Judged (plan_of sheet.now contents) (summaries_verdict (plan_of sheet.now contents)) (length names.old) (length work.old) names.new work.new result }
 {
-    let check = ids::summaries(sheet, contents, work);
-    match check {
-        SummaryCheck::Milestone(id) => {
-            return refuse(names, work, 11, id);
-        }
-        SummaryCheck::Loop(first, steps) => {
+    match ids::summaries(sheet, contents, work) {
+        Ok(()) => check_links(sheet, contents, lengths, names, work),
+        Err(SummaryError::Milestone(id)) => refuse(names, work, PlanError::MilestoneParent(id)),
+        Err(SummaryError::Loop { first, steps }) => {
             name_parents(sheet, contents, names, work, first, steps);
-            return refuse_loop(names, work, 12);
-        }
-        SummaryCheck::Fine => {
-            return check_links(sheet, contents, lengths, names, work);
+            cells::clear(work);
+            Err(PlanError::ParentLoop(names[0] as u64))
         }
     }
 }
@@ -238,17 +219,12 @@ pub fn check_plan(
     lengths: &[u64],
     names: &mut [u32],
     work: &mut [i64],
-) -> Checked
+) -> Result<PlanCounts, PlanError>
     requires { SheetRead sheet.now contents × Room contents.activities contents.links work.old × Places sheet.now contents places.now × Lengths (plan_of sheet.now contents) lengths.now × (max (contents.activities + 1) contents.links ≤ length names.old) }
     ensures { PlanChecked sheet.now contents places.now names.old work.old names.new work.new result }
 {
-    let check = check_ids(sheet, contents, places, work);
-    match check {
-        Check::Refused(number, id) => {
-            return refuse(names, work, number, id);
-        }
-        Check::Fine => {
-            return check_summaries(sheet, contents, lengths, names, work);
-        }
+    match check_ids(sheet, contents, places, work) {
+        Ok(()) => check_summaries(sheet, contents, lengths, names, work),
+        Err(error) => refuse(names, work, error),
     }
 }

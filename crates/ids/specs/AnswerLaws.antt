@@ -1,25 +1,16 @@
--- Answers of checks: how they are made, and what they say of the verdict.
-use Rattle.std.specs.Prelude.{◌≡◌, ◌≢◌, ℕ, ◌<◌}
-use Rattle.std.proofs.Common.{sym, ap, ◌∙◌, arith}
-use Rattle.order.specs.Checks.{Verdict, refuse, fine}
-use Rattle.ids.specs.declared.Check.{Check}
-use Rattle.ids.specs.declared.Check.TheVariants.{Fine, Refused}
-use Rattle.ids.specs.Answers.{verdict_of, Answered}
+-- What the answer of a check says of the verdict's number.
+use Rattle.std.specs.Prelude.{◌≡◌, ◌≢◌, Ok, Err}
+use Rattle.std.proofs.Common.{sym, ap, arith}
+use Rattle.order.specs.Checks.{Verdict}
+use Rattle.order.specs.declared.PlanError.{PlanError}
+use Rattle.order.specs.Refusals.{plan_number}
+use Rattle.order.specs.RefusalLaws.{number_some}
+use Rattle.ids.specs.Answers.{Answered}
 
-pub not_refused : {number id : ℕ} {A : Type 0} → Refused number id ≡ Fine → A
-not_refused e = let z : ◌≡◌ {A = ℕ} 0 1 = cc in absurd (omega arith)
+module _ {T : Type 0} {v : Verdict} where
+  pub fine_number : {x : T} → Answered (Ok x) v → v.number ≡ 0
+  fine_number A = ap (λ (u : Verdict). u.number) (sym A.is)
 
-module _ {v : Verdict} where
-  pub answered_fine : fine ≡ v → Answered Fine v
-  answered_fine e = record { is = e; row = λ number id q. not_refused (sym q) }
-
-  pub answered_refused : (number id : ℕ) → 0 < number → refuse number id ≡ v → Answered (Refused number id) v
-  answered_refused number id l e = record { is = e; row = λ m j q. let d : number ≡ m = cc in omega arith }
-
-  module _ {r : Check} (A : Answered r v) where
-    pub fine_number : r ≡ Fine → v.number ≡ 0
-    fine_number e = ap (λ (u : Verdict). u.number) (sym A.is ∙ ap verdict_of e)
-
-    pub refused_number : (number id : ℕ) → r ≡ Refused number id → v.number ≢ 0
-    refused_number number id e h =
-        let q : v.number ≡ number = ap (λ (u : Verdict). u.number) (sym A.is ∙ ap verdict_of e) in omega (arith, A.row number id e)
+  pub refused_number : {e : PlanError} → Answered {T = T} (Err e) v → v.number ≢ 0
+  refused_number {e} A h =
+      let q : v.number ≡ plan_number e = ap (λ (u : Verdict). u.number) (sym A.is) in omega (arith, number_some e)

@@ -1,29 +1,28 @@
 -- The answers of the checks in 01's numbers, and what the memory holds where they are fine.
-use Rattle.std.specs.Prelude.{◌≡◌, ◌⊎◌, ℕ, ◌<◌}
+use Rattle.std.specs.Prelude.{◌≡◌, ◌⊎◌, ℕ, Result, Ok, Err, IfOk}
 use Rattle.memory.specs.State.{State}
 use Rattle.memory.specs.Fields.{low_child, high_child, root, parent, is_summary}
 use Rattle.order.specs.Plan.{Plan}
-use Rattle.order.specs.Checks.{Verdict, refuse, fine}
-use Rattle.ids.specs.declared.Check.{Check}
-use Rattle.ids.specs.declared.Check.TheVariants.{Fine, Refused}
+use Rattle.order.specs.Checks.{Verdict, fine}
+use Rattle.order.specs.declared.PlanError.{PlanError}
+use Rattle.order.specs.Refusals.{refused}
 use Rattle.ids.specs.Index.{Indexed}
 use Rattle.ids.specs.Lent.{KeptBut}
 use Rattle.ids.specs.Parented.{Parented}
 
 -- rows 6 to 10: the number and its id
-abbrev pub verdict_of : Check → Verdict
-verdict_of Fine = fine
-verdict_of (Refused number id) = refuse number id
+abbrev pub verdict_of : {T : Type 0} → Result T PlanError → Verdict
+verdict_of (Ok x) = fine
+verdict_of (Err e) = refused e
 
--- r answers v, and a refusal has a row's number
-pub record Answered (r : Check) (v : Verdict) : Type 0 where
+-- r answers v
+pub record Answered {T : Type 0} (r : Result T PlanError) (v : Verdict) : Type 0 where
   pub is : verdict_of r ≡ v
-  pub row : (number id : ℕ) → r ≡ Refused number id → 0 < number
 
--- S became T: but for the fields of activities that F names it is the same, and where the answer is fine H holds of it
-pub record PassedBy (F : ℕ → Type 0) (H : State → Type 0) (S T : State) (r : Check) : Type 0 where
-  pub kept : KeptBut F S T
-  pub holds : r ≡ Fine → H T
+-- S became U: but for the fields of activities that F names it is the same, and where the answer is fine H holds of it
+pub record PassedBy {T : Type 0} (F : ℕ → Type 0) (H : State → Type 0) (S U : State) (r : Result T PlanError) : Type 0 where
+  pub kept : KeptBut F S U
+  pub holds : IfOk r (λ x. H U)
 
 -- the fields of the index, and those of parents
 abbrev pub OfIndex : ℕ → Type 0
@@ -33,9 +32,9 @@ abbrev pub OfParents : ℕ → Type 0
 OfParents f = (f ≡ parent) ⊎ (f ≡ is_summary)
 
 -- the index of the first n activities
-abbrev pub IndexedBy : Plan → ℕ → State → State → Check → Type 0
-IndexedBy p n = PassedBy OfIndex (λ (T : State). Indexed p T n)
+abbrev pub IndexedBy : {T : Type 0} → Plan → ℕ → State → State → Result T PlanError → Type 0
+IndexedBy p n = PassedBy OfIndex (λ (W : State). Indexed p W n)
 
 -- the parents of the first n activities
-abbrev pub ParentedBy : Plan → ℕ → State → State → Check → Type 0
-ParentedBy p n = PassedBy OfParents (λ (T : State). Parented p T n)
+abbrev pub ParentedBy : {T : Type 0} → Plan → ℕ → State → State → Result T PlanError → Type 0
+ParentedBy p n = PassedBy OfParents (λ (W : State). Parented p W n)

@@ -13,8 +13,6 @@ use Rattle.network.specs.Climbing.{steps_back_hit, steps_back_miss}
 -- ---- one function of parents
 module _ (parent : ℕ → ℕ) (n i : ℕ) where
   pub record Climb (up k : ℕ) : Type 0 where
-    pub some : 1 ≤ k
-    pub bound : k ≤ n + 1
     pub low : up ≤ n
     pub is : up ≡ climb parent k i
     pub left : steps_back parent (n + 1 - k) k i ≡ loop_steps parent n i
@@ -33,8 +31,6 @@ module _ (parent : ℕ → ℕ) (n i : ℕ) where
 
   pub climb_start : ((j : ℕ) → j < n → parent j ≤ n) → i < n → (up : ℕ) → up ≡ parent i → Climb up 1
   climb_start within l up e = record {
-    some = omega arith;
-    bound = omega arith;
     low = omega (arith, within i l);
     is = e ∙ sym climb_one;
     left = steps_start parent n i;
@@ -49,8 +45,6 @@ module _ (parent : ℕ → ℕ) (n i : ℕ) where
 
     pub climb_turn : ((j : ℕ) → j < n → parent j ≤ n) → k ≤ n → up ≢ 0 → up ≢ i + 1 → (next : ℕ) → next ≡ parent (up - 1) → Climb next (k + 1)
     climb_turn within l some other next e = record {
-      some = omega arith;
-      bound = omega arith;
       low = omega (arith, within (up - 1) (omega (arith, C.low)));
       is = e ∙ sym (above_some up some) ∙ ap (above parent) C.is ∙ sym (climb_more k);
       left = sym (steps_miss parent n i k l (λ q. other (C.is ∙ q ∙ sym (add-one i)))) ∙ C.left;

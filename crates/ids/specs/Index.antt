@@ -10,9 +10,9 @@ module _ (p : Plan) where
   abbrev pub InTrees : State → ℕ → Type 0
   InTrees S n = Trees (id_of p) p.activities S.act n
 
-  -- the row and the field where activity i comes into them
-  abbrev pub PlaceFor : State → ℕ → ℕ → ℕ → Type 0
-  PlaceFor S i parent side = Vacant (id_of p) p.activities S.act i parent side
+  -- the row and the field where an activity with the id comes in after the first n
+  abbrev pub PlaceFor : State → ℕ → ℕ → ℕ → ℕ → Type 0
+  PlaceFor S = Vacant p.activities S.act
 
   -- the memory has the index of the first n activities, and no two of them have one id
   pub record Indexed (S : State) (n : ℕ) : Type 0 where

@@ -1,5 +1,5 @@
 -- What the memory holds as activities come into the index.
-use Rattle.std.specs.Prelude.{◌≡◌, refl, List, ◌≢◌, ℕ, ◌+◌, ◌%◌, ◌≤◌, ◌<◌, ℤ, pos}
+use Rattle.std.specs.Prelude.{◌≡◌, refl, List, ◌≢◌, ℕ, ◌+◌, ◌%◌, ◌≤◌, ◌<◌, ℤ, pos, Ok}
 use Rattle.std.proofs.Common.{sym, ap, subst, ◌∙◌, inl, inr, ⊎_elim, arith, add-one}
 use Rattle.number.specs.Order.{eq_or_ne, lt_or_le}
 use Rattle.memory.specs.State.{State, state_of, put_act, fill_act}
@@ -8,14 +8,12 @@ use Rattle.order.specs.Plan.{Plan}
 use Rattle.order.specs.Ids.{id_of}
 use Rattle.order.specs.Checks.{judge_activity}
 use Rattle.order.proofs.CheckLaws.{activity_fine_lem}
-use Rattle.ids.specs.declared.Check.{Check}
-use Rattle.ids.specs.declared.Check.TheVariants.{Fine}
 use Rattle.ids.specs.Tree.{Children, Vacant, at_root, at_child, Leaf}
-use Rattle.ids.specs.TreeLaws.{trees_none, trees_same, trees_more}
+use Rattle.ids.specs.TreeLaws.{trees_none, trees_same, vacant_same, trees_more}
 use Rattle.memory.specs.Fields.{low_child, high_child, root}
 use Rattle.ids.specs.Index.{InTrees, PlaceFor, Indexed}
 use Rattle.ids.specs.Lent.{KeptBut}
-use Rattle.ids.specs.Answers.{Answered, OfIndex}
+use Rattle.ids.specs.Answers.{Answered, OfIndex, IndexedBy}
 use Rattle.ids.specs.AnswerLaws.{fine_number}
 use Rattle.ids.specs.LentLaws.{kept_then, kept_put, kept_fill}
 
@@ -56,42 +54,48 @@ module _ (S : State) (i : ℕ) where
   leaf_kept = kept_then OfIndex (kept_put OfIndex low_child (inl refl) S i 0) (kept_put OfIndex high_child (inr (inl refl)) (put_act S low_child i 0) i 0)
 
 -- where an activity comes in is a field of the index
-place_field : (id : ℕ → ℕ) (a : ℕ) {t : Children} {i parent side : ℕ} → Vacant id a t i parent side → OfIndex side
-place_field id a (at_root e) = inr (inr refl)
-place_field id a (at_child {left} l e w) =
+place_field : {a : ℕ} {t : Children} {i d parent side : ℕ} → Vacant a t i d parent side → OfIndex side
+place_field (at_root e) = inr (inr refl)
+place_field (at_child {left} l e w) =
     ⊎_elim (λ (z : left % 2 ≡ low_child). inl z) (λ (z : left % 2 ≢ low_child). inr (inl (omega arith))) (eq_or_ne (left % 2) low_child)
 
-module _ (p : Plan) where
-  -- the trees have one activity more, and row 6 did not refuse its id
-  pub inserted : {S T : State} (i : ℕ) → Indexed p S i → InTrees p T (i + 1) → {r : Check} → Answered r (judge_activity p i) → r ≡ Fine
-      → Indexed p T (i + 1)
-  inserted i I A B f =
-      let new = ((activity_fine_lem p i).0 (fine_number B f)).new in record {
-        trees = A;
-        fresh = λ m l. ⊎_elim (λ (e : m ≡ i). rw e new) (λ (n : m ≢ i). I.fresh m (omega arith)) (eq_or_ne m i);
-      }
+-- ---- the index as the code puts activity i into it
+module _ (p : Plan) (S R T U : State) (i : ℕ) (I : Indexed p S i) (low : R ≡ put_act S low_child i 0) (high : T ≡ put_act R high_child i 0) where
+  is_leaf : T ≡ with_leaf S i
+  is_leaf = high ∙ ap (λ (W : State). put_act W high_child i 0) low
 
-  -- ---- the trees as the code puts activity i into them
-  module _ (S R T : State) (i : ℕ) (A : InTrees p S i) (low : R ≡ put_act S low_child i 0) (high : T ≡ put_act R high_child i 0) where
-    is_leaf : T ≡ with_leaf S i
-    is_leaf = high ∙ ap (λ (W : State). put_act W high_child i 0) low
+  rows_same : (b j : ℕ) → b < 2 → j < i → T.act b j ≡ S.act b j
+  rows_same b j c l = ap (λ (W : State). W.act b j) is_leaf ∙ leaf_rows S i b j (λ e. omega arith)
 
-    pub leaf_trees : InTrees p T i
-    leaf_trees =
-        subst (λ (W : State). InTrees p W i) (sym is_leaf)
-        (trees_same (id_of p) p.activities A (with_leaf S i).act (λ b j c l. leaf_rows S i b j (λ e. omega arith)) (λ r. refl))
+  roots_same : (r : ℕ) → T.act root r ≡ S.act root r
+  roots_same r = ap (λ (W : State). W.act root r) is_leaf
 
-    pub comes_in : (U : State) (parent side : ℕ) → PlaceFor p T i parent side → U ≡ put_act T side parent (i + 1)
-        → InTrees p U (i + 1) × KeptBut OfIndex S U
-    comes_in U parent side E e =
+  module _ (parent side : ℕ) (place : PlaceFor p S i (id_of p i) parent side) (e : U ≡ put_act T side parent (i + 1)) where
+    trees : InTrees p U (i + 1)
+    trees =
         let X : State = put_act T side parent (i + 1) in
         let L : Leaf T.act i = subst (λ (W : State). Leaf W.act i) (sym is_leaf) (leaf S i) in
-        let K : KeptBut OfIndex S T = subst (KeptBut OfIndex S) (sym is_leaf) (leaf_kept S i) in
         let other : (b j : ℕ) → (b ≡ side → j ≡ parent → ⊥) → X.act b j ≡ T.act b j =
         λ b j n.
         ⊎_elim (λ (z : b ≡ side). act_row T side parent (pos (i + 1)) b j (n z))
-        (λ (z : b ≢ side). ap (λ (c : ℕ → ℕ). c j) (act_field T side parent (pos (i + 1)) b z)) (eq_or_ne b side) in (
-          subst (λ (W : State). InTrees p W (i + 1)) (sym e)
-              (trees_more (id_of p) p.activities leaf_trees L E X.act (act_same T side parent (pos (i + 1)) ∙ add-one i) other),
-          kept_then OfIndex K (subst (KeptBut OfIndex T) (sym e) (kept_put OfIndex side (place_field (id_of p) p.activities E) T parent (i + 1))),
-        )
+        (λ (z : b ≢ side). ap (λ (c : ℕ → ℕ). c j) (act_field T side parent (pos (i + 1)) b z)) (eq_or_ne b side) in
+        subst (λ (W : State). InTrees p W (i + 1)) (sym e)
+        (trees_more (id_of p) p.activities (trees_same (id_of p) p.activities I.trees T.act rows_same roots_same) L
+        (vacant_same (id_of p) p.activities I.trees T.act rows_same roots_same place) X.act
+        (act_same T side parent (pos (i + 1)) ∙ add-one i) other)
+
+    kept : KeptBut OfIndex S U
+    kept =
+        kept_then OfIndex (subst (KeptBut OfIndex S) (sym is_leaf) (leaf_kept S i))
+        (subst (KeptBut OfIndex T) (sym e) (kept_put OfIndex side (place_field place) T parent (i + 1)))
+
+    -- the trees have one activity more, and row 6 did not refuse its id
+    pub indexed_more : {X Y : Type 0} {x : X} → Answered (Ok x) (judge_activity p i) → (y : Y) → IndexedBy p (i + 1) S U (Ok y)
+    indexed_more A y =
+        let new = ((activity_fine_lem p i).0 (fine_number A)).new in record {
+          kept = kept;
+          holds = record {
+            trees = trees;
+            fresh = λ m l. ⊎_elim (λ (q : m ≡ i). rw q new) (λ (n : m ≢ i). I.fresh m (omega arith)) (eq_or_ne m i);
+          };
+        }

@@ -11,9 +11,9 @@ use Rattle.order.proofs.CheckLaws.{activity_met, activity_negative, activity_lon
 use Rattle.ids.specs.Index.{found_in}
 use Rattle.ids.specs.IndexLaws.{found_known, found_unknown, found_le}
 
-module _ (p : Plan) (i : ℕ) (within : i < p.activities) (id found : ℕ) (e : id ≡ id_of p i) (g : found ≡ found_in p i id) where
+module _ (p : Plan) (i : ℕ) (within : i < p.activities) (id found : ℕ) (e : id ≡ id_of p i) (g : found_in p i id ≡ found) where
   abbrev again : found ≡ found_in p i (id_of p i)
-  again = g ∙ ap (found_in p i) e
+  again = sym g ∙ ap (found_in p i) e
 
   pub judged_met : found < p.activities → refuse 6 id ≡ judge_activity p i
   judged_met l =

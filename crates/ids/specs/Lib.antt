@@ -1,6 +1,7 @@
 -- Ids, parents and summaries in the lent memory.
 pub mod Tree
 pub mod Index
+pub mod Searched
 pub mod Parented
 pub mod Lent
 pub mod Answers

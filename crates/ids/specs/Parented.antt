@@ -1,5 +1,5 @@
 -- Parents and summaries in the lent memory.
-use Rattle.std.specs.Prelude.{◌≡◌, Bool, true, false, ℕ, ◌<◌}
+use Rattle.std.specs.Prelude.{◌≡◌, ℕ, ◌<◌}
 use Rattle.number.specs.Bit.{bit}
 use Rattle.memory.specs.State.{State}
 use Rattle.memory.specs.Fields.{parent, is_summary}

@@ -22,10 +22,11 @@ module _ (id : ℕ → ℕ) (a : ℕ) (t : Children) where
     pub roots : (r k : ℕ) → t root r ≡ suc k → k < n
     pub reached : (m : ℕ) → m < n → (left : ℕ) × Leads a t (id m) left m
 
-  -- the row and the field where row i comes in: none stands there yet, and row i's id leads to it
-  pub data Vacant (i : ℕ) : ℕ → ℕ → Type 0 where
-    at_root : t root (id i % a) ≡ 0 → Vacant i (id i % a) root
-    at_child : {left parent : ℕ} → parent < i → t (left % 2) parent ≡ 0 → Leads a t (id i) left parent → Vacant i parent (left % 2)
+-- the row and the field where a row with the id d comes in after the first n: none stands there yet, and d leads to it
+module _ (a : ℕ) (t : Children) (n d : ℕ) where
+  pub data Vacant : ℕ → ℕ → Type 0 where
+    at_root : t root (d % a) ≡ 0 → Vacant (d % a) root
+    at_child : {left parent : ℕ} → parent < n → t (left % 2) parent ≡ 0 → Leads a t d left parent → Vacant parent (left % 2)
 
 -- row i has no children
 abbrev pub Leaf : Children → ℕ → Type 0

@@ -38,6 +38,14 @@ module _ (id : ℕ → ℕ) (a : ℕ) where
           let w = A.reached m l in (w.0, leads_same u (λ b j k c q e. h b j c q ∙ e) (λ r k e. g r ∙ e) (id m) w.1);
     }
 
+    -- and so does what is vacant
+    pub vacant_same : (u : Children) → ((b j : ℕ) → b < 2 → j < n → u b j ≡ t b j) → ((r : ℕ) → u root r ≡ t root r)
+        → {d parent side : ℕ} → Vacant a t n d parent side → Vacant a u n d parent side
+    vacant_same u h g (at_root e) = at_root (g _ ∙ e)
+    vacant_same u h g (at_child {left} l e w) =
+        at_child {left = left} l (h (left % 2) _ (omega arith) l ∙ e)
+        (leads_same u (λ b j k c q e. h b j c q ∙ e) (λ r k e. g r ∙ e) _ w)
+
   pub trees_none : (t : Children) → ((r : ℕ) → t root r ≡ 0) → Trees id a t 0
   trees_none t h = record {
     later = λ b j k c l e. absurd (omega arith);
@@ -46,22 +54,22 @@ module _ (id : ℕ → ℕ) (a : ℕ) where
   }
 
   -- ---- where row i comes in
-  module _ {t : Children} {i : ℕ} where
-    vacant_none : {parent side : ℕ} → Vacant id a t i parent side → t side parent ≡ 0
+  module _ {t : Children} {i d : ℕ} where
+    vacant_none : {parent side : ℕ} → Vacant a t i d parent side → t side parent ≡ 0
     vacant_none (at_root e) = e
     vacant_none (at_child l e w) = e
 
     -- a child comes after its parent
-    vacant_after : {parent side : ℕ} → Vacant id a t i parent side → side < 2 → parent < i
+    vacant_after : {parent side : ℕ} → Vacant a t i d parent side → side < 2 → parent < i
     vacant_after (at_root e) c = absurd (omega arith)
     vacant_after (at_child l e w) c = l
 
-    pub vacant_within : {parent side : ℕ} → Vacant id a t i parent side → i < a → (parent < a) × (side < 64)
-    vacant_within (at_root e) l = (mod-lt (id i) (omega arith), omega arith)
+    pub vacant_within : {parent side : ℕ} → Vacant a t i d parent side → i < a → (parent < a) × (side < 64)
+    vacant_within (at_root e) l = (mod-lt d (omega arith), omega arith)
     vacant_within (at_child q e w) l = (omega arith, omega arith)
 
   -- row i comes in there: nothing else changes
-  module _ {t : Children} {i parent side : ℕ} (A : Trees id a t i) (L : Leaf t i) (E : Vacant id a t i parent side) where
+  module _ {t : Children} {i parent side : ℕ} (A : Trees id a t i) (L : Leaf t i) (E : Vacant a t i (id i) parent side) where
     module _ (u : Children) (put : u side parent ≡ suc i) (rest : (b j : ℕ) → (b ≡ side → j ≡ parent → ⊥) → u b j ≡ t b j) where
       -- what was there stays
       stays : (b j k : ℕ) → t b j ≡ suc k → u b j ≡ suc k
@@ -86,7 +94,7 @@ module _ (id : ℕ → ℕ) (a : ℕ) where
       leads_stay : (d : ℕ) {left m : ℕ} → Leads a t d left m → Leads a u d left m
       leads_stay d w = leads_same A u (λ b j k c l e. stays b j k e) (λ r k e. stays root r k e) d w
 
-      leads_in : {parent side : ℕ} → Vacant id a t i parent side → u side parent ≡ suc i → (left : ℕ) × Leads a u (id i) left i
+      leads_in : {parent side : ℕ} → Vacant a t i (id i) parent side → u side parent ≡ suc i → (left : ℕ) × Leads a u (id i) left i
       leads_in (at_root e) p = (id i / a, (i, p, here))
       leads_in (at_child {left} l e w) p = let x = leads_stay (id i) w in (left / 2, (x.0, x.1, way_then x.2 i p))
 

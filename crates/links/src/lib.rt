@@ -17,22 +17,14 @@ ghost use Rattle.calendars.specs.Calendars.{Lengths};
 ghost use Rattle.links.specs.Stored.{with_tie, Stored};
 ghost use Rattle.links.specs.Answers.{Judging, LinkedOne, LinkedAll, ActsKept};
 
+use order::PlanError;
 use sheet::Contents;
-use ties::LinkCheck;
 
-// The answer for one link: the row that refuses it and its id, or ignored, or kept.
+// How many links are kept and how many are ignored.
 #[derive(Clone, Copy)]
-pub enum LinkStep {
-    Refused(u64, u64),
-    Ignored,
-    Kept,
-}
-
-// The answer for all links: the first refusal, or how many are kept and how many ignored.
-#[derive(Clone, Copy)]
-pub enum Linked {
-    Refused(u64, u64),
-    Linked(usize, usize),
+pub struct LinkCounts {
+    pub kept: usize,
+    pub ignored: usize,
 }
 
 // The code of the type of link `k`.
@@ -113,7 +105,7 @@ fn store_tie(
     );
 }
 
-// Judges link `k`, after `kept` kept links and `ignored` ignored ones: a kept link is stored in its row, an ignored one is named.
+// Judges link `k`, after the links that `counts` has: a kept link is stored in its row, an ignored one is named.
 fn link_one(
     sheet: &[u8],
     contents: Contents,
@@ -121,26 +113,32 @@ fn link_one(
     names: &mut [u32],
     work: &mut [i64],
     k: usize,
-    kept: usize,
-    ignored: usize,
-) -> LinkStep
-    requires { Judging sheet.now contents lengths.now work.old × (k < contents.links) × (kept < contents.links) × (ignored < length names.old) }
-    ensures { LinkedOne (plan_of sheet.now contents) k kept ignored (state_in contents work.old) (state_in contents work.new) names.old names.new result × (length work.new ≡ length work.old) × (length names.new ≡ length names.old) }
+    counts: LinkCounts,
+) -> Result<LinkCounts, PlanError>
+    requires { Judging sheet.now contents lengths.now work.old × (k < contents.links) × (counts.kept < contents.links) × (counts.ignored < length names.old) }
+    ensures { LinkedOne (plan_of sheet.now contents) k counts (state_in contents work.old) (state_in contents work.new) names.old names.new result × (length work.new ≡ length work.old) × (length names.new ≡ length names.old) }
 {
-    let check = ties::link_check(sheet, contents, work, lengths, k);
-    match check {
-        LinkCheck::Refused(number, id) => {
-            return LinkStep::Refused(number, id);
-        }
-        LinkCheck::Ignored => {
-            names[ignored] = k as u32;
-            return LinkStep::Ignored;
-        }
-        LinkCheck::Kept(from, to) => {
-            store_tie(sheet, contents, lengths, work, k, from, to, kept);
-            return LinkStep::Kept;
-        }
-    }
+    let Some(ends) = ties::link_check(sheet, contents, work, lengths, k)? else {
+        names[counts.ignored] = k as u32;
+        return Ok(LinkCounts {
+            ignored: counts.ignored + 1,
+            ..counts
+        });
+    };
+    store_tie(
+        sheet,
+        contents,
+        lengths,
+        work,
+        k,
+        ends.from,
+        ends.to,
+        counts.kept,
+    );
+    Ok(LinkCounts {
+        kept: counts.kept + 1,
+        ..counts
+    })
 }
 
 // Judges all links: where none is refused, the kept ones stand in the first rows of the link table, and names begins with the ignored ones' positions.
@@ -150,28 +148,16 @@ pub fn link_all(
     lengths: &[u64],
     names: &mut [u32],
     work: &mut [i64],
-) -> Linked
+) -> Result<LinkCounts, PlanError>
     requires { Lent sheet.now contents work.old × DistinctIds (plan_of sheet.now contents) × Indexed (plan_of sheet.now contents) (state_in contents work.old) contents.activities × Parented (plan_of sheet.now contents) (state_in contents work.old) contents.activities × ActivitiesFine (plan_of sheet.now contents) × Lengths (plan_of sheet.now contents) lengths.now × (contents.links ≤ length names.old) }
     ensures { LinkedAll (plan_of sheet.now contents) (state_in contents work.new) names.old names.new result × ActsKept (state_in contents work.old) (state_in contents work.new) × (length work.new ≡ length work.old) × (length names.new ≡ length names.old) }
 {
-    let l = contents.links;
-    let mut kept: usize = 0;
-    let mut ignored: usize = 0;
-    let mut k: usize = 0;
-    while k < l {
-        let step = link_one(sheet, contents, lengths, names, work, k, kept, ignored);
-        match step {
-            LinkStep::Refused(number, id) => {
-                return Linked::Refused(number, id);
-            }
-            LinkStep::Ignored => {
-                ignored += 1;
-            }
-            LinkStep::Kept => {
-                kept += 1;
-            }
-        }
-        k += 1;
+    let mut counts = LinkCounts {
+        kept: 0,
+        ignored: 0,
+    };
+    for k in 0..contents.links {
+        counts = link_one(sheet, contents, lengths, names, work, k, counts)?;
     }
-    Linked::Linked(kept, ignored)
+    Ok(counts)
 }

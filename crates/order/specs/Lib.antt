@@ -4,9 +4,11 @@ pub mod Ids
 pub mod Lags
 pub mod Ties
 pub mod Checks
+pub mod Refusals
 pub mod Demand
 -- the first refusal, and each check by its ways
 pub mod VerdictLaws
+pub mod RefusalLaws
 pub mod CheckLaws
 -- what the checks leave: ids, parents, links and lags
 pub mod IdLaws

@@ -15,7 +15,6 @@ ghost use Rattle.checks.specs.Names.{then_zeros};
 ghost use Rattle.sched.specs.Outcome.{Lent, planned, outcome};
 ghost use Rattle.sched.specs.CallLaws.{ended_with, zeros, LentAs, AcceptedAs};
 
-use checks::Checked;
 use sheet::Contents;
 
 pub mod c;
@@ -138,14 +137,19 @@ fn plan_at(
     ensures { ended_with result results.new names.new work.new ≡ planned (record { results = results.old; names = names.old; work = work.old }) (plan_of sheet.now contents) }
 {
     match checks::check_plan(sheet, contents, places, lengths, names, work) {
-        Checked::Refused(number, id) => {
-            return Answer::Refused(number, id);
-        }
-        Checked::Fine(t, ignored, ends) => {
-            return run_plan(
-                sheet, contents, places, lengths, t, ignored, ends, results, names, work,
-            );
-        }
+        Err(error) => Answer::Refused(error.number(), error.id()),
+        Ok(counts) => run_plan(
+            sheet,
+            contents,
+            places,
+            lengths,
+            counts.kept,
+            counts.ignored,
+            counts.open_ends,
+            results,
+            names,
+            work,
+        ),
     }
 }
 

@@ -1,13 +1,14 @@
 -- The answer of a link's checks: refused, ignored, or kept with its ends.
-use Rattle.std.specs.Prelude.{◌≡◌, true, false, ℕ, ◌<◌}
+use Rattle.std.specs.Prelude.{◌≡◌, true, false, ℕ, Option, Some, None, Result, Ok, Err}
 use Rattle.order.specs.Plan.{Plan}
 use Rattle.order.specs.Ties.{ignored}
-use Rattle.order.specs.Checks.{refuse, fine, judge_link}
-use Rattle.ties.specs.declared.LinkCheck.{LinkCheck}
-use Rattle.ties.specs.declared.LinkCheck.TheVariants.{Refused, Ignored, Kept}
+use Rattle.order.specs.Checks.{fine, judge_link}
+use Rattle.order.specs.declared.PlanError.{PlanError}
+use Rattle.order.specs.Refusals.{refused}
+use Rattle.ties.specs.declared.Ends.{Ends}
 use Rattle.ties.specs.Ends.{Between}
 
-abbrev pub LinkAnswered : Plan → ℕ → LinkCheck → Type 0
-LinkAnswered p k (Refused number id) = (judge_link p k ≡ refuse number id) × (0 < number)
-LinkAnswered p k Ignored = (judge_link p k ≡ fine) × (ignored p k ≡ true)
-LinkAnswered p k (Kept from to) = (judge_link p k ≡ fine) × (ignored p k ≡ false) × Between p k from to
+abbrev pub LinkAnswered : Plan → ℕ → Result (Option Ends) PlanError → Type 0
+LinkAnswered p k (Err e) = judge_link p k ≡ refused e
+LinkAnswered p k (Ok None) = (judge_link p k ≡ fine) × (ignored p k ≡ true)
+LinkAnswered p k (Ok (Some ends)) = (judge_link p k ≡ fine) × (ignored p k ≡ false) × Between p k ends.from ends.to

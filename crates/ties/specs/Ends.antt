@@ -1,11 +1,12 @@
 -- The ends of a link as rows 13 and 14 leave them.
-use Rattle.std.specs.Prelude.{◌≡◌, true, ◌≢◌, ℕ, ◌<◌}
+use Rattle.std.specs.Prelude.{◌≡◌, true, ◌≢◌, ℕ, ◌<◌, Result, Ok, Err}
 use Rattle.order.specs.Plan.{Plan}
 use Rattle.order.specs.Ids.{known}
 use Rattle.order.specs.Ties.{from_of, to_of}
-use Rattle.order.specs.Checks.{refuse, judge_link}
+use Rattle.order.specs.Checks.{judge_link}
+use Rattle.order.specs.declared.PlanError.{PlanError}
+use Rattle.order.specs.Refusals.{refused}
 use Rattle.ties.specs.declared.Ends.{Ends}
-use Rattle.ties.specs.declared.Ends.TheVariants.{Refused, Known}
 
 -- link k goes from one activity to another
 pub record Between (p : Plan) (k from to : ℕ) : Type 0 where
@@ -18,6 +19,6 @@ pub record Between (p : Plan) (k from to : ℕ) : Type 0 where
   pub to_below : to < p.activities
 
 -- a refusal is the link's own, and else its ends are known
-abbrev pub EndsOf : Plan → ℕ → Ends → Type 0
-EndsOf p k (Refused number id) = (judge_link p k ≡ refuse number id) × (0 < number)
-EndsOf p k (Known from to) = Between p k from to
+abbrev pub EndsOf : Plan → ℕ → Result Ends PlanError → Type 0
+EndsOf p k (Err e) = judge_link p k ≡ refused e
+EndsOf p k (Ok ends) = Between p k ends.from ends.to

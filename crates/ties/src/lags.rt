@@ -18,21 +18,12 @@ pub fn lag_before(lag: LagKind) -> bool
     ensures { result ≡ lag_before lag }
 {
     match lag {
-        LagKind::WorkingDays(n) => {
-            return is_beyond(100_000, n as i64);
-        }
-        LagKind::WorkingMinutes(n) => {
-            return is_beyond(144_000_000, n as i64);
-        }
-        LagKind::ElapsedDays(n) => {
-            return is_beyond(100_000, n as i64);
-        }
-        LagKind::ElapsedMinutes(n) => {
-            return is_beyond(144_000_000, n as i64);
-        }
-        LagKind::Percent(_) => {
-            return false;
-        }
+        // Four arms: an or-pattern that binds an i32 was tried, and gets no proof.
+        LagKind::WorkingDays(n) => is_beyond(100_000, n as i64),
+        LagKind::WorkingMinutes(n) => is_beyond(144_000_000, n as i64),
+        LagKind::ElapsedDays(n) => is_beyond(100_000, n as i64),
+        LagKind::ElapsedMinutes(n) => is_beyond(144_000_000, n as i64),
+        LagKind::Percent(_) => false,
     }
 }
 
@@ -54,21 +45,11 @@ pub fn lag_calendar(lag: LagKind, by: LagCalendar, pred: u64, succ: u64, last: u
     ensures { (result ≡ lag_calendar lag by pred succ last) × (result ≤ last) }
 {
     match lag {
-        LagKind::WorkingDays(_) => {
-            return working_calendar(by, pred, succ, last);
+        LagKind::WorkingDays(_) | LagKind::WorkingMinutes(_) => {
+            working_calendar(by, pred, succ, last)
         }
-        LagKind::WorkingMinutes(_) => {
-            return working_calendar(by, pred, succ, last);
-        }
-        LagKind::ElapsedDays(_) => {
-            return last;
-        }
-        LagKind::ElapsedMinutes(_) => {
-            return last;
-        }
-        LagKind::Percent(_) => {
-            return pred;
-        }
+        LagKind::ElapsedDays(_) | LagKind::ElapsedMinutes(_) => last,
+        LagKind::Percent(_) => pred,
     }
 }
 
@@ -86,21 +67,11 @@ pub fn lag_minutes(lag: LagKind, day_length: u64, duration: i64) -> i64
     ensures { (result ≡ lag_minutes lag day_length duration) × (up result + dn result ≤ 4800000000) }
 {
     match lag {
-        LagKind::WorkingDays(n) => {
-            return days_in_minutes(n as i64, day_length);
-        }
-        LagKind::WorkingMinutes(n) => {
-            return n as i64;
-        }
-        LagKind::ElapsedDays(n) => {
-            return days_in_minutes(n as i64, 1440);
-        }
-        LagKind::ElapsedMinutes(n) => {
-            return n as i64;
-        }
-        LagKind::Percent(n) => {
-            return number::sign::percent(duration, n as i64);
-        }
+        LagKind::WorkingDays(n) => days_in_minutes(n as i64, day_length),
+        LagKind::WorkingMinutes(n) => n as i64,
+        LagKind::ElapsedDays(n) => days_in_minutes(n as i64, 1440),
+        LagKind::ElapsedMinutes(n) => n as i64,
+        LagKind::Percent(n) => number::sign::percent(duration, n as i64),
     }
 }
 
@@ -109,8 +80,5 @@ pub fn is_lag_too_long(lag: LagKind, day_length: u64, duration: i64) -> bool
     requires { (day_length ≤ 1440) × (up duration + dn duration ≤ 48000000) }
     ensures { result ≡ lag_too_long lag day_length duration }
 {
-    if lag_before(lag) {
-        return true;
-    }
-    is_beyond(144_000_000, lag_minutes(lag, day_length, duration))
+    lag_before(lag) || is_beyond(144_000_000, lag_minutes(lag, day_length, duration))
 }

@@ -16,46 +16,42 @@ ghost use Rattle.ties.specs.Ends.{Between, EndsOf};
 ghost use Rattle.calendars.specs.Calendars.{Lengths};
 ghost use Rattle.ties.specs.Checked.{LinkAnswered};
 
+use order::PlanError;
 use sheet::Contents;
 
 pub mod lags;
 pub mod link_fields;
 
-// The ends of a link by the activities' numbers, or the row that refuses it and its id.
+// The ends of a link by the activities' numbers.
 #[derive(Clone, Copy)]
-pub enum Ends {
-    Refused(u64, u64),
-    Known(usize, usize),
-}
-
-// The answer of rows 13, 14 and 8 for a link: the row that refuses it and its id, or ignored, or kept with its ends.
-#[derive(Clone, Copy)]
-pub enum LinkCheck {
-    Refused(u64, u64),
-    Ignored,
-    Kept(usize, usize),
+pub struct Ends {
+    pub from: usize,
+    pub to: usize,
 }
 
 // Rows 13 and 14 for link `k`.
-pub fn link_ends(sheet: &[u8], contents: Contents, work: &[i64], k: usize) -> Ends
+pub fn link_ends(
+    sheet: &[u8],
+    contents: Contents,
+    work: &[i64],
+    k: usize,
+) -> Result<Ends, PlanError>
     requires { Lent sheet.now contents work.now × (k < contents.links) × DistinctIds (plan_of sheet.now contents) × Indexed (plan_of sheet.now contents) (state_in contents work.now) contents.activities }
     ensures { EndsOf (plan_of sheet.now contents) k result }
 {
     let a = contents.activities;
     let pred = link_fields::predecessor_of(sheet, contents, k);
-    let from = ids::find(sheet, contents, work, a, pred);
-    if from == a {
-        return Ends::Refused(13, pred);
-    }
+    let Some(from) = ids::find(sheet, contents, work, a, pred) else {
+        return Err(PlanError::UnknownActivity(pred));
+    };
     let succ = link_fields::successor_of(sheet, contents, k);
-    let to = ids::find(sheet, contents, work, a, succ);
-    if to == a {
-        return Ends::Refused(13, succ);
-    }
+    let Some(to) = ids::find(sheet, contents, work, a, succ) else {
+        return Err(PlanError::UnknownActivity(succ));
+    };
     if pred == succ {
-        return Ends::Refused(14, pred);
+        return Err(PlanError::SelfLink(pred));
     }
-    Ends::Known(from, to)
+    Ok(Ends { from, to })
 }
 
 // Whether one of two activities is marked as a summary.
@@ -63,10 +59,8 @@ pub fn is_either_marked(work: &[i64], a: usize, l: usize, from: usize, to: usize
     requires { Room a l work.now × (from < a) × (to < a) }
     ensures { result ≡ (ltb 0 ((state_of a l work.now).act is_summary from) || ltb 0 ((state_of a l work.now).act is_summary to)) }
 {
-    if memory::get_act(work, a, l, from, memory::fields::IS_SUMMARY) > 0 {
-        return true;
-    }
-    memory::get_act(work, a, l, to, memory::fields::IS_SUMMARY) > 0
+    memory::get_act(work, a, l, from, memory::fields::IS_SUMMARY) > 0
+        || memory::get_act(work, a, l, to, memory::fields::IS_SUMMARY) > 0
 }
 
 // The calendar that the lag of link `k` counts on.
@@ -99,30 +93,29 @@ pub fn is_tie_too_long(
     lags::is_lag_too_long(lag, lengths[calendar as usize], minutes as i64)
 }
 
-// Rows 13, 14 and 8 for link `k`.
+// Rows 13, 14 and 8 for link `k`: where it is fine, its ends if it is kept, and none if it is ignored.
 pub fn link_check(
     sheet: &[u8],
     contents: Contents,
     work: &[i64],
     lengths: &[u64],
     k: usize,
-) -> LinkCheck
+) -> Result<Option<Ends>, PlanError>
     requires { Lent sheet.now contents work.now × (k < contents.links) × DistinctIds (plan_of sheet.now contents) × Indexed (plan_of sheet.now contents) (state_in contents work.now) contents.activities × Parented (plan_of sheet.now contents) (state_in contents work.now) contents.activities × ActivitiesFine (plan_of sheet.now contents) × Lengths (plan_of sheet.now contents) lengths.now }
     ensures { LinkAnswered (plan_of sheet.now contents) k result }
 {
-    let ends = link_ends(sheet, contents, work, k);
-    match ends {
-        Ends::Refused(number, id) => {
-            return LinkCheck::Refused(number, id);
-        }
-        Ends::Known(from, to) => {
-            if is_either_marked(work, contents.activities, contents.links, from, to) {
-                return LinkCheck::Ignored;
-            }
-            if is_tie_too_long(sheet, contents, lengths, k, from, to) {
-                return LinkCheck::Refused(8, 0);
-            }
-            return LinkCheck::Kept(from, to);
-        }
+    let ends = link_ends(sheet, contents, work, k)?;
+    if is_either_marked(
+        work,
+        contents.activities,
+        contents.links,
+        ends.from,
+        ends.to,
+    ) {
+        return Ok(None);
     }
+    if is_tie_too_long(sheet, contents, lengths, k, ends.from, ends.to) {
+        return Err(PlanError::TooLong);
+    }
+    Ok(Some(ends))
 }

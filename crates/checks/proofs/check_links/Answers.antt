@@ -18,24 +18,24 @@ use Rattle.checks.proofs.check_links.Goals as goal
 cleared : (size : ℕ) (ns : List ℕ) → ns ≡ replicate size 0 → length ns ≡ size
 cleared size ns e = ap length e ∙ length-replicate {A = ℕ} size 0
 
-pub link_all-linked-requires : goal.link_all-linked-requires
+pub link_all-requires : goal.link_all-requires
 unfolding plan_of
-link_all-linked-requires c =
-    (c.requires.0, c.requires.1.distinct, c.requires.1.indexed, c.requires.1.parented, c.requires.1.activities, c.requires.2, omega (arith, cleared _ _ c.clear_u32.ensures, c.requires.4))
+link_all-requires c =
+    let P = c.requires.1 in
+    (c.requires.0, P.distinct, P.indexed, P.parented, P.activities, c.requires.2, omega (arith, cleared _ _ c.clear_u32.ensures, c.requires.4))
 
-pub returns-in-Refused : goal.returns-in-Refused
+pub returns-in-Err : goal.returns-in-Err
 unfolding plan_of
-returns-in-Refused c =
+returns-in-Err c =
     let x = c.args in
     let p = plan_of x.sheet.now x.contents in
     let size = length x.names.now in
     let room = length x.work.now in
-    let a = c.link_all-linked.ensures in
-    let l = c.in-Refused.ensures.0 in
+    let a = c.in-Err.ensures in
     let r = c.refuse.ensures in
     subst (Judged p (links_verdict p) size room _ _) (sym r.0)
-    (first_refused p (links_first p) (judge_order p) size room _ _ c.in-Refused.number c.in-Refused.id
-    (plain_refused p (links_first p) size room _ _ c.in-Refused.number l.1 c.in-Refused.id l.0
+    (first_refused p (links_first p) (judge_order p) size room _ _
+    (plain_refused p (links_first p) size room _ _ c.in-Err.error a.0
     (r.1 ∙ ap (λ (k : ℕ). replicate k 0) (a.3 ∙ cleared _ _ c.clear_u32.ensures)) (r.2 ∙ ap (λ (k : ℕ). replicate k (pos 0)) a.2)))
 
 pub check_order-requires : goal.check_order-requires
@@ -43,26 +43,25 @@ unfolding plan_of
 check_order-requires c =
     let x = c.args in
     let p = plan_of x.sheet.now x.contents in
-    let a = c.link_all-linked.ensures in
-    let l = c.in-Linked.ensures.0 in
+    let a = c.in-Ok.ensures in
+    let l = a.0.1 in
     let n = a.3 ∙ cleared _ _ c.clear_u32.ensures in (
       record { read = c.requires.0.read; room = omega (arith, a.2, c.requires.0.room) },
-      links_stored p l.1 c.requires.1 a.1,
-      (links_fine_lem p).0 (ap (λ (v : Verdict). v.number) l.0),
-      l.1.ignored_count,
-      ignored_named p l.1 (length x.names.now) c.clear_u32.ensures n,
+      links_stored p l c.requires.1 a.1,
+      (links_fine_lem p).0 (ap (λ (v : Verdict). v.number) a.0.0),
+      l.ignored_count,
+      ignored_named p l (length x.names.now) c.clear_u32.ensures n,
       omega (arith, n, c.requires.3),
     )
 
-pub returns-in-Linked : goal.returns-in-Linked
+pub returns-in-Ok : goal.returns-in-Ok
 unfolding plan_of
-returns-in-Linked c =
+returns-in-Ok c =
     let x = c.args in
     let p = plan_of x.sheet.now x.contents in
-    let a = c.link_all-linked.ensures in
-    let l = c.in-Linked.ensures.0 in
+    let a = c.in-Ok.ensures in
     let o = c.check_order in
     let names = o.new.names in
     let work = o.new.work in
-    then_judged p (links_first p) (judge_order p) (length x.names.now) (length x.work.now) names work (ap (λ (v : Verdict). v.number) l.0) o.result
+    then_judged p (links_first p) (judge_order p) (length x.names.now) (length x.work.now) names work (ap (λ (v : Verdict). v.number) a.0.0) o.result
     (judged_sizes p (judge_order p) names work o.result (a.3 ∙ cleared _ _ c.clear_u32.ensures) a.2 o.ensures)

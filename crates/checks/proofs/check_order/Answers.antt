@@ -1,5 +1,5 @@
 -- `checks::check_order` meets its contract.
-use mathlib.Core.Path.{sym, ap, subst, ◌∙◌}
+use mathlib.Core.Path.{refl, ap, ◌∙◌}
 use mathlib.Core.Logic.{◌≢◌}
 use Prim.Native.Nat.{ℕ, ◌<◌}
 use native.Mathlib.Omega.{arith}
@@ -7,11 +7,11 @@ use lib.IntN.{pos}
 use lib.ListN.{length, replicate}
 use Rattle.network.specs.Kahn.{named_loop}
 use Rattle.order.specs.Plan.{plan_of}
+use Rattle.order.specs.declared.PlanError.TheVariants.{LinkLoop}
 use Rattle.order.specs.Ids.{id_of}
 use Rattle.order.specs.Ties.{kept_links}
 use Rattle.order.specs.Checks.{Verdict, named, judge_order}
 use Rattle.order.proofs.LoopLaws.{named_length}
-use Rattle.checks.specs.Stages.{Judged}
 use Rattle.checks.specs.OrderSteps.{ends_are, whole_fine, whole_stands, short_refused, short_stuck, short_loop}
 use Rattle.checks.specs.RestSteps.{rest_stands, rest_elsewhere}
 use Rattle.checks.specs.StageLaws.{loop_refused}
@@ -34,7 +34,7 @@ open_ends-requires c =
     let x = c.args in
     let p = plan_of x.sheet.now x.contents in
     let o = c.order_activities.ensures in
-    (record { read = c.requires.0.read; room = omega (arith, c.clear_rest.ensures.2, o.1, c.requires.0.room) }, rest_stands x.contents.activities x.contents.links x.t c.order_activities.new.work _ c.clear_rest.ensures.0 p (whole_stands p c.requires.1 c.order_activities.ensures.0 (omega arith)))
+    (record { read = c.requires.0.read; room = omega (arith, c.clear_rest.ensures.2, o.1, c.requires.0.room) }, rest_stands x.contents.activities x.contents.links x.counts.kept c.order_activities.new.work _ c.clear_rest.ensures.0 p (whole_stands p c.requires.1 c.order_activities.ensures.0 (omega arith)))
 
 pub returns-then-order_activities-a : goal.returns-then-order_activities-a
 unfolding plan_of
@@ -44,8 +44,8 @@ returns-then-order_activities-a c =
     let o = c.order_activities in
     let r = c.clear_rest.ensures in record {
       fine = ap (λ (v : Verdict). v.number) (whole_fine p c.requires.1 o.ensures.0 (omega arith));
-      standing = rest_stands x.contents.activities x.contents.links x.t c.order_activities.new.work _ c.clear_rest.ensures.0 p (whole_stands p c.requires.1 c.order_activities.ensures.0 (omega arith));
-      elsewhere = rest_elsewhere x.contents.activities x.contents.links x.t o.new.work _ r.0 r.1;
+      standing = rest_stands x.contents.activities x.contents.links x.counts.kept c.order_activities.new.work _ c.clear_rest.ensures.0 p (whole_stands p c.requires.1 c.order_activities.ensures.0 (omega arith));
+      elsewhere = rest_elsewhere x.contents.activities x.contents.links x.counts.kept o.new.work _ r.0 r.1;
       named = c.requires.4;
       ignored = c.requires.3;
       ends = c.open_ends.ensures.0;
@@ -79,9 +79,7 @@ returns c =
     let o = c.order_activities.ensures in
     let left : c.order_activities.result ≢ x.contents.activities = λ e. omega arith in
     let n = c.name_loop-m.ensures in
-    let r = c.refuse_loop.ensures in
     let xs = named (id_of p) (named_loop (kept_links p) x.contents.activities) in
     let some : 0 < length xs = omega (arith, named_length (id_of p) (named_loop (kept_links p) x.contents.activities), (short_loop p c.requires.1 o.0 left n.0).count) in
-    subst (Judged p (judge_order p) (length x.names.now) (length x.work.now) _ _) (sym r.0)
-    (loop_refused p (judge_order p) (length x.names.now) (length x.work.now) _ _ 15 (omega arith) xs some (short_refused p c.requires.1 o.0 left)
-    c.name_links.ensures (r.1 ∙ ap (λ (k : ℕ). replicate k (pos 0)) (n.1 ∙ o.1)))
+    loop_refused p (judge_order p) (length x.names.now) (length x.work.now) _ _ (LinkLoop _) xs some (short_refused p c.requires.1 o.0 left) refl
+    c.name_links.ensures (c.clear.ensures ∙ ap (λ (k : ℕ). replicate k (pos 0)) (n.1 ∙ o.1))

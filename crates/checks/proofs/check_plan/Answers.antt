@@ -4,48 +4,36 @@ use Prim.Native.Nat.{ℕ}
 use native.Mathlib.Omega.{arith}
 use lib.IntN.{pos}
 use lib.ListN.{length, replicate}
+use Rattle.std.specs.Prelude.{Err}
 use Rattle.order.specs.Plan.{plan_of}
-use Rattle.ids.specs.Answers.{verdict_of}
 use Rattle.ids.specs.AnswerLaws.{fine_number}
-use Rattle.checks.specs.declared.Checked.TheVariants as checked
 use Rattle.checks.specs.Stages.{ids_verdict, summaries_verdict, PlanChecked}
 use Rattle.checks.specs.StageLaws.{then_judged, first_refused, plain_refused, judged_sizes}
 use Rattle.checks.specs.PlanSteps.{plan_checked_lem}
 use Rattle.checks.proofs.check_plan.Goals as goal
 
-pub returns-in-Refused : goal.returns-in-Refused
-returns-in-Refused c =
+pub returns-in-Err : goal.returns-in-Err
+returns-in-Err c =
     let x = c.args in
     let p = plan_of x.sheet.now x.contents in
     let size = length x.names.now in
     let room = length x.work.now in
-    let a = c.check_ids-check.ensures in
+    let a = c.in-Err.ensures in
     let r = c.refuse.ensures in
     subst (PlanChecked x.sheet.now x.contents x.places.now x.names.now x.work.now _ _) (sym r.0)
     (plan_checked_lem x.sheet.now x.contents x.places.now x.names.now x.work.now _ _ c.requires.0 c.requires.2 (λ e. omega (arith, c.requires.1))
-    (checked.Refused c.in-Refused.number c.in-Refused.id)
-    (first_refused p (ids_verdict p) (summaries_verdict p) size room _ _ c.in-Refused.number c.in-Refused.id
-    (plain_refused p (ids_verdict p) size room _ _ c.in-Refused.number (a.0.answered.row c.in-Refused.number c.in-Refused.id c.in-Refused.is) c.in-Refused.id
-    (sym a.0.answered.is ∙ ap verdict_of c.in-Refused.is) r.1 (r.2 ∙ ap (λ (k : ℕ). replicate k (pos 0)) a.1))))
+    (Err c.in-Err.error)
+    (first_refused p (ids_verdict p) (summaries_verdict p) size room _ _
+    (plain_refused p (ids_verdict p) size room _ _ c.in-Err.error (sym a.0.answered.is) r.1 (r.2 ∙ ap (λ (k : ℕ). replicate k (pos 0)) a.1))))
 
-pub check_summaries-requires : goal.check_summaries-requires
-check_summaries-requires c =
-    let a = c.check_ids-check.ensures in (
-      record { read = c.requires.0; room = omega (arith, a.1, c.requires.1) },
-      a.0.holds c.in-Fine.is,
-      c.requires.3,
-      omega (arith, c.requires.4),
-      omega (arith, c.requires.4),
-    )
-
-pub returns-in-Fine : goal.returns-in-Fine
-returns-in-Fine c =
+pub returns-in-Ok : goal.returns-in-Ok
+returns-in-Ok c =
     let x = c.args in
     let p = plan_of x.sheet.now x.contents in
-    let a = c.check_ids-check.ensures in
+    let a = c.in-Ok.ensures in
     let o = c.check_summaries in
     let names = o.new.names in
     let work = o.new.work in
     plan_checked_lem x.sheet.now x.contents x.places.now x.names.now x.work.now names work c.requires.0 c.requires.2 (λ e. omega (arith, c.requires.1)) o.result
-    (then_judged p (ids_verdict p) (summaries_verdict p) (length x.names.now) (length x.work.now) names work (fine_number a.0.answered c.in-Fine.is) o.result
+    (then_judged p (ids_verdict p) (summaries_verdict p) (length x.names.now) (length x.work.now) names work (fine_number a.0.answered) o.result
     (judged_sizes p (summaries_verdict p) names work o.result refl a.1 o.ensures))

@@ -19,17 +19,13 @@ loop-k-init c =
     let p = plan_of x.sheet.now x.contents in
     let N = naming_start (named (id_of p) (named_loop (kept_links p) x.contents.activities)) (length x.names.now) _ c.clear_u32.ensures in (
       omega (arith, N.kept, c.requires.2, c.requires.3),
-      omega arith,
       naming_here (named (id_of p) (named_loop (kept_links p) x.contents.activities)) (length x.names.now) _ 0 N,
     )
-
-pub get_act-i-requires : goal.get_act-i-requires
-get_act-i-requires c = (c.requires.0.room, omega (arith, c.requires.2), omega arith)
 
 pub name_one-requires : goal.name_one-requires
 name_one-requires c =
     let L = c.loop-k in
-    (c.requires.0.read, omega (arith, c.get_act-i.ensures.0, c.requires.1.below L.k (omega arith)), omega (arith, L.invariant.0, L.invariant.2.kept))
+    (c.requires.0.read, omega (arith, c.get_act-i.ensures.0, c.requires.1.below L.k (omega arith)), omega (arith, L.invariant.0, L.invariant.1.kept))
 
 pub loop-k-preserved : goal.loop-k-preserved
 loop-k-preserved c =
@@ -38,18 +34,14 @@ loop-k-preserved c =
     let xs = named (id_of p) (named_loop (kept_links p) x.contents.activities) in
     let L = c.loop-k in (
       L.invariant.0,
-      omega arith,
-      naming_more xs _ _ L.k L.invariant.2 _ _ (omega (arith, loop_length (id_of p) c.requires.1)) (omega (arith, L.invariant.0))
+      naming_more xs _ _ L.k L.invariant.1 _ _ (omega (arith, loop_length (id_of p) c.requires.1)) (omega (arith, L.invariant.0))
           (loop_at_lem (id_of p) c.requires.1 L.k _ (omega arith) c.get_act-i.ensures.0) c.name_one.ensures,
     )
-
-pub get_act-i-requires-2 : goal.get_act-i-requires-2
-get_act-i-requires-2 c = (c.requires.0.room, omega (arith, c.requires.2, c.requires.1.some), omega arith)
 
 pub name_one-requires-2 : goal.name_one-requires-2
 name_one-requires-2 c =
     let L = c.loop-k in
-    (c.requires.0.read, omega (arith, c.get_act-i-2.ensures.0, c.requires.1.below 0 c.requires.1.some), omega (arith, L.invariant.0, L.invariant.2.kept))
+    (c.requires.0.read, omega (arith, c.get_act-i-2.ensures.0, c.requires.1.below 0 c.requires.1.some), omega (arith, L.invariant.0, L.invariant.1.kept))
 
 pub returns : goal.returns
 returns c =
@@ -59,6 +51,6 @@ returns c =
     let L = c.loop-k in
     let e : L.k ≡ x.m = omega arith in
     let many = loop_length (id_of p) c.requires.1 in
-    let all = naming_more xs _ _ x.m (rw e at L.invariant.2) _ _ (omega (arith, many)) (omega (arith, L.invariant.0))
+    let all = naming_more xs _ _ x.m (rw e at L.invariant.1) _ _ (omega (arith, many)) (omega (arith, L.invariant.0))
     (loop_again_at (id_of p) c.requires.1 _ c.get_act-i-2.ensures.0) c.name_one-2.ensures in
     naming_end xs _ _ (x.m + 1) all many ∙ ap (λ (n : ℕ). xs ++ replicate (n - length xs) 0) (naming_start xs (length x.names.now) _ c.clear_u32.ensures).kept

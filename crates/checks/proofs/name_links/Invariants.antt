@@ -1,5 +1,5 @@
 -- `checks::name_links` meets its contract: the first k names are written.
-use Prim.Native.Nat.{◌-◌, ◌≤◌, ◌<◌}
+use Prim.Native.Nat.{◌<◌}
 use lib.ListN.{length}
 use Rattle.network.specs.Kahn.{named_loop}
 use Rattle.order.specs.Plan.{plan_of}
@@ -11,7 +11,4 @@ use Rattle.checks.proofs.name_links.Given as goal
 
 abbrev pub invariant-loop-k : goal.invariant-loop-k
 invariant-loop-k l =
-    (l.m < length l.initial.names) × (l.k ≤ l.m) × Naming (named (id_of (plan_of l.sheet l.contents)) (named_loop (kept_links (plan_of l.sheet l.contents)) l.contents.activities)) (length l.initial.names) l.names l.k
-
-abbrev pub decreases-loop-k : goal.decreases-loop-k
-decreases-loop-k l = l.m - l.k
+    (l.m < length l.initial.names) × Naming (named (id_of (plan_of l.sheet l.contents)) (named_loop (kept_links (plan_of l.sheet l.contents)) l.contents.activities)) (length l.initial.names) l.names l.k

@@ -44,7 +44,6 @@ loop-k-init c =
     let p = plan_of x.sheet.now x.contents in
     let N = begun p c.requires.1 x.first x.steps c.requires.3 (length x.names.now) (omega (arith, c.requires.4)) _ _ c.clear_u32.ensures c.name_one.ensures in (
       omega (arith, N.kept, c.requires.3.within, c.requires.4),
-      omega arith,
       up_first p c.requires.1 x.first x.steps c.requires.3,
       naming_here (named (id_of p) (upward (parent_of p) x.steps x.first)) (length x.names.now) _ 1 N,
     )
@@ -55,7 +54,7 @@ get_act-requires c =
     let x = c.args in
     let p = plan_of x.sheet.now x.contents in
     let L = c.loop-k in
-    (c.requires.0.room, omega (arith, L.invariant.2, up_below p c.requires.1 x.first x.steps c.requires.3 L.k L.invariant.1), omega arith)
+    (c.requires.0.room, omega (arith, L.invariant.1, up_below p c.requires.1 x.first x.steps c.requires.3 L.k (omega arith)), omega arith)
 
 pub overflow_sub-i : goal.overflow_sub-i
 unfolding plan_of
@@ -63,7 +62,7 @@ overflow_sub-i c =
     let x = c.args in
     let p = plan_of x.sheet.now x.contents in
     let L = c.loop-k in
-    omega (arith, next_up p c.requires.1 x.first x.steps c.requires.3 _ c.requires.2 L.k L.i (omega arith) L.invariant.2 _ c.get_act.ensures.0)
+    omega (arith, next_up p c.requires.1 x.first x.steps c.requires.3 _ c.requires.2 L.k L.i (omega arith) L.invariant.1 _ c.get_act.ensures.0)
 
 pub name_one-requires-in-loop-k : goal.name_one-requires-in-loop-k
 unfolding plan_of
@@ -71,7 +70,7 @@ name_one-requires-in-loop-k c =
     let x = c.args in
     let p = plan_of x.sheet.now x.contents in
     let L = c.loop-k in
-    (c.requires.0.read, omega (arith, next_up p c.requires.1 x.first x.steps c.requires.3 _ c.requires.2 L.k L.i (omega arith) L.invariant.2 _ c.get_act.ensures.0, up_below p c.requires.1 x.first x.steps c.requires.3 (L.k + 1) (omega arith)), omega (arith, L.invariant.0, L.invariant.3.kept))
+    (c.requires.0.read, omega (arith, next_up p c.requires.1 x.first x.steps c.requires.3 _ c.requires.2 L.k L.i (omega arith) L.invariant.1 _ c.get_act.ensures.0, up_below p c.requires.1 x.first x.steps c.requires.3 (L.k + 1) (omega arith)), omega (arith, L.invariant.0, L.invariant.2.kept))
 
 pub loop-k-preserved : goal.loop-k-preserved
 unfolding plan_of
@@ -81,11 +80,10 @@ loop-k-preserved c =
     let xs = named (id_of p) (upward (parent_of p) x.steps x.first) in
     let L = c.loop-k in
     let i = c.get_act.result - 1 in
-    let e : i ≡ climb (parent_of p) (L.k + 1) x.first - 1 = omega (arith, next_up p c.requires.1 x.first x.steps c.requires.3 _ c.requires.2 L.k L.i (omega arith) L.invariant.2 _ c.get_act.ensures.0) in (
+    let e : i ≡ climb (parent_of p) (L.k + 1) x.first - 1 = omega (arith, next_up p c.requires.1 x.first x.steps c.requires.3 _ c.requires.2 L.k L.i (omega arith) L.invariant.1 _ c.get_act.ensures.0) in (
       L.invariant.0,
-      omega arith,
       e,
-      naming_more xs _ _ (L.k + 1) L.invariant.3 _ _ (omega (arith, names_length p c.requires.1 x.first x.steps c.requires.3)) (omega (arith, L.invariant.0))
+      naming_more xs _ _ (L.k + 1) L.invariant.2 _ _ (omega (arith, names_length p c.requires.1 x.first x.steps c.requires.3)) (omega (arith, L.invariant.0))
           (ap (id_of p) e ∙ names_at p c.requires.1 x.first x.steps c.requires.3 (L.k + 1) (omega arith)) c.name_one-in-loop-k.ensures,
     )
 
@@ -95,5 +93,5 @@ returns c =
     let p = plan_of x.sheet.now x.contents in
     let xs = named (id_of p) (upward (parent_of p) x.steps x.first) in
     let L = c.loop-k in
-    naming_end xs _ _ (L.k + 1) L.invariant.3 (names_length p c.requires.1 x.first x.steps c.requires.3 ∙ omega (arith, L.invariant.1))
+    naming_end xs _ _ (L.k + 1) L.invariant.2 (names_length p c.requires.1 x.first x.steps c.requires.3 ∙ omega arith)
     ∙ ap (λ (n : ℕ). xs ++ replicate (n - length xs) 0) (begun p c.requires.1 x.first x.steps c.requires.3 (length x.names.now) (omega (arith, c.requires.4)) _ _ c.clear_u32.ensures c.name_one.ensures).kept

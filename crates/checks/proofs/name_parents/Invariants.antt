@@ -1,6 +1,6 @@
 -- `checks::name_parents` meets its contract: after k steps k + 1 names are written, and i is the activity k steps up.
 use mathlib.Core.Path.{◌≡◌}
-use Prim.Native.Nat.{◌+◌, ◌-◌, ◌≤◌, ◌<◌}
+use Prim.Native.Nat.{◌+◌, ◌-◌, ◌<◌}
 use lib.ListN.{length}
 use Rattle.network.specs.Parents.{climb, upward}
 use Rattle.order.specs.Plan.{plan_of}
@@ -11,8 +11,5 @@ use Rattle.checks.proofs.name_parents.Given as goal
 
 abbrev pub invariant-loop-k : goal.invariant-loop-k
 invariant-loop-k l =
-    (l.steps < length l.initial.names) × (l.k ≤ l.steps) × (l.i ≡ climb (parent_of (plan_of l.sheet l.contents)) l.k l.first - 1)
+    (l.steps < length l.initial.names) × (l.i ≡ climb (parent_of (plan_of l.sheet l.contents)) l.k l.first - 1)
     × Naming (named (id_of (plan_of l.sheet l.contents)) (upward (parent_of (plan_of l.sheet l.contents)) l.steps l.first)) (length l.initial.names) l.names (l.k + 1)
-
-abbrev pub decreases-loop-k : goal.decreases-loop-k
-decreases-loop-k l = l.steps - l.k

@@ -8,16 +8,7 @@ use Rattle.checks.proofs.open_ends.Goals as goal
 use Rattle.checks.proofs.open_ends.Goals.{then-is_open, else-is_open}
 
 pub loop-i-init : goal.loop-i-init
-loop-i-init c = let x = c.args in (omega arith, sym (open_none (plan_of x.sheet.now x.contents)), omega arith)
-
-pub is_open-requires : goal.is_open-requires
-is_open-requires c = let h = c.requires in (h.0, h.1, omega arith)
-
-pub overflow_add-n : goal.overflow_add-n
-overflow_add-n c = omega (arith, c.requires.0.read.activities_few, c.loop-i.invariant.2)
-
-pub overflow_add-i : goal.overflow_add-i
-overflow_add-i c = omega (arith, c.requires.0.read.activities_few)
+loop-i-init c = let x = c.args in (sym (open_none (plan_of x.sheet.now x.contents)), omega arith)
 
 pub loop-i-preserved : goal.loop-i-preserved
 loop-i-preserved c =
@@ -25,10 +16,9 @@ loop-i-preserved c =
     let p = plan_of x.sheet.now x.contents in
     let L = c.loop-i in
     let e = c.is_open.ensures in (
-      omega arith,
       elim c.if-is_open.branch [
-        | then-is_open w ↦ omega (arith, L.invariant.1, open_one p L.i (sym e ∙ w.if-is_open.true), w.n-is)
-        | else-is_open w ↦ omega (arith, L.invariant.1, open_same p L.i (sym e ∙ w.if-is_open.false), w.n-is)
+        | then-is_open w ↦ omega (arith, L.invariant.0, open_one p L.i (sym e ∙ w.if-is_open.true), w.n-is)
+        | else-is_open w ↦ omega (arith, L.invariant.0, open_same p L.i (sym e ∙ w.if-is_open.false), w.n-is)
       ],
       elim c.if-is_open.branch [ then-is_open w ↦ omega arith | else-is_open w ↦ omega arith ],
     )
@@ -40,4 +30,4 @@ returns c =
     let p = plan_of x.sheet.now x.contents in
     let L = c.loop-i in
     let e : L.i ≡ x.contents.activities = omega arith in
-    (L.invariant.1 ∙ ap (open_below p) e, omega arith)
+    (L.invariant.0 ∙ ap (open_below p) e, omega arith)

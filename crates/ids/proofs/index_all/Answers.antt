@@ -1,30 +1,47 @@
--- `ids::index_all` meets its contract.
-use borrow.Author.Rules.{rules}
+-- `ids::index_all` meets its contract: activities before i are fine and in the index.
 use native.Mathlib.Omega.{arith}
-use Rattle.memory.specs.State.{State}
+use Rattle.std.proofs.lemmas.Result.{err_from_is_err_and}
 use Rattle.order.specs.Plan.{plan_of}
+use Rattle.order.specs.Checks.{judge_activity}
 use Rattle.ids.specs.Index.{Indexed}
 use Rattle.ids.specs.Lent.{state_in}
 use Rattle.ids.specs.Answers.{OfIndex}
 use Rattle.ids.specs.IndexSteps.{index_none, none_kept}
-use Rattle.ids.specs.PassSteps.{passed_from}
+use Rattle.ids.specs.PassSteps.{passing_start, passing_turn, passing_stop, passing_end}
 use Rattle.ids.proofs.index_all.Goals as goal
 
-pub index_activities-requires : goal.index_activities-requires
-index_activities-requires c =
+pub loop-i-init : goal.loop-i-init
+loop-i-init c =
     let x = c.args in
-    let S = state_in x.contents x.work.now in (
-      record { read = c.requires.read; room = omega arith },
-      index_none x.contents.activities x.contents.links _ S c.fill_act.ensures.0 (plan_of x.sheet.now x.contents),
+    let p = plan_of x.sheet.now x.contents in
+    let S = state_in x.contents x.work.now in
+    let a = x.contents.activities in
+    let l = x.contents.links in (
+      omega arith,
+      passing_start OfIndex (Indexed p) (judge_activity p) a S (none_kept a l _ S c.fill_act.ensures.0) (index_none a l _ S c.fill_act.ensures.0 p),
+    )
+
+pub returns-in_err-index_one : goal.returns-in_err-index_one
+returns-in_err-index_one c =
+    let x = c.args in
+    let p = plan_of x.sheet.now x.contents in
+    let o = c.in_err-index_one.ensures in
+    let a = passing_stop OfIndex (Indexed p) (judge_activity p) x.contents.activities (state_in x.contents x.work.now) c.loop-i.invariant.1 (omega arith) o.0 o.1 in
+    let q = err_from_is_err_and c.from_residual.result c.from_residual.ensures.1 in
+    rw (q.1, q.2) (a.0, a.1, omega (arith, o.2))
+
+pub loop-i-preserved : goal.loop-i-preserved
+loop-i-preserved c =
+    let x = c.args in
+    let p = plan_of x.sheet.now x.contents in
+    let o = c.in_ok-index_one.ensures in (
+      omega (arith, o.2),
+      passing_turn OfIndex (Indexed p) (judge_activity p) x.contents.activities (state_in x.contents x.work.now) c.loop-i.invariant.1 (omega arith) o.0 o.1,
     )
 
 pub returns : goal.returns
 returns c =
     let x = c.args in
     let p = plan_of x.sheet.now x.contents in
-    let S = state_in x.contents x.work.now in
-    let o = c.index_activities.ensures in (
-      o.0,
-      passed_from OfIndex (λ (T : State). Indexed p T x.contents.activities) (none_kept x.contents.activities x.contents.links _ S c.fill_act.ensures.0) o.1,
-      omega arith,
-    )
+    let a = passing_end OfIndex (Indexed p) (judge_activity p) x.contents.activities (state_in x.contents x.work.now) c.loop-i.invariant.1 _ (omega arith) in
+    (a.0, a.1, c.loop-i.invariant.0)

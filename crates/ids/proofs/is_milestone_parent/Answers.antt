@@ -1,5 +1,4 @@
 -- `ids::is_milestone_parent` meets its contract.
-use borrow.Author.Rules.{rules}
 use mathlib.Core.Path.{ap, ◌∙◌}
 use native.Mathlib.Omega.{arith}
 use Rattle.project.specs.Status.{is_milestone}

@@ -1,10 +1,8 @@
 -- `ids::parent_loop_steps` meets its contract: k steps are made and lead to `up`.
-use borrow.Author.Rules.{rules}
-use Prim.Native.Nat.{◌+◌, ◌-◌}
 use native.Mathlib.Omega.{arith}
 use Rattle.memory.specs.State.{state_of}
 use Rattle.memory.specs.Fields.{parent}
-use Rattle.ids.specs.ClimbSteps.{Climb, climb_start, climb_none, climb_back, climb_turn, climb_end}
+use Rattle.ids.specs.ClimbSteps.{climb_start, climb_none, climb_back, climb_turn, climb_end}
 use Rattle.ids.proofs.parent_loop_steps.Goals as goal
 
 pub loop-k-init : goal.loop-k-init
@@ -26,9 +24,6 @@ returns-then-up-i c =
     let up = (state_of x.a x.l x.work.now).act parent in
     let L = c.loop-k in
     (climb_back up x.a x.i L.up L.k L.invariant (omega arith) (omega arith), omega arith)
-
-pub get_act-up-requires-in-loop-k : goal.get_act-up-requires-in-loop-k
-get_act-up-requires-in-loop-k c = (omega arith, omega (arith, c.loop-k.invariant.low), omega arith)
 
 pub loop-k-preserved : goal.loop-k-preserved
 loop-k-preserved c =

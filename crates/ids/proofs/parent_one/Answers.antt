@@ -1,13 +1,10 @@
 -- `ids::parent_one` meets its contract.
-use borrow.Author.Rules.{rules}
-use mathlib.Core.Path.{ap, ◌∙◌}
-use Prim.Native.Nat.{◌<◌}
+use mathlib.Core.Path.{refl, ap, ◌∙◌}
 use native.Mathlib.Omega.{arith}
 use Rattle.order.specs.Plan.{plan_of}
 use Rattle.order.specs.Checks.{refuse}
 use Rattle.ids.specs.Lent.{state_in}
 use Rattle.ids.specs.Answers.{OfParents}
-use Rattle.ids.specs.AnswerLaws.{not_refused, answered_fine, answered_refused}
 use Rattle.ids.specs.LentLaws.{kept_refl}
 use Rattle.ids.specs.ParentedLaws.{top_fine, top_kept, top_parented, unknown_refused, known_fine, known_kept, known_parented}
 use Rattle.ids.proofs.parent_one.Goals as goal
@@ -21,23 +18,23 @@ returns-then-id-eq0 c =
     let d = c.parent_of-id.ensures.0 in
     let z = c.if-id-eq0.true in
     let e = c.put_act.ensures.0 in (
-      answered_fine (top_fine p S x.i P _ d z),
-      record { kept = top_kept p S x.i P _ d z _ e; holds = λ q. top_parented p S x.i P _ d z _ e },
+      record { is = top_fine p S x.i P _ d z },
+      record { kept = top_kept p S x.i P _ d z _ e; holds = top_parented p S x.i P _ d z _ e },
       omega arith,
     )
 
-pub returns-then-j-a : goal.returns-then-j-a
+pub returns-in_default : goal.returns-in_default
 unfolding plan_of
-returns-then-j-a c =
+returns-in_default c =
     let x = c.args in
     let p = plan_of x.sheet.now x.contents in
     let S = state_in x.contents x.work.now in
     let P = c.requires.4 in
     let d = c.parent_of-id.ensures.0 in
     let z = c.if-id-eq0.false in (
-      answered_refused 10 _ (omega arith) (ap (refuse 10) c.id_of.ensures.0 ∙ unknown_refused p S x.i P _ d z _ c.find-j.ensures.0 c.if-j-a.true),
-      record { kept = kept_refl OfParents S; holds = λ q. not_refused q },
-      omega arith,
+      record { is = ap (refuse 10) c.id_of.ensures.0 ∙ unknown_refused p S x.i P _ d z _ c.in_default.ensures.0 refl },
+      record { kept = kept_refl OfParents S; holds = tt },
+      refl,
     )
 
 pub returns : goal.returns
@@ -49,12 +46,11 @@ returns c =
     let P = c.requires.4 in
     let d = c.parent_of-id.ensures.0 in
     let z = c.if-id-eq0.false in
-    let f = c.find-j.ensures.0 in
-    let l : c.find-j.result < p.activities = omega (arith, c.if-j-a.false, c.find-j.ensures.1) in
+    let f = c.in-Some.ensures in
     let D = c.requires.2 in
     let t = c.put_act-2.ensures.0 in
     let u = c.put_act-3.ensures.0 in (
-      answered_fine (known_fine p S x.i P _ d z _ f l),
-      record { kept = known_kept p S x.i P _ d z _ f l D _ _ t u; holds = λ q. known_parented p S x.i P _ d z _ f l D _ _ t u },
+      record { is = known_fine p S x.i P _ d z _ f.0 f.1 },
+      record { kept = known_kept p S x.i P _ d z _ f.0 f.1 D _ _ t u; holds = known_parented p S x.i P _ d z _ f.0 f.1 D _ _ t u },
       omega arith,
     )

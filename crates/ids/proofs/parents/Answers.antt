@@ -1,36 +1,59 @@
--- `ids::parents` meets its contract.
-use borrow.Author.Rules.{rules}
+-- `ids::parents` meets its contract: activities before i are fine and their parents kept.
 use native.Mathlib.Omega.{arith}
-use Rattle.memory.specs.State.{State}
+use Rattle.std.proofs.lemmas.Result.{err_from_is_err_and}
 use Rattle.order.specs.Plan.{plan_of}
+use Rattle.order.specs.Checks.{judge_parent}
 use Rattle.ids.specs.Parented.{Parented}
 use Rattle.ids.specs.ParentedLaws.{indexed_kept, unmarked, unmarked_kept}
 use Rattle.ids.specs.Lent.{state_in}
 use Rattle.ids.specs.Answers.{OfParents}
-use Rattle.ids.specs.PassSteps.{passed_from}
+use Rattle.ids.specs.PassSteps.{passing_start, passing_turn, passing_stop, passing_end}
 use Rattle.ids.proofs.parents.Goals as goal
 
-pub parent_activities-requires : goal.parent_activities-requires
+pub loop-i-init : goal.loop-i-init
 unfolding plan_of
-parent_activities-requires c =
+loop-i-init c =
     let x = c.args in
     let p = plan_of x.sheet.now x.contents in
     let S = state_in x.contents x.work.now in
     let e = c.fill_act.ensures.0 in (
-      record { read = c.requires.0.read; room = omega arith },
+      omega arith,
+      passing_start OfParents (Parented p) (judge_parent p) x.contents.activities S (unmarked_kept p S _ e) (unmarked p S _ e),
+    )
+
+pub parent_one-requires : goal.parent_one-requires
+unfolding plan_of
+parent_one-requires c =
+    let x = c.args in
+    let X = c.loop-i.invariant.1 in (
+      record { read = c.requires.0.read; room = omega (arith, c.loop-i.invariant.0, c.requires.0.room) },
+      omega arith,
       c.requires.1,
-      indexed_kept p (unmarked_kept p S _ e) c.requires.2,
-      unmarked p S _ e,
+      indexed_kept (plan_of x.sheet.now x.contents) X.kept c.requires.2,
+      X.holds,
+    )
+
+pub returns-in_err-parent_one : goal.returns-in_err-parent_one
+returns-in_err-parent_one c =
+    let x = c.args in
+    let p = plan_of x.sheet.now x.contents in
+    let o = c.in_err-parent_one.ensures in
+    let a = passing_stop OfParents (Parented p) (judge_parent p) x.contents.activities (state_in x.contents x.work.now) c.loop-i.invariant.1 (omega arith) o.0 o.1 in
+    let q = err_from_is_err_and c.from_residual.result c.from_residual.ensures.1 in
+    rw (q.1, q.2) (a.0, a.1, omega (arith, o.2))
+
+pub loop-i-preserved : goal.loop-i-preserved
+loop-i-preserved c =
+    let x = c.args in
+    let p = plan_of x.sheet.now x.contents in
+    let o = c.in_ok-parent_one.ensures in (
+      omega (arith, o.2),
+      passing_turn OfParents (Parented p) (judge_parent p) x.contents.activities (state_in x.contents x.work.now) c.loop-i.invariant.1 (omega arith) o.0 o.1,
     )
 
 pub returns : goal.returns
-unfolding plan_of
 returns c =
     let x = c.args in
     let p = plan_of x.sheet.now x.contents in
-    let S = state_in x.contents x.work.now in
-    let o = c.parent_activities.ensures in (
-      o.0,
-      passed_from OfParents (λ (T : State). Parented p T x.contents.activities) (unmarked_kept p S _ c.fill_act.ensures.0) o.1,
-      omega arith,
-    )
+    let a = passing_end OfParents (Parented p) (judge_parent p) x.contents.activities (state_in x.contents x.work.now) c.loop-i.invariant.1 _ (omega arith) in
+    (a.0, a.1, c.loop-i.invariant.0)

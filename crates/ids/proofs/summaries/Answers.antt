@@ -1,51 +1,21 @@
 -- `ids::summaries` meets its contract: activities before i are fine.
-use borrow.Author.Rules.{rules}
-use mathlib.Core.Path.{◌≡◌}
-use Prim.Native.Nat.{◌-◌, ◌≤◌}
 use native.Mathlib.Omega.{arith}
+use Rattle.std.proofs.lemmas.Result.{err_from_is_err_and}
 use Rattle.order.specs.Plan.{plan_of}
-use Rattle.order.specs.Checks.{first_of, judge_summary}
-use Rattle.order.specs.VerdictLaws.{first_start}
-use Rattle.ids.specs.SummaryLaws.{summaries_turn, summaries_milestone, summaries_loop, summaries_end}
+use Rattle.ids.specs.SummaryLaws.{summaries_turn, summaries_stop, summaries_end}
 use Rattle.ids.proofs.summaries.Goals as goal
 
-pub loop-i-init : goal.loop-i-init
-loop-i-init c =
-    let x = c.args in
-    let p = plan_of x.sheet.now x.contents in
-    (omega arith, first_start (judge_summary p) x.contents.activities)
-
-pub summary_one-check-requires : goal.summary_one-check-requires
-summary_one-check-requires c = (c.requires.0, omega arith, c.requires.1, c.requires.2)
-
-pub returns-in-Milestone : goal.returns-in-Milestone
+pub returns-in_err-summary_one : goal.returns-in_err-summary_one
 unfolding plan_of
-returns-in-Milestone c =
-    let x = c.args in
-    let p = plan_of x.sheet.now x.contents in
-    let L = c.loop-i in
-    summaries_milestone p L.i L.invariant.1 (omega arith) _ c.summary_one-check.ensures c.in-Milestone.id c.in-Milestone.is
-
-pub returns-in-Loop : goal.returns-in-Loop
-unfolding plan_of
-returns-in-Loop c =
-    let x = c.args in
-    let p = plan_of x.sheet.now x.contents in
-    let L = c.loop-i in
-    summaries_loop p L.i L.invariant.1 (omega arith) _ c.summary_one-check.ensures c.in-Loop.first c.in-Loop.steps c.in-Loop.is
+returns-in_err-summary_one c =
+    let q = err_from_is_err_and c.from_residual.result c.from_residual.ensures.1 in
+    rw (q.1, q.2) (summaries_stop (plan_of c.args.sheet.now c.args.contents) c.loop-i.i c.loop-i.invariant (omega arith) c.in_err-summary_one.ensures)
 
 pub loop-i-preserved : goal.loop-i-preserved
 unfolding plan_of
 loop-i-preserved c =
-    let x = c.args in
-    let p = plan_of x.sheet.now x.contents in
-    let L = c.loop-i in
-    (omega arith, summaries_turn p L.i L.invariant.1 (omega arith) _ c.summary_one-check.ensures c.in-Fine.is)
+    summaries_turn (plan_of c.args.sheet.now c.args.contents) c.loop-i.i c.loop-i.invariant (omega arith) c.in_ok-summary_one.ensures
 
 pub returns : goal.returns
 unfolding plan_of
-returns c =
-    let x = c.args in
-    let p = plan_of x.sheet.now x.contents in
-    let L = c.loop-i in
-    summaries_end p L.i L.invariant.1 (omega arith)
+returns c = summaries_end (plan_of c.args.sheet.now c.args.contents) c.loop-i.i c.loop-i.invariant _ (omega arith)

@@ -1,5 +1,4 @@
 -- `ids::summary_one` meets its contract.
-use borrow.Author.Rules.{rules}
 use native.Mathlib.Omega.{arith}
 use Rattle.order.specs.Plan.{plan_of}
 use Rattle.ids.specs.Lent.{state_in}

@@ -9,7 +9,7 @@ use Rattle.links.proofs.tie_lag.Goals as goal
 
 pub minutes_of-minutes-requires : goal.minutes_of-minutes-requires
 unfolding plan_of
-minutes_of-minutes-requires c = let h = c.requires in (h.0, h.4.from_below)
+minutes_of-minutes-requires c = let h = c.requires in (h.0, omega (arith, h.4.from_below, h.4.to_below))
 
 pub bounds-lengths-calendar : goal.bounds-lengths-calendar
 unfolding plan_of

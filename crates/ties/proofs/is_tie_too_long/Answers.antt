@@ -6,12 +6,6 @@ use Rattle.ties.specs.TieSteps.{long_is}
 use Rattle.ties.specs.Widened.{widened_back}
 use Rattle.ties.proofs.is_tie_too_long.Goals as goal
 
-pub tie_calendar-calendar-requires : goal.tie_calendar-calendar-requires
-tie_calendar-calendar-requires c = let h = c.requires in (h.0, h.1, h.2, h.3)
-
-pub lag_of-lag-requires : goal.lag_of-lag-requires
-lag_of-lag-requires c = let h = c.requires in (h.0, h.1)
-
 pub minutes_of-minutes-requires : goal.minutes_of-minutes-requires
 unfolding plan_of
 minutes_of-minutes-requires c = let h = c.requires in (h.0, h.3.from_below)

@@ -1,51 +1,34 @@
 -- `ties::link_ends` meets its contract.
-use Prim.Native.Nat.{◌<◌}
-use native.Mathlib.Omega.{arith}
+use mathlib.Core.Path.{refl}
 use Rattle.order.specs.Plan.{plan_of}
 use Rattle.ties.specs.EndLaws.{from_unknown, to_unknown, to_itself, between}
 use Rattle.ties.proofs.link_ends.Goals as goal
 
-pub returns-then-from-a : goal.returns-then-from-a
+pub returns-in_default : goal.returns-in_default
 unfolding plan_of
-returns-then-from-a c =
+returns-in_default c =
     let x = c.args in
-    let p = plan_of x.sheet.now x.contents in
-    (from_unknown p x.k _ _ c.predecessor_of-pred.ensures.0 c.find-from.ensures.0 c.if-from-a.true, omega arith)
+    from_unknown (plan_of x.sheet.now x.contents) x.k _ _ c.predecessor_of-pred.ensures.0 c.in_default.ensures.0 refl
 
-pub returns-then-to-a : goal.returns-then-to-a
+pub returns-in_default-find : goal.returns-in_default-find
 unfolding plan_of
-returns-then-to-a c =
+returns-in_default-find c =
     let x = c.args in
-    let p = plan_of x.sheet.now x.contents in
-    let d = c.predecessor_of-pred.ensures.0 in
-    let f = c.find-from.ensures.0 in
-    let l : c.find-from.result < p.activities = omega (arith, c.find-from.ensures.1, c.if-from-a.false) in
-    let e = c.successor_of-succ.ensures.0 in
-    let g = c.find-to.ensures.0 in
-    (to_unknown p x.k _ _ d f l _ _ e g c.if-to-a.true, omega arith)
+    let f = c.in-Some.ensures in
+    to_unknown (plan_of x.sheet.now x.contents) x.k _ _ c.predecessor_of-pred.ensures.0 f.0 f.1 _ _ c.successor_of-succ.ensures.0 c.in_default-find.ensures.0 refl
 
 pub returns-then-pred-succ : goal.returns-then-pred-succ
 unfolding plan_of
 returns-then-pred-succ c =
     let x = c.args in
-    let p = plan_of x.sheet.now x.contents in
-    let d = c.predecessor_of-pred.ensures.0 in
-    let f = c.find-from.ensures.0 in
-    let l : c.find-from.result < p.activities = omega (arith, c.find-from.ensures.1, c.if-from-a.false) in
-    let e = c.successor_of-succ.ensures.0 in
-    let g = c.find-to.ensures.0 in
-    let m : c.find-to.result < p.activities = omega (arith, c.find-to.ensures.1, c.if-to-a.false) in
-    (to_itself p x.k _ _ d f l _ _ e g m c.if-pred-succ.true, omega arith)
+    let f = c.in-Some.ensures in
+    let g = c.in-Some-find.ensures in
+    to_itself (plan_of x.sheet.now x.contents) x.k _ _ c.predecessor_of-pred.ensures.0 f.0 f.1 _ _ c.successor_of-succ.ensures.0 g.0 g.1 c.if-pred-succ.true
 
 pub returns : goal.returns
 unfolding plan_of
 returns c =
     let x = c.args in
-    let p = plan_of x.sheet.now x.contents in
-    let d = c.predecessor_of-pred.ensures.0 in
-    let f = c.find-from.ensures.0 in
-    let l : c.find-from.result < p.activities = omega (arith, c.find-from.ensures.1, c.if-from-a.false) in
-    let e = c.successor_of-succ.ensures.0 in
-    let g = c.find-to.ensures.0 in
-    let m : c.find-to.result < p.activities = omega (arith, c.find-to.ensures.1, c.if-to-a.false) in
-    between p x.k _ _ d f l _ _ e g m c.requires.2 c.if-pred-succ.false
+    let f = c.in-Some.ensures in
+    let g = c.in-Some-find.ensures in
+    between (plan_of x.sheet.now x.contents) x.k _ _ c.predecessor_of-pred.ensures.0 f.0 f.1 _ _ c.successor_of-succ.ensures.0 g.0 g.1 c.requires.2 c.if-pred-succ.false

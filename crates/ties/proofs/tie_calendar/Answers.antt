@@ -5,9 +5,6 @@ use Rattle.order.specs.Plan.{plan_of}
 use Rattle.ties.specs.TieSteps.{calendar_is}
 use Rattle.ties.proofs.tie_calendar.Goals as goal
 
-pub lag_calendar_of-by-requires : goal.lag_calendar_of-by-requires
-lag_calendar_of-by-requires c = c.requires.0
-
 pub calendar_of-pred-requires : goal.calendar_of-pred-requires
 unfolding plan_of
 calendar_of-pred-requires c = (c.requires.0, c.requires.3.from_below)
@@ -15,9 +12,6 @@ calendar_of-pred-requires c = (c.requires.0, c.requires.3.from_below)
 pub calendar_of-succ-requires : goal.calendar_of-succ-requires
 unfolding plan_of
 calendar_of-succ-requires c = (c.requires.0, c.requires.3.to_below)
-
-pub lag_of-lag-requires : goal.lag_of-lag-requires
-lag_of-lag-requires c = (c.requires.0, c.requires.1)
 
 pub lag_calendar-requires : goal.lag_calendar-requires
 unfolding plan_of

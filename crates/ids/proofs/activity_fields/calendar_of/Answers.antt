@@ -1,5 +1,4 @@
 -- `ids::activity_fields::calendar_of` meets its contract.
-use borrow.Author.Rules.{rules}
 use Rattle.order.specs.Plan.{plan_of}
 use Rattle.ids.proofs.activity_fields.calendar_of.Goals as goal
 

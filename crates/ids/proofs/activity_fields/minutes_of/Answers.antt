@@ -1,5 +1,4 @@
 -- `ids::activity_fields::minutes_of` meets its contract.
-use borrow.Author.Rules.{rules}
 use mathlib.Core.Path.{◌∙◌}
 use mir.Facts.{to_z-of_z}
 use mir.Syntax.{w32}

@@ -9,7 +9,8 @@ use Rattle.order.specs.LagLaws.{lag_long_before}
 use Rattle.ties.proofs.lags.is_lag_too_long.Goals as goal
 
 pub returns-then-lag_before : goal.returns-then-lag_before
-returns-then-lag_before c = sym (lag_long_before _ _ _ (sym c.lag_before.ensures ∙ c.if-lag_before.true))
+returns-then-lag_before c =
+    c.if-lag_before.true ∙ sym (lag_long_before _ _ _ (sym c.lag_before.ensures ∙ c.if-lag_before.true))
 
 pub lag_minutes-requires : goal.lag_minutes-requires
 lag_minutes-requires c =
@@ -18,9 +19,9 @@ lag_minutes-requires c =
 pub is_beyond-requires : goal.is_beyond-requires
 is_beyond-requires c = rw (to_z-of_z {w = w64} (record { sfits = c.lag_minutes.type_inv })) (omega (arith, c.lag_minutes.ensures.1))
 
-pub returns : goal.returns
+pub returns-else-lag_before : goal.returns-else-lag_before
 unfolding lag_too_long
-returns c =
+returns-else-lag_before c =
     let m = rw (to_z-of_z c.ranges.duration) at c.lag_minutes.ensures.0 in
     let e = rw (to_z-of_z {w = w64} (record { sfits = c.lag_minutes.type_inv }), m) at c.is_beyond.ensures in
     let b : lag_before c.args.lag ≡ false = sym c.lag_before.ensures ∙ c.if-lag_before.false in

@@ -1,5 +1,6 @@
--- `ties::lags::lag_calendar` meets its contract, by the five kinds of lag.
+-- `ties::lags::lag_calendar` meets its contract, by the kinds of lag.
 use mathlib.Core.Path.{refl}
+use mathlib.Core.Logic.{⊎_elim}
 use native.Mathlib.Omega.{arith}
 use Rattle.order.specs.Lags.{lag_calendar}
 use Rattle.order.specs.LagLaws.{working_calendar_le}
@@ -9,23 +10,12 @@ pub returns-in-WorkingDays : goal.returns-in-WorkingDays
 unfolding lag_calendar
 returns-in-WorkingDays c =
     let a = c.args in
-    rw (c.in-WorkingDays.is, c.working_calendar.ensures)
-    (refl, working_calendar_le a.pred a.succ a.last c.requires.0 c.requires.1 a.by)
-
-pub returns-in-WorkingMinutes : goal.returns-in-WorkingMinutes
-unfolding lag_calendar
-returns-in-WorkingMinutes c =
-    let a = c.args in
-    rw (c.in-WorkingMinutes.is, c.working_calendar-in-WorkingMinutes.ensures)
-    (refl, working_calendar_le a.pred a.succ a.last c.requires.0 c.requires.1 a.by)
+    let l = working_calendar_le a.pred a.succ a.last c.requires.0 c.requires.1 a.by in
+    rw c.working_calendar.ensures (⊎_elim (λ w. rw w.1 (refl, l)) (λ w. rw w.1 (refl, l)) c.in-WorkingDays.is)
 
 pub returns-in-ElapsedDays : goal.returns-in-ElapsedDays
 unfolding lag_calendar
-returns-in-ElapsedDays c = rw c.in-ElapsedDays.is (refl, omega arith)
-
-pub returns-in-ElapsedMinutes : goal.returns-in-ElapsedMinutes
-unfolding lag_calendar
-returns-in-ElapsedMinutes c = rw c.in-ElapsedMinutes.is (refl, omega arith)
+returns-in-ElapsedDays c = ⊎_elim (λ w. rw w.1 (refl, omega arith)) (λ w. rw w.1 (refl, omega arith)) c.in-ElapsedDays.is
 
 pub returns-in-Percent : goal.returns-in-Percent
 unfolding lag_calendar
