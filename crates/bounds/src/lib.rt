@@ -49,12 +49,12 @@ pub fn start_for(
     match kind {
         RelationshipType::FinishToStart => Ok(b),
         RelationshipType::StartToStart => Ok(b),
-        RelationshipType::FinishToFinish => placing::start_for_finish(
-            activity, week, sheet, at, n, left, b,
-        ),
-        RelationshipType::StartToFinish => placing::start_for_finish(
-            activity, week, sheet, at, n, left, b,
-        ),
+        RelationshipType::FinishToFinish => {
+            placing::start_for_finish(activity, week, sheet, at, n, left, b)
+        }
+        RelationshipType::StartToFinish => {
+            placing::start_for_finish(activity, week, sheet, at, n, left, b)
+        }
     }
 }
 

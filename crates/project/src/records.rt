@@ -6,9 +6,8 @@ ghost use Rattle.project.specs.Records.{activity_at, relationship_at, project_at
 ghost use Rattle.project.specs.Status.{status_of};
 
 use crate::{
-    Activity, ActivityKind, Constraint, FloatKind, LagCalendar, LagKind, 
-    ProgressMode, Project, Relationship, RelationshipType, Status, codes, fields,
-    status_of,
+    Activity, ActivityKind, Constraint, FloatKind, LagCalendar, LagKind, ProgressMode, Project,
+    Relationship, RelationshipType, Status, codes, fields, status_of,
 };
 use date::Date;
 

@@ -119,7 +119,7 @@ fn run_plan(
         Ok(last) => show_plan(
             sheet, contents, places, lengths, t, last, ignored, ends, results, names, work,
         ),
-        Err(e) => refuse(names, work, e.number()),
+        Err(error) => refuse(names, work, error.number()),
     }
 }
 

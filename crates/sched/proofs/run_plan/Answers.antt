@@ -17,7 +17,7 @@ returns-in-Err c =
     let ran = c.run in
     let call = c.refuse in
     λ m L.
-    run_refuses m p L c.requires.0.fine call.result c.in-Err.e call.new.names ran.new.work call.new.work (subst (RunIn p (state_of x.contents.activities x.contents.links ran.new.work)) c.in-Err.is ran.ensures.0) (call.ensures.0 ∙ ap (λ (n : ℕ). Answer.Refused n 0) c.number.ensures.0) call.ensures.1
+    run_refuses m p L c.requires.0.fine call.result c.in-Err.error call.new.names ran.new.work call.new.work (subst (RunIn p (state_of x.contents.activities x.contents.links ran.new.work)) c.in-Err.is ran.ensures.0) (call.ensures.0 ∙ ap (λ (n : ℕ). Answer.Refused n 0) c.number.ensures.0) call.ensures.1
     ran.ensures.3 call.ensures.2
 
 pub show_plan-requires : goal.show_plan-requires
