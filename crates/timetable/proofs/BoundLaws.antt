@@ -161,7 +161,7 @@ module _ (p : Plan) where
             λ l. (omega arith, (q.0, q.1, k.1 (omega arith))),
           )
 
-      no_date : {a b : ℕ} → Ok a ≡ Ok b → ((a ≤ v) × Unit {0}) ↔ (b ≤ v)
+      no_date : {a b : ℕ} → ◌≡◌ {A = Result ℕ ClockError} (Ok a) (Ok b) → ((a ≤ v) × Unit {0}) ↔ (b ≤ v)
       no_date {a} {b} e = let z : a ≡ b = cc in (λ h. let m = h.0 in omega arith, λ l. (omega arith, tt))
 
       pub constrained_bound : (k : Constraint) → Mild k → (a : ℕ) {b : ℕ} → constrained p d i k a ≡ Ok b → ((a ≤ v) × Meets p i k v g) ↔ (b ≤ v)

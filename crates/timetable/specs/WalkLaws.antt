@@ -32,7 +32,7 @@ via_leaves (Err k) go d e = let z : ◌≡◌ {A = ℕ} 0 1 = cc in absurd (omeg
 pub bounded_at : (o t : ℕ) {u : ℕ} → bounded o t ≡ Ok u → u ≡ t
 bounded_at o t {u} e = (sound.bounded_sound o t u e).0
 
-pub reads_at : (d : ClockError) (t : ℕ) {u : ℕ} → reads Err d (Ok t) ≡ Ok u → u ≡ t
+pub reads_at : (d t : ℕ) {u : ℕ} → reads Err d (Ok t) ≡ Ok u → u ≡ t
 reads_at d t {u} e =
     ⊎_elim (λ h. let f = reads_in Err d (Ok t) h in cc) (λ h. absurd (at_or_refused e (reads_out Err d (Ok t) h))) (cases (in_years d))
 
