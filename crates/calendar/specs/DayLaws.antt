@@ -1,17 +1,18 @@
 -- The E records of a day stand together, and its hours are theirs or the week's.
 use Rattle.std.specs.Prelude.{◌≡◌, refl, List, [], ◌∷◌, ◌++◌, length, get_or}
-use Rattle.std.proofs.Common.{sym, ap, ◌∙◌, ⊎_elim, add-one, length-append}
+use Rattle.std.proofs.Common.{sym, ap, ap₂, ◌∙◌, ⊎_elim, add-one, length-append}
 use Prim.Native.Nat.{ℕ, zero, suc, ◌+◌, ◌-◌, ◌*◌, ◌≤◌, ◌<◌}
 use native.Mathlib.Omega.{arith}
 use Rattle.std.proofs.Math.Nat.{add-zero}
 use borrow.Author.Tests.{eq-eqb, ne_eqb}
 use Rattle.std.proofs.Math.ListN.{get_or-append}
 use Rattle.std.proofs.lemmas.List.{get_or_at}
-use Rattle.number.specs.Order.{lt_or_le, eq_or_ne}
+use Rattle.number.specs.Order.{lt_or_le, zero_or_pos}
 use Rattle.number.specs.Bytes.{u16_at}
 use Rattle.calendar.specs.declared.Period.{Period}
+use Rattle.calendar.specs.declared.Hours.{Hours}
 use Rattle.calendar.specs.Hours.{none}
-use Rattle.calendar.specs.Records.{exception_day, exception_period, exceptions_on, hours_on, FirstFrom, record_periods, periods_of, exceptions_of, hours_between, InHand}
+use Rattle.calendar.specs.Records.{exception_day, exception_period, exceptions_on, hours_on, FirstFrom, record_periods, periods_of, InHand}
 use Rattle.date.specs.Days.{weekday}
 
 -- ---- exceptions_on, a record at a time
@@ -71,6 +72,16 @@ pub records_none : (s : List ℕ) (at : ℕ) → record_periods s at 0 ≡ []
 unfolding record_periods
 records_none s at = refl
 
+-- ---- the two ways of hours in hand
+module _ (h : Hours) (s : List ℕ) where
+  pub of_row : h.n ≡ 0 → periods_of h s ≡ h.row
+  unfolding periods_of
+  of_row e = rw (eq-eqb h.n 0 e, periods_of)
+
+  pub of_records : 0 < h.n → periods_of h s ≡ record_periods s h.at h.n
+  unfolding periods_of
+  of_records l = rw (ne_eqb h.n 0 (omega arith), periods_of)
+
 -- ---- the records of day d are those from `from` up to `to`
 exception_shift : (s : List ℕ) (at f i : ℕ) → exception_period s (at + 9 * f) i ≡ exception_period s at (f + i)
 exception_shift s at f i =
@@ -104,33 +115,27 @@ module _ (s : List ℕ) (at n d from to : ℕ) (lo : FirstFrom s at n d from) (h
   pub on_all : exceptions_on s at d n ≡ record_periods s (at + 9 * from) (to - from)
   on_all = let e : from + (to - from) ≡ to = omega (arith, from_to) in on_last ∙ (rw e at (on_records (to - from) (omega (arith, from_to))))
 
-  -- the hours of day d, by its row and where its records stand
-  hours_in_hand : (week : List (List Period)) (row : List Period) → row ≡ get_or week (weekday d) [] → periods_of (hours_between row at from to) s ≡ hours_on week s at n d
-  unfolding periods_of
-  hours_in_hand week row r =
+  -- the hours of day d, its row and where its records stand
+  pub hours_in_hand : (week : List (List Period)) (h : Hours) → h.row ≡ get_or week (weekday d) [] → h.at ≡ at + 9 * from → h.n ≡ to - from
+      → periods_of h s ≡ hours_on week s at n d
+  hours_in_hand week h r a m =
       let l : length (exceptions_on s at d n) ≡ to - from = rw on_all (records_length s (at + 9 * from) (to - from)) in
       ⊎_elim
-      (λ (e : from ≡ to). let z : to - from ≡ 0 = omega arith in
-      rw (hours_between, eq-eqb from to e) (r ∙ sym (hours_week week s at n d (on_all ∙ (ap (record_periods s (at + 9 * from)) z ∙ records_none s (at + 9 * from))))))
-      (λ (e : from ≡ to → ⊥). rw (hours_between, ne_eqb from to e) (sym on_all ∙ sym (hours_own week s at n d (omega (arith, l, from_to)))))
-      (eq_or_ne from to)
+      (λ z. of_row h s (omega arith) ∙ r ∙ sym (hours_week week s at n d (on_all ∙ (ap (record_periods s (at + 9 * from)) z ∙ records_none s (at + 9 * from)))))
+      (λ z. of_records h s (omega arith) ∙ ap₂ (record_periods s) a m ∙ sym on_all ∙ sym (hours_own week s at n d (omega arith)))
+      (zero_or_pos (to - from))
 
   -- and so in every week with that row
-  pub in_hand : at + 9 * n ≤ length s → (row : List Period) → InHand row s at n d (hours_between row at from to)
-  in_hand l row =
+  pub in_hand : at + 9 * n ≤ length s → (h : Hours) → h.at ≡ at + 9 * from → h.n ≡ to - from → InHand h.row s at n d h
+  in_hand l h a m =
       record {
-        within = ⊎_elim (λ (e : from ≡ to). rw (hours_between, eq-eqb from to e) tt) (λ (e : from ≡ to → ⊥). rw (hours_between, ne_eqb from to e) (omega (arith, from_to, hi.within))) (eq_or_ne from to);
-        is = λ week r. hours_in_hand week row (sym r);
+        within = omega (arith, from_to, hi.within);
+        is = λ week r. hours_in_hand week h (sym r) a m;
       }
 
-  between_count : (row : List Period) → exceptions_of (hours_between row at from to) ≡ to - from
-  between_count row = ⊎_elim (λ (e : from ≡ to). rw (hours_between, eq-eqb from to e) (omega arith)) (λ (e : from ≡ to → ⊥). rw (hours_between, ne_eqb from to e) refl) (eq_or_ne from to)
-
   -- where the next day's records begin, and where the day's own do
-  pub next_from : (row : List Period) → FirstFrom s at n (d + 1) (from + exceptions_of (hours_between row at from to))
-  next_from row = let e : from + exceptions_of (hours_between row at from to) ≡ to = omega (arith, from_to, between_count row) in rw e hi
+  pub next_from : FirstFrom s at n (d + 1) (from + (to - from))
+  next_from = let e : from + (to - from) ≡ to = omega (arith, from_to) in rw e hi
 
-  pub day_from : (row : List Period) → (exceptions_of (hours_between row at from to) ≤ to) × FirstFrom s at n d (to - exceptions_of (hours_between row at from to))
-  day_from row =
-      let e : to - exceptions_of (hours_between row at from to) ≡ from = omega (arith, from_to, between_count row) in
-      (omega (arith, between_count row), rw e lo)
+  pub day_from : FirstFrom s at n d (to - (to - from))
+  day_from = let e : to - (to - from) ≡ from = omega (arith, from_to) in rw e lo

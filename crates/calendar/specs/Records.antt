@@ -4,7 +4,6 @@ use Rattle.date.specs.Days.{weekday}
 use Rattle.number.specs.Bytes.{byte_at, u16_at, biased_at}
 use Rattle.calendar.specs.declared.Period.{Period}
 use Rattle.calendar.specs.declared.Hours.{Hours}
-use Rattle.calendar.specs.declared.Hours.TheVariants.{Weekday, Exceptions}
 use Rattle.calendar.specs.Hours.{none, Ordered, works}
 
 -- ---- W (6 bytes with its kind): weekday u8, from and to, u16
@@ -79,22 +78,11 @@ record_periods s at zero = []
 record_periods s at (suc i) = record_periods s at i ++ (exception_period s at i ∷ [])
 
 unfoldable pub periods_of : Hours → List ℕ → List Period
-periods_of (Weekday row) s = row
-periods_of (Exceptions at n) s = record_periods s at n
-
--- how many E records they are
-abbrev pub exceptions_of : Hours → ℕ
-exceptions_of (Weekday row) = 0
-exceptions_of (Exceptions at n) = n
-
--- those of a day whose E records are the ones from `from` up to `to`
-abbrev pub hours_between : List Period → ℕ → ℕ → ℕ → Hours
-hours_between row at from to = elim (eqb from to) [ true ↦ Weekday row | false ↦ Exceptions (at + 9 * from) (to - from) ]
+periods_of h s = elim (eqb h.n 0) [ true ↦ h.row | false ↦ record_periods s h.at h.n ]
 
 -- hours that lie within the sheet
 abbrev pub Within : Hours → List ℕ → Type 0
-Within (Weekday row) s = Unit {0}
-Within (Exceptions at n) s = at + 9 * n ≤ length s
+Within h s = h.at + 9 * h.n ≤ length s
 
 -- hours of day d in hand, by the row of its weekday: in every week with that row they are the day's
 pub record InHand (row : List Period) (s : List ℕ) (at n d : ℕ) (h : Hours) : Type 0 where

@@ -3,7 +3,7 @@
 
 ghost use Rattle.std.specs.Prelude.{◌≡◌, List, ℕ, ◌+◌, ◌-◌, ◌*◌, ◌^◌, min, max, ◌≤◌, ◌<◌, length, get_or};
 ghost use Rattle.calendar.specs.Hours.{none, rank, select, next_in, works, Ordered};
-ghost use Rattle.calendar.specs.Records.{week_periods, week_period_at, pad, week_of, round_the_clock, weekly_hours, exception_day, exception_period, hours_on, Valid, record_periods, exceptions_of, periods_of, hours_between, Within, FirstFrom, Listed, InHand};
+ghost use Rattle.calendar.specs.Records.{week_periods, week_period_at, pad, week_of, round_the_clock, weekly_hours, exception_day, exception_period, hours_on, Valid, record_periods, periods_of, Within, FirstFrom, Listed, InHand};
 
 // A work period within a day: from and to, in minutes after midnight.
 #[derive(Clone, Copy, PartialEq, Eq, Debug)]
@@ -21,23 +21,13 @@ const MANY_RECORDS: usize = 65536;
 // How many E records beside the guess are looked at one by one.
 const NEAR: usize = 8;
 
-// The hours of a day: its weekday's row, or where its `n` E records stand.
+// The hours of a day: its weekday's row, or where its `n` E records stand if it has any.
+// An enum of the two was tried, and it was slower: the row shared its bytes with `at` and `n`, and was put together again from parts.
 #[derive(Clone, Copy)]
-pub enum Hours {
-    Weekday([Period; 8]),
-    Exceptions { at: usize, n: usize },
-}
-
-impl Hours {
-    // How many E records the day has.
-    pub fn exceptions(self) -> usize
-        ensures { result ≡ exceptions_of self }
-    {
-        match self {
-            Hours::Weekday(_) => 0,
-            Hours::Exceptions { n, .. } => n,
-        }
-    }
+pub struct Hours {
+    pub row: [Period; 8],
+    pub at: usize,
+    pub n: usize,
 }
 
 // The period of W record `i`.
@@ -214,36 +204,30 @@ fn first_back(sheet: &[u8], at: usize, n: usize, d: u64, to: usize) -> usize
     0
 }
 
-// The hours of a day whose weekday's row is in hand, and whose E records are those from `from` up to `to`.
-fn hours_between(row: [Period; 8], at: usize, from: usize, to: usize) -> Hours
-    requires { (from ≤ to) × (at + 9 * from < 2 ^ 64) }
-    ensures { result ≡ hours_between row at from to }
+// The hours of day `d`, whose weekday's row is in hand, and the first E record whose day is `d` or later; so a walk forward searches no day anew.
+pub fn hours_from(row: [Period; 8], sheet: &[u8], at: usize, n: usize, d: u64, from: usize) -> Hours
+    requires { Listed sheet.now at n × FirstFrom sheet.now at n d from }
+    ensures { InHand row sheet.now at n d result × FirstFrom sheet.now at n (d + 1) (from + result.n) }
 {
-    if from == to {
-        return Hours::Weekday(row);
-    }
-    Hours::Exceptions {
+    let to = first_after(sheet, at, n, d, from);
+    Hours {
+        row,
         at: at + 9 * from,
         n: to - from,
     }
 }
 
-// The hours of day `d`, whose weekday's row is in hand, and the first E record whose day is `d` or later; so a walk forward searches no day anew.
-pub fn hours_from(row: [Period; 8], sheet: &[u8], at: usize, n: usize, d: u64, from: usize) -> Hours
-    requires { Listed sheet.now at n × FirstFrom sheet.now at n d from }
-    ensures { InHand row sheet.now at n d result × FirstFrom sheet.now at n (d + 1) (from + exceptions_of result) }
-{
-    let to = first_after(sheet, at, n, d, from);
-    hours_between(row, at, from, to)
-}
-
 // The hours of day `d`, whose weekday's row is in hand, and the first E record whose day is after `d`; so a walk back searches no day anew.
 pub fn hours_to(row: [Period; 8], sheet: &[u8], at: usize, n: usize, d: u64, to: usize) -> Hours
     requires { Listed sheet.now at n × FirstFrom sheet.now at n (d + 1) to }
-    ensures { InHand row sheet.now at n d result × (exceptions_of result ≤ to) × FirstFrom sheet.now at n d (to - exceptions_of result) }
+    ensures { InHand row sheet.now at n d result × (result.n ≤ to) × FirstFrom sheet.now at n d (to - result.n) }
 {
     let from = first_back(sheet, at, n, d, to);
-    hours_between(row, at, from, to)
+    Hours {
+        row,
+        at: at + 9 * from,
+        n: to - from,
+    }
 }
 
 // The hours of day `d`, whose weekday's row is in hand.
@@ -329,10 +313,11 @@ fn day_works(hours: Hours, sheet: &[u8]) -> bool
     requires { Within hours sheet.now }
     ensures { result ≡ works (periods_of hours sheet.now) }
 {
-    match hours {
-        Hours::Weekday(row) => works_in(&row),
-        Hours::Exceptions { at, n } => works_in(&DayRecords { sheet, at, n }),
+    let Hours { row, at, n } = hours;
+    if n == 0 {
+        return works_in(&row);
     }
+    works_in(&DayRecords { sheet, at, n })
 }
 
 // Whether some minute of day `d` is worked.
@@ -409,10 +394,11 @@ pub fn day_rank(hours: Hours, sheet: &[u8], m: u64) -> u64
         return 0;
     }
     let before = m.min(1440) as u16;
-    match hours {
-        Hours::Weekday(row) => rank_in(&row, before) as u64,
-        Hours::Exceptions { at, n } => rank_in(&DayRecords { sheet, at, n }, before) as u64,
+    let Hours { row, at, n } = hours;
+    if n == 0 {
+        return rank_in(&row, before) as u64;
     }
+    rank_in(&DayRecords { sheet, at, n }, before) as u64
 }
 
 // The minute of the day by which `k` minutes of the periods are worked.
@@ -446,10 +432,11 @@ pub fn day_select(hours: Hours, sheet: &[u8], k: u64) -> u64
     requires { Within hours sheet.now × Ordered 0 (periods_of hours sheet.now) × (0 < k) × (k ≤ rank (periods_of hours sheet.now) 1440) }
     ensures { (result ≡ select (periods_of hours sheet.now) k) × (0 < result) × (result ≤ 1440) }
 {
-    match hours {
-        Hours::Weekday(row) => select_in(&row, k),
-        Hours::Exceptions { at, n } => select_in(&DayRecords { sheet, at, n }, k),
+    let Hours { row, at, n } = hours;
+    if n == 0 {
+        return select_in(&row, k);
     }
+    select_in(&DayRecords { sheet, at, n }, k)
 }
 
 // The first minute of the periods at or after minute `m` of the day.
@@ -471,8 +458,9 @@ pub fn day_next(hours: Hours, sheet: &[u8], m: u64) -> Option<u64>
     requires { Within hours sheet.now }
     ensures { result ≡ next_in (periods_of hours sheet.now) m }
 {
-    match hours {
-        Hours::Weekday(row) => next_in(&row, m),
-        Hours::Exceptions { at, n } => next_in(&DayRecords { sheet, at, n }, m),
+    let Hours { row, at, n } = hours;
+    if n == 0 {
+        return next_in(&row, m);
     }
+    next_in(&DayRecords { sheet, at, n }, m)
 }

@@ -46,7 +46,7 @@ pub fn next_start(week: [[Period; 8]; 7], sheet: &[u8], at: usize, n: usize, t: 
             }
             None => {}
         }
-        from += hours.exceptions();
+        from += hours.n;
         d += 1;
         m = 0;
     }
@@ -71,7 +71,7 @@ pub fn previous_finish(week: [[Period; 8]; 7], sheet: &[u8], at: usize, n: usize
         if 0 < done {
             return Walk::At(d * 1440 + calendar::day_select(hours, sheet, done));
         }
-        to -= hours.exceptions();
+        to -= hours.n;
         d -= 1;
         m = 1440;
     }

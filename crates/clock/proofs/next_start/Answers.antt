@@ -51,7 +51,7 @@ pub returns-in-Some : goal.returns-in-Some
 returns-in-Some c = let f = found c in sym (next_start_at _ (omega arith) (omega arith) f.2 (omega arith))
 
 pub overflow_add-from : goal.overflow_add-from
-overflow_add-from c = omega (arith, c.exceptions-from.ensures, c.hours_from-hours.ensures.1.within)
+overflow_add-from c = omega (arith, c.hours_from-hours.ensures.1.within)
 
 pub loop-d-preserved : goal.loop-d-preserved
 loop-d-preserved c =
@@ -63,7 +63,7 @@ loop-d-preserved c =
     let none =
     day_next_none h d o c.loop-d.m (omega arith)
     (hand_next h d o _ (f.0.is a.week refl) c.loop-d.m _ _ c.day_next.ensures c.in-None.is) in
-    (omega arith, omega arith, omega arith, sym (count_next_day (worked h) d) ∙ none ∙ c.loop-d.invariant.3, rw c.exceptions-from.ensures f.1)
+    (omega arith, omega arith, omega arith, sym (count_next_day (worked h) d) ∙ none ∙ c.loop-d.invariant.3, f.1)
 
 pub returns : goal.returns
 returns c =

@@ -53,7 +53,7 @@ returns-then-done-gt0 c =
     (omega (arith, f.full, hand_rank h d o ps p c.loop-d.m _ (omega arith) r, c.loop-d.invariant.3)))
 
 pub overflow_sub-to : goal.overflow_sub-to
-overflow_sub-to c = rw c.exceptions-to.ensures c.hours_to-hours.ensures.1
+overflow_sub-to c = c.hours_to-hours.ensures.1
 
 pub loop-d-preserved : goal.loop-d-preserved
 loop-d-preserved c =
@@ -64,7 +64,7 @@ loop-d-preserved c =
     let f = c.hours_to-hours.ensures in
     let r = hand_rank h d o _ (f.0.is a.week refl) c.loop-d.m _ (omega arith) c.day_rank-done.ensures.0 in
     let e : d - 1 + 1 ≡ d = omega arith in
-    (omega arith, omega arith, omega arith, omega (arith, r, count_day_before (worked h) d (omega arith), c.loop-d.invariant.3), rw (c.exceptions-to.ensures, e) f.2)
+    (omega arith, omega arith, omega arith, omega (arith, r, count_day_before (worked h) d (omega arith), c.loop-d.invariant.3), rw e f.2)
 
 pub returns : goal.returns
 returns c =
