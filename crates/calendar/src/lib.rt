@@ -313,14 +313,11 @@ fn day_works(hours: Hours, sheet: &[u8]) -> bool
     requires { Within hours sheet.now }
     ensures { result ≡ works (periods_of hours sheet.now) }
 {
-    if hours.n == 0 {
-        return works_in(&hours.row);
+    let Hours { row, at, n } = hours;
+    if n == 0 {
+        return works_in(&row);
     }
-    works_in(&DayRecords {
-        sheet,
-        at: hours.at,
-        n: hours.n,
-    })
+    works_in(&DayRecords { sheet, at, n })
 }
 
 // Whether some minute of day `d` is worked.
@@ -397,17 +394,11 @@ pub fn day_rank(hours: Hours, sheet: &[u8], m: u64) -> u64
         return 0;
     }
     let before = m.min(1440) as u16;
-    if hours.n == 0 {
-        return rank_in(&hours.row, before) as u64;
+    let Hours { row, at, n } = hours;
+    if n == 0 {
+        return rank_in(&row, before) as u64;
     }
-    rank_in(
-        &DayRecords {
-            sheet,
-            at: hours.at,
-            n: hours.n,
-        },
-        before,
-    ) as u64
+    rank_in(&DayRecords { sheet, at, n }, before) as u64
 }
 
 // The minute of the day by which `k` minutes of the periods are worked.
@@ -441,17 +432,11 @@ pub fn day_select(hours: Hours, sheet: &[u8], k: u64) -> u64
     requires { Within hours sheet.now × Ordered 0 (periods_of hours sheet.now) × (0 < k) × (k ≤ rank (periods_of hours sheet.now) 1440) }
     ensures { (result ≡ select (periods_of hours sheet.now) k) × (0 < result) × (result ≤ 1440) }
 {
-    if hours.n == 0 {
-        return select_in(&hours.row, k);
+    let Hours { row, at, n } = hours;
+    if n == 0 {
+        return select_in(&row, k);
     }
-    select_in(
-        &DayRecords {
-            sheet,
-            at: hours.at,
-            n: hours.n,
-        },
-        k,
-    )
+    select_in(&DayRecords { sheet, at, n }, k)
 }
 
 // The first minute of the periods at or after minute `m` of the day.
@@ -473,15 +458,9 @@ pub fn day_next(hours: Hours, sheet: &[u8], m: u64) -> Option<u64>
     requires { Within hours sheet.now }
     ensures { result ≡ next_in (periods_of hours sheet.now) m }
 {
-    if hours.n == 0 {
-        return next_in(&hours.row, m);
+    let Hours { row, at, n } = hours;
+    if n == 0 {
+        return next_in(&row, m);
     }
-    next_in(
-        &DayRecords {
-            sheet,
-            at: hours.at,
-            n: hours.n,
-        },
-        m,
-    )
+    next_in(&DayRecords { sheet, at, n }, m)
 }

@@ -34,13 +34,13 @@ pub fn next_start(
     requires { Valid week sheet.now at n }
     ensures { result ≡ next_start (worked_on week sheet.now at n) t }
 {
-    let mut d = t / 1440;
+    let first = t / 1440;
     let mut m = t % 1440;
-    if d < FIRST_DAY {
+    if first < FIRST_DAY {
         return Err(ClockError::TooLong);
     }
-    let mut from = calendar::first_from(sheet, at, n, d);
-    while d <= LAST_DAY {
+    let mut from = calendar::first_from(sheet, at, n, first);
+    for d in first..=LAST_DAY {
         let row = week[((d + 1) % 7) as usize];
         let hours = calendar::hours_from(row, sheet, at, n, d, from);
         match calendar::day_next(hours, sheet, m) {
@@ -50,7 +50,6 @@ pub fn next_start(
             None => {},
         }
         from += hours.n;
-        d += 1;
         m = 0;
     }
     Err(ClockError::TooLong)
@@ -67,13 +66,13 @@ pub fn previous_finish(
     requires { Valid week sheet.now at n }
     ensures { result ≡ previous_finish (worked_on week sheet.now at n) t }
 {
-    let mut d = t / 1440;
+    let last = t / 1440;
     let mut m = t % 1440;
-    if LAST_DAY < d {
+    if LAST_DAY < last {
         return Err(ClockError::TooLong);
     }
-    let mut to = calendar::first_from(sheet, at, n, d + 1);
-    while FIRST_DAY <= d {
+    let mut to = calendar::first_from(sheet, at, n, last + 1);
+    for d in (FIRST_DAY..=last).rev() {
         let row = week[((d + 1) % 7) as usize];
         let hours = calendar::hours_to(row, sheet, at, n, d, to);
         let done = calendar::day_rank(hours, sheet, m);
@@ -81,7 +80,6 @@ pub fn previous_finish(
             return Ok(d * 1440 + calendar::day_select(hours, sheet, done));
         }
         to -= hours.n;
-        d -= 1;
         m = 1440;
     }
     Err(ClockError::TooLong)
