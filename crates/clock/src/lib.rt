@@ -46,8 +46,8 @@ pub fn next_start(
         match calendar::day_next(hours, sheet, m) {
             Some(x) => {
                 return Ok(d * 1440 + x);
-            },
-            None => {},
+            }
+            None => {}
         }
         from += hours.n;
         m = 0;

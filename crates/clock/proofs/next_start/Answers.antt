@@ -14,8 +14,8 @@ use Rattle.clock.specs.On.{worked_on}
 use Rattle.clock.specs.Days.{day_next_at, day_next_none, hand_next, count_time, count_next_day}
 use Rattle.clock.proofs.next_start.Goals as goal
 
-pub returns-then-d-lt-FIRST_DAY : goal.returns-then-d-lt-FIRST_DAY
-returns-then-d-lt-FIRST_DAY c = sym (next_start_out _ _ (years_before _ (omega arith)))
+pub returns-then-first-lt-FIRST_DAY : goal.returns-then-first-lt-FIRST_DAY
+returns-then-first-lt-FIRST_DAY c = sym (next_start_out _ _ (years_before _ (omega arith)))
 
 pub first_from-from-requires : goal.first_from-from-requires
 first_from-from-requires c = let v = c.requires in (v.long, v.sorted)

@@ -14,8 +14,8 @@ use Rattle.clock.specs.On.{worked_on}
 use Rattle.clock.specs.Days.{hand_rank, hand_select, count_time, count_day_before}
 use Rattle.clock.proofs.previous_finish.Goals as goal
 
-pub returns-then-d-gt-LAST_DAY : goal.returns-then-d-gt-LAST_DAY
-returns-then-d-gt-LAST_DAY c = sym (previous_finish_out _ _ (years_after _ (omega arith)))
+pub returns-then-last-gt-LAST_DAY : goal.returns-then-last-gt-LAST_DAY
+returns-then-last-gt-LAST_DAY c = sym (previous_finish_out _ _ (years_after _ (omega arith)))
 
 pub first_from-to-requires : goal.first_from-to-requires
 first_from-to-requires c = let v = c.requires in (v.long, v.sorted)

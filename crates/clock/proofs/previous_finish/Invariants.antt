@@ -12,6 +12,3 @@ abbrev pub invariant-loop-d : goal.invariant-loop-d
 invariant-loop-d l =
     (l.d < end_day) × (l.t < end_minute) × (l.m ≤ 1440) × (count (worked_on l.week l.sheet l.at l.n) (l.d * 1440 + l.m) ≡ count (worked_on l.week l.sheet l.at l.n) l.t)
     × FirstFrom l.sheet l.at l.n (l.d + 1) l.to
-
-abbrev pub decreases-loop-d : goal.decreases-loop-d
-decreases-loop-d l = l.d
