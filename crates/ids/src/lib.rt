@@ -55,6 +55,7 @@ fn seek(sheet: &[u8], contents: Contents, work: &[i64], n: usize, id: u64) -> Re
     }
     let mut j = first - 1;
     let mut rest = id / a as u64;
+    // The next one stands in the memory, so no range or slice has them.
     loop {
         if activity_fields::id_of(sheet, contents, j) == id {
             return Ok(j);

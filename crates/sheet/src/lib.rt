@@ -59,6 +59,7 @@ fn read_calendars(sheet: &[u8]) -> Result<CalendarsEnd, SheetError>
 {
     let mut at: usize = 21;
     let mut k: usize = 0;
+    // Where a calendar ends is known only once its records are read, so no range or iterator has the places.
     while runs::kind_at(sheet, at) == b'C' {
         if sheet.len() - at < 3 {
             return Err(SheetError::Malformed);
