@@ -7,8 +7,6 @@ ghost use Rattle.project.specs.Fields.{calendar_size};
 ghost use Rattle.judges.specs.Judging.{sheet_number, judged, judge_calendar, period_ok, week_after, judge_week, no_work, exception_after, judge_exception, judge_activity, judge_link};
 
 use calendar::Period;
-use std::error::Error;
-use std::fmt;
 
 // Why a sheet is refused.
 #[derive(Clone, Copy, Debug, PartialEq, Eq)]
@@ -33,23 +31,6 @@ impl SheetError {
         }
     }
 }
-
-impl fmt::Display for SheetError {
-    fn fmt<W: fmt::Write>(&self, f: &mut fmt::Formatter<W>) -> fmt::Result {
-        match self {
-            SheetError::Malformed => {
-                write!(
-                    f,
-                    "an unknown kind, a cut record, a wrong order, no P or no C"
-                )
-            }
-            SheetError::OutOfRange => write!(f, "a field out of its range"),
-            SheetError::BeyondLimit => write!(f, "a record beyond a limit"),
-        }
-    }
-}
-
-impl Error for SheetError {}
 
 fn verdict(beyond: bool, ok: bool) -> Result<(), SheetError>
     ensures { result ≡ judged beyond ok }
