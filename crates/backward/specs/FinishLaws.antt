@@ -38,11 +38,8 @@ module _ (s : List ℕ) (c : Contents) (S : State) (i : ℕ) (b : i < c.activiti
 pub onward_summary : (b : Bool) (ef top : ℕ) → b ≡ true → onward b ef top ≡ top
 onward_summary b ef top e = rw e
 
-pub onward_later : (b : Bool) (ef top : ℕ) → b ≡ false → top < ef + 1 → onward b ef top ≡ ef + 1
-onward_later b ef top e h = let m : max top (ef + 1) ≡ ef + 1 = omega arith in ap (λ (x : Bool). onward x ef top) e ∙ m
-
-pub onward_before : (b : Bool) (ef top : ℕ) → b ≡ false → ef + 1 ≤ top → onward b ef top ≡ top
-onward_before b ef top e h = let m : max top (ef + 1) ≡ top = omega arith in ap (λ (x : Bool). onward x ef top) e ∙ m
+pub onward_met : (b : Bool) (ef top : ℕ) → b ≡ false → onward b ef top ≡ max top (ef + 1)
+onward_met b ef top e = rw e
 
 module _ (p : Plan) (d : Early) where
   pub one_none : 0 ≡ greatest_one p d 0

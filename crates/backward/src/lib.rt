@@ -31,12 +31,10 @@ fn finish_onward(sheet: &[u8], contents: Contents, work: &[i64], i: usize, top: 
     let l = contents.links;
     if memory::get_act(work, a, l, i, memory::fields::IS_SUMMARY) == 0 {
         let next = memory::get_act(work, a, l, i, memory::fields::EARLY_FINISH) + 1;
-        if top < next {
-            return next;
-        }
-        return top;
+        top.max(next)
+    } else {
+        top
     }
-    top
 }
 
 // The greatest early finish of the activities that are no summaries, and the project's start where there is none.
@@ -45,10 +43,8 @@ pub fn greatest_finish(sheet: &[u8], contents: Contents, work: &[i64]) -> u64
     ensures { (result ≡ finish (plan_of sheet.now contents) (early_in (plan_of sheet.now contents) (state_of contents.activities contents.links work.now))) × (result < 2 ^ 63) }
 {
     let mut top: u64 = 0;
-    let mut i: usize = 0;
-    while i < contents.activities {
+    for i in 0..contents.activities {
         top = finish_onward(sheet, contents, work, i, top);
-        i += 1;
     }
     if top > 0 {
         return top - 1;
@@ -152,11 +148,9 @@ fn backward_all(
 {
     let a = contents.activities;
     let l = contents.links;
-    let mut q: usize = 0;
-    while q < a {
-        let i = memory::get_act(work, a, l, a - (q + 1), memory::fields::ORDER_AT) as usize;
+    for q in (0..a).rev() {
+        let i = memory::get_act(work, a, l, q, memory::fields::ORDER_AT) as usize;
         backward_one(sheet, contents, places, t, work, last, i)?;
-        q += 1;
     }
     Ok(())
 }

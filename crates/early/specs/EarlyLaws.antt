@@ -1,7 +1,7 @@
 -- One law for each way out of the functions of one activity's early dates.
-use Rattle.std.specs.Prelude.{◌≡◌, Bool, true, false, Result, Ok, Err, Option, Some, None}
+use Rattle.std.specs.Prelude.{◌≡◌, ◌⊎◌, Bool, true, false, Result, Ok, Err, Option, Some, None}
 use Rattle.worktime.specs.declared.ClockError.{ClockError}
-use Rattle.std.proofs.Common.{sym, ap₂, ◌∙◌, arith}
+use Rattle.std.proofs.Common.{sym, ap₂, ◌∙◌, inl, inr, arith}
 use Rattle.std.proofs.Math.Path.{ap}
 use Prim.Native.Nat.{ℕ, ◌+◌, ◌^◌, ◌<◌, max}
 use Rattle.worktime.specs.Walks.{previous_finish, between}
@@ -57,44 +57,35 @@ module _ {p : Plan} {times : Times} (T : IsTimes p times) (d : Early) (s start :
 module _ {p : Plan} {d : Early} {i : ℕ} {activity : Activity} {w : ℕ → Bool} {left : ℕ} (H : InHand p d i activity w left) where
   -- ---- the start by a constraint's time
   module _ (c : Constraint) (t start : ℕ) where
-    pub early_unconstrained : c ≡ Unconstrained → at_early p d i c t start ≡ Ok start
-    early_unconstrained e = rw e
+    pub early_stays : (c ≡ Unconstrained) ⊎ (((x : Date) × (c ≡ StartOnOrBefore x)) ⊎ (((x : Date) × (c ≡ FinishOnOrBefore x)) ⊎ (c ≡ AsLateAsPossible)))
+        → at_early p d i c t start ≡ Ok start
+    early_stays (inl e) = rw e
+    early_stays (inr (inl (x, e))) = rw e
+    early_stays (inr (inr (inl (x, e)))) = rw e
+    early_stays (inr (inr (inr e))) = rw e
 
-    pub early_late : c ≡ AsLateAsPossible → at_early p d i c t start ≡ Ok start
-    early_late e = rw e
+    pub early_start : ((x : Date) × (c ≡ StartOnOrAfter x)) ⊎ ((x : Date) × (c ≡ StartOn x)) → at_early p d i c t start ≡ Ok (max start t)
+    early_start (inl (x, e)) = rw e
+    early_start (inr (x, e)) = rw e
 
-    module _ (x : Date) where
-      pub early_start_before : c ≡ StartOnOrBefore x → at_early p d i c t start ≡ Ok start
-      early_start_before e = rw e
+    pub early_mandatory_start : (x : Date) (f : ℕ) → f ≡ floor p → c ≡ MandatoryStart x → at_early p d i c t start ≡ Ok (max t f)
+    early_mandatory_start x f q e = rw (e, q)
 
-      pub early_finish_before : c ≡ FinishOnOrBefore x → at_early p d i c t start ≡ Ok start
-      early_finish_before e = rw e
+    module _ {walk : Result ℕ ClockError} (a : walk ≡ start_for_finish w left t) where
+      start_is : walk ≡ start_for_finish (own p i) (d.left i) t
+      start_is = a ∙ ap₂ (λ (v : ℕ → Bool) (m : ℕ). start_for_finish v m t) (sym H.own_is) H.left_is
 
-      pub early_start_after : c ≡ StartOnOrAfter x → at_early p d i c t start ≡ Ok (max start t)
-      early_start_after e = rw e
+      raised : via Err (start_for_finish (own p i) (d.left i) t) (λ s. Ok (max start s)) ≡ via Err walk (λ s. Ok (max start s))
+      raised = ap (λ (y : Result ℕ ClockError). via Err y (λ s. Ok (max start s))) (sym start_is)
 
-      pub early_start_on : c ≡ StartOn x → at_early p d i c t start ≡ Ok (max start t)
-      early_start_on e = rw e
+      pub early_finish : ((x : Date) × (c ≡ FinishOnOrAfter x)) ⊎ ((x : Date) × (c ≡ FinishOn x)) → at_early p d i c t start ≡ via Err walk (λ s. Ok (max start s))
+      early_finish (inl (x, e)) = ap (λ (k : Constraint). at_early p d i k t start) e ∙ raised
+      early_finish (inr (x, e)) = ap (λ (k : Constraint). at_early p d i k t start) e ∙ raised
 
-      pub early_mandatory_start : (f : ℕ) → f ≡ floor p → c ≡ MandatoryStart x → at_early p d i c t start ≡ Ok (max t f)
-      early_mandatory_start f q e = rw (e, q)
-
-      module _ {walk : Result ℕ ClockError} (a : walk ≡ start_for_finish w left t) where
-        start_is : walk ≡ start_for_finish (own p i) (d.left i) t
-        start_is = a ∙ ap₂ (λ (v : ℕ → Bool) (m : ℕ). start_for_finish v m t) (sym H.own_is) H.left_is
-
-        pub early_finish_after : c ≡ FinishOnOrAfter x → at_early p d i c t start ≡ via Err walk (λ s. Ok (max start s))
-        early_finish_after e =
-            ap (λ (k : Constraint). at_early p d i k t start) e ∙ ap (λ (y : Result ℕ ClockError). via Err y (λ s. Ok (max start s))) (sym start_is)
-
-        pub early_finish_on : c ≡ FinishOn x → at_early p d i c t start ≡ via Err walk (λ s. Ok (max start s))
-        early_finish_on e =
-            ap (λ (k : Constraint). at_early p d i k t start) e ∙ ap (λ (y : Result ℕ ClockError). via Err y (λ s. Ok (max start s))) (sym start_is)
-
-        pub early_mandatory_finish : (f : ℕ) → f ≡ floor p → c ≡ MandatoryFinish x → at_early p d i c t start ≡ via Err walk (λ s. Ok (max f s))
-        early_mandatory_finish f q e =
-            ap (λ (k : Constraint). at_early p d i k t start) e ∙ ap (λ (y : Result ℕ ClockError). via Err y (λ s. Ok (max s (floor p)))) (sym start_is)
-            ∙ (λ z. via Err walk (λ s. Ok (max_swap s (floor p) z))) ∙ ap (λ (v : ℕ). via Err walk (λ s. Ok (max v s))) (sym q)
+      pub early_mandatory_finish : (x : Date) (f : ℕ) → f ≡ floor p → c ≡ MandatoryFinish x → at_early p d i c t start ≡ via Err walk (λ s. Ok (max f s))
+      early_mandatory_finish x f q e =
+          ap (λ (k : Constraint). at_early p d i k t start) e ∙ ap (λ (y : Result ℕ ClockError). via Err y (λ s. Ok (max s (floor p)))) (sym start_is)
+          ∙ (λ z. via Err walk (λ s. Ok (max_swap s (floor p) z))) ∙ ap (λ (v : ℕ). via Err walk (λ s. Ok (max v s))) (sym q)
 
   -- ---- the start by a constraint
   module _ (c : Constraint) (start : ℕ) {m : Result (Option ℕ) ClockError} (e : m ≡ constraint_time w (on_start c)) where
@@ -220,11 +211,9 @@ module _ {p : Plan} {d : Early} {i : ℕ} {activity : Activity} {w : ℕ → Boo
           by_kind ∙ ap (λ (a : ActivityKind). work_to p d i s (expected_on p d i a)) k
           ∙ ap (λ (a : Activity). work_to p d i s a.expected_finish) (sym H.activity_is)
 
-      pub minutes_start : activity.kind ≡ StartMilestone → minutes_from p d i s ≡ Ok left
-      minutes_start k = by_kind ∙ ap (λ (a : ActivityKind). work_to p d i s (expected_on p d i a)) k ∙ ap Ok (sym H.left_is)
-
-      pub minutes_finish : activity.kind ≡ FinishMilestone → minutes_from p d i s ≡ Ok left
-      minutes_finish k = by_kind ∙ ap (λ (a : ActivityKind). work_to p d i s (expected_on p d i a)) k ∙ ap Ok (sym H.left_is)
+      pub minutes_milestone : (activity.kind ≡ StartMilestone) ⊎ (activity.kind ≡ FinishMilestone) → minutes_from p d i s ≡ Ok left
+      minutes_milestone (inl k) = by_kind ∙ ap (λ (a : ActivityKind). work_to p d i s (expected_on p d i a)) k ∙ ap Ok (sym H.left_is)
+      minutes_milestone (inr k) = by_kind ∙ ap (λ (a : ActivityKind). work_to p d i s (expected_on p d i a)) k ∙ ap Ok (sym H.left_is)
 
   -- ---- the placing
   module _ (start : ℕ) {x : Result ℕ ClockError} (f : x ≡ place_start w activity.kind start) where

@@ -37,22 +37,12 @@ pub struct Placement {
     pub left: u64,
 }
 
-// The later of two times.
-fn later(a: u64, b: u64) -> u64
-    ensures { result ≡ max a b }
-{
-    if a < b {
-        return b;
-    }
-    a
-}
-
 // A walk's answer, but not before `least`.
 fn raised_to(walk: Result<u64, ClockError>, least: u64) -> Result<u64, ClockError>
     ensures { result ≡ via Err walk (λ s. Ok (max least s)) }
 {
     let s = walk?;
-    Ok(later(least, s))
+    Ok(least.max(s))
 }
 
 // ---- constraints of work that has not begun
@@ -74,25 +64,20 @@ fn at_early(
     ensures { (p : Plan) (d : Early) (i : ℕ) → InHand p d i activity (worked_on week sheet.now at n) left → IsTimes p times → result ≡ at_early p d i constraint t start }
 {
     match constraint {
-        Constraint::Unconstrained => Ok(start),
-        Constraint::StartOnOrAfter(_) => Ok(later(start, t)),
-        Constraint::StartOnOrBefore(_) => Ok(start),
-        Constraint::FinishOnOrAfter(_) => {
+        Constraint::Unconstrained
+        | Constraint::StartOnOrBefore(_)
+        | Constraint::FinishOnOrBefore(_)
+        | Constraint::AsLateAsPossible => Ok(start),
+        Constraint::StartOnOrAfter(_) | Constraint::StartOn(_) => Ok(start.max(t)),
+        Constraint::FinishOnOrAfter(_) | Constraint::FinishOn(_) => {
             let walk = placing::start_for_finish(activity, week, sheet, at, n, left, t);
             raised_to(walk, start)
         }
-        Constraint::FinishOnOrBefore(_) => Ok(start),
-        Constraint::StartOn(_) => Ok(later(start, t)),
-        Constraint::FinishOn(_) => {
-            let walk = placing::start_for_finish(activity, week, sheet, at, n, left, t);
-            raised_to(walk, start)
-        }
-        Constraint::MandatoryStart(_) => Ok(later(t, times.floor)),
+        Constraint::MandatoryStart(_) => Ok(t.max(times.floor)),
         Constraint::MandatoryFinish(_) => {
             let walk = placing::start_for_finish(activity, week, sheet, at, n, left, t);
             raised_to(walk, times.floor)
         }
-        Constraint::AsLateAsPossible => Ok(start),
     }
 }
 
@@ -241,7 +226,7 @@ fn work_to(
         Some(x) => {
             let e = clock::previous_finish(week, sheet, at, n, x.midnight() + 1440)?;
             let b = placing::bounded(times.origin, e)?;
-            let work = clock::between(week, sheet, at, n, s, later(b, s));
+            let work = clock::between(week, sheet, at, n, s, b.max(s));
             counted(work)
         }
         None => Ok(left),
@@ -266,14 +251,12 @@ fn minutes_from(
     if is_summary {
         return Ok(left);
     }
-    let kind = activity.kind;
-    match kind {
+    match activity.kind {
         ActivityKind::Task => {
             let expected = activity.expected_finish;
             work_to(activity, week, sheet, at, n, left, times, s, expected)
         }
-        ActivityKind::StartMilestone => Ok(left),
-        ActivityKind::FinishMilestone => Ok(left),
+        ActivityKind::StartMilestone | ActivityKind::FinishMilestone => Ok(left),
     }
 }
 

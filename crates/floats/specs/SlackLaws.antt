@@ -1,17 +1,18 @@
 -- The plain forms are the definition's: free float in two stages, and the way laws of each.
-use Rattle.std.specs.Prelude.{◌≡◌, Bool, true, false, ℕ, eqb, ℤ, Result, Ok, Err}
+use Rattle.std.specs.Prelude.{◌≡◌, ◌⊎◌, Bool, true, false, ℕ, eqb, ℤ, Result, Ok, Err}
 use Rattle.floats.specs.Slack.{moved_to}
 use Rattle.worktime.specs.declared.ClockError.{ClockError}
 use Rattle.std.proofs.Math.Path.{refl, sym}
-use Rattle.std.proofs.Common.{ap, ◌∙◌, eq-eqb, ne_eqb}
+use Rattle.std.proofs.Common.{ap, ◌∙◌, inl, inr, eq-eqb, ne_eqb}
 use mathlib.Core.List.{List, [], ◌∷◌}
 use Rattle.number.specs.Sign.{min_z}
+use Rattle.number.specs.Zed.{up}
 use Rattle.worktime.specs.Walks.{advance, retreat, between}
 use Rattle.worktime.specs.Reads.{on_true, on_false}
 use Rattle.project.specs.declared.ActivityKind.{ActivityKind}
 use Rattle.project.specs.declared.Constraint.{Constraint}
 use Rattle.placing.specs.declared.Actual.{Actual}
-use Rattle.placing.specs.declared.Actual.TheVariants.{Unstarted}
+use Rattle.placing.specs.declared.Actual.TheVariants.{Unstarted, Begun, Completed}
 use Rattle.placing.specs.Placing.{via, place_start, finish_of}
 use Rattle.placing.proofs.PlacingLaws.{via_at, via_refused}
 use Rattle.cells.specs.Chain.{gather}
@@ -20,7 +21,7 @@ use Rattle.order.specs.Ids.{summary}
 use Rattle.passes.specs.Plan.{own, tie, ties_out, kind_of, recorded, begun}
 use Rattle.passes.specs.Dates.{Early, Late, Freed, Pass, leaves, refused, put}
 use Rattle.passes.specs.Forward.{forward_bound, early}
-use Rattle.passes.specs.Floats.{measured, is_late, gap, slack_by, not_begun, holds_late, held_start, held_move, free_by, freed, free_float}
+use Rattle.passes.specs.Floats.{measured, is_late, gap, slack_by, holds_late, held_start, held_move, free_by, freed, free_float}
 use Rattle.floats.specs.Slack.{marked_late, start_moved, dates_moved, on_moved, gap_by, gap_of, least_slack, slack_of, free_of}
 
 -- ---- what follows a count
@@ -123,9 +124,18 @@ module _ (p : Plan) (d : Early) (actual : Actual) (first second : Constraint) wh
   unfolding marked_late
   marked_second e f = rw (e, f)
 
-  pub marked_begun : not_begun p d actual ≡ false → marked_late p d actual first second ≡ false
+  pub marked_begun : ((s : ℕ) × (actual ≡ Begun s)) ⊎ (((s : ℕ) × (f : ℕ) × (actual ≡ Completed s f)) ⊎ ((k : ClockError) × (actual ≡ Actual.Refused k)))
+      → marked_late p d actual first second ≡ false
   unfolding marked_late
-  marked_begun e = rw e
+  marked_begun (inl (s, e)) = rw e
+  marked_begun (inr (inl (s, f, e))) = rw e
+  marked_begun (inr (inr (k, e))) = rw e
+
+-- ---- the free float of work that is not completed
+pub free_left : (p : Plan) (d : Early) (actual : Actual) (slack total : ℤ) → (actual ≡ Unstarted) ⊎ ((s : ℕ) × (actual ≡ Begun s))
+    → free_by p d actual slack total ≡ up (min_z slack total)
+free_left p d actual slack total (inl e) = rw e
+free_left p d actual slack total (inr (s, e)) = rw e
 
 -- ---- the moved start and dates, by their ways
 module _ (w : ℕ → Bool) (kind : ActivityKind) (es ef left n : ℕ) where

@@ -38,18 +38,7 @@ struct Moved {
 fn is_late(constraint: Constraint) -> bool
     ensures { result ≡ is_late constraint }
 {
-    match constraint {
-        Constraint::Unconstrained => false,
-        Constraint::StartOnOrAfter(_) => false,
-        Constraint::StartOnOrBefore(_) => false,
-        Constraint::FinishOnOrAfter(_) => false,
-        Constraint::FinishOnOrBefore(_) => false,
-        Constraint::StartOn(_) => false,
-        Constraint::FinishOn(_) => false,
-        Constraint::MandatoryStart(_) => false,
-        Constraint::MandatoryFinish(_) => false,
-        Constraint::AsLateAsPossible => true,
-    }
+    matches!(constraint, Constraint::AsLateAsPossible)
 }
 
 // Whether an activity is marked "as late as possible" in either constraint and has not begun.
@@ -57,15 +46,8 @@ fn is_marked_late(actual: Actual, first: Constraint, second: Constraint) -> bool
     ensures { (p : Plan) (d : Early) → result ≡ marked_late p d actual first second }
 {
     match actual {
-        Actual::Unstarted => {
-            if is_late(first) {
-                return true;
-            }
-            is_late(second)
-        }
-        Actual::Begun(_) => false,
-        Actual::Completed(_, _) => false,
-        Actual::Refused(_) => false,
+        Actual::Unstarted => is_late(first) || is_late(second),
+        Actual::Begun(_) | Actual::Completed(_, _) | Actual::Refused(_) => false,
     }
 }
 
@@ -74,10 +56,10 @@ fn free_by(actual: Actual, slack: i64, total: i64) -> u64
     ensures { ((p : Plan) (d : Early) → result ≡ free_by p d actual slack total) × (result < 2 ^ 63) }
 {
     match actual {
-        Actual::Unstarted => number::sign::upward(number::sign::min(slack, total)),
-        Actual::Begun(_) => number::sign::upward(number::sign::min(slack, total)),
-        Actual::Completed(_, _) => 0,
-        Actual::Refused(_) => 0,
+        Actual::Unstarted | Actual::Begun(_) => {
+            number::sign::upward(number::sign::min(slack, total))
+        }
+        Actual::Completed(_, _) | Actual::Refused(_) => 0,
     }
 }
 
@@ -133,10 +115,12 @@ fn target_field(kind: RelationshipType) -> usize
     ensures { ((p : Plan) → result ≡ target_of p kind early_start early_finish) × (result < 64) }
 {
     match kind {
-        RelationshipType::FinishToStart => memory::fields::EARLY_START,
-        RelationshipType::StartToStart => memory::fields::EARLY_START,
-        RelationshipType::FinishToFinish => memory::fields::EARLY_FINISH,
-        RelationshipType::StartToFinish => memory::fields::EARLY_FINISH,
+        RelationshipType::FinishToStart | RelationshipType::StartToStart => {
+            memory::fields::EARLY_START
+        }
+        RelationshipType::FinishToFinish | RelationshipType::StartToFinish => {
+            memory::fields::EARLY_FINISH
+        }
     }
 }
 
@@ -189,6 +173,7 @@ fn least_slack(
     let l = contents.links;
     let mut least = slack;
     let mut k = memory::get_act(work, a, l, i, memory::fields::FIRST_OUT) as usize;
+    // A `while`: the next link is read from the memory, so no range has the links.
     while k < t {
         let gap = gap_at(
             sheet, contents, places, t, work, k, start, finish, week, at, n,
@@ -377,17 +362,10 @@ fn free_each(
     ensures { ((e : ℕ) → ended (freed_in (plan_of sheet.now contents) (state_of contents.activities contents.links work.new)) result ≡ through (free_float (plan_of sheet.now contents) finish (late_in (plan_of sheet.now contents) (state_of contents.activities contents.links work.old) e)) (reverse (order (plan_of sheet.now contents))) (freed_in (plan_of sheet.now contents) (state_of contents.activities contents.links work.old))) × Frame 12 16 0 0 (state_of contents.activities contents.links work.old) (state_of contents.activities contents.links work.new) × (length work.new ≡ length work.old) }
 {
     let a = contents.activities;
-    let mut q: usize = 0;
-    while q < a {
-        let i = memory::get_act(
-            work,
-            a,
-            contents.links,
-            a - (q + 1),
-            memory::fields::ORDER_AT,
-        ) as usize;
+    let l = contents.links;
+    for q in (0..a).rev() {
+        let i = memory::get_act(work, a, l, q, memory::fields::ORDER_AT) as usize;
         free_at(sheet, contents, places, t, work, finish, i)?;
-        q += 1;
     }
     Ok(())
 }

@@ -1,5 +1,5 @@
 -- The links into an activity: the start that each leaves, the walk along them, and the placing after them.
-use Rattle.std.specs.Prelude.{◌≡◌, ℕ, ◌≤◌, ◌<◌, max, Result, Ok, Err}
+use Rattle.std.specs.Prelude.{◌≡◌, ℕ, max, Result, Ok, Err}
 use Rattle.worktime.specs.declared.ClockError.{ClockError}
 use Rattle.std.proofs.Math.Path.{refl}
 use Rattle.std.proofs.Common.{sym, ap, ap₂, ◌∙◌, arith}
@@ -42,11 +42,8 @@ module _ (p : Plan) (d : Early) (i : ℕ) where
     abbrev raised_by : Result ℕ ClockError
     raised_by = via Err (link_start p d i k) (λ s. Ok (max start s))
 
-    pub raised_later : (s : ℕ) → x ≡ Ok s → start < s → raised_by ≡ Ok s
-    raised_later s a l = let m : max start s ≡ s = omega arith in goes_on_lem Err (λ s. Ok (max start s)) e a ∙ ap Ok m
-
-    pub raised_same : (s : ℕ) → x ≡ Ok s → s ≤ start → raised_by ≡ Ok start
-    raised_same s a l = let m : max start s ≡ start = omega arith in goes_on_lem Err (λ s. Ok (max start s)) e a ∙ ap Ok m
+    pub raised_found : (s : ℕ) → x ≡ Ok s → raised_by ≡ Ok (max start s)
+    raised_found s a = goes_on_lem Err (λ s. Ok (max start s)) e a
 
     pub raised_refused : (r : ClockError) → x ≡ Err r → raised_by ≡ Err r
     raised_refused r a = stops Err (λ s. Ok (max start s)) e a

@@ -72,10 +72,7 @@ fn raised_by(
     let s = link_start(
         sheet, contents, places, t, work, k, activity, week, at, n, left,
     )?;
-    if start < s {
-        return Ok(s);
-    }
-    Ok(start)
+    Ok(start.max(s))
 }
 
 // `floor`, raised by each kept link into activity `i`, in rising order.
@@ -100,6 +97,7 @@ fn raise(
     let l = contents.links;
     let mut start = floor;
     let mut k = memory::get_act(work, a, l, i, memory::fields::FIRST_IN) as usize;
+    // A `while`: the next link is read from the memory, so no range has the links.
     while k < t {
         let s = raised_by(
             sheet, contents, places, t, work, k, activity, week, at, n, left, start,
@@ -245,11 +243,9 @@ fn forward_all(
 {
     let a = contents.activities;
     let l = contents.links;
-    let mut q: usize = 0;
-    while q < a {
+    for q in 0..a {
         let i = memory::get_act(work, a, l, q, memory::fields::ORDER_AT) as usize;
         forward_one(sheet, contents, places, t, work, i)?;
-        q += 1;
     }
     Ok(())
 }

@@ -1,14 +1,16 @@
 -- One law for each way through an activity's late constraints.
-use Rattle.std.specs.Prelude.{◌≡◌, true, false, ℕ, Result, Ok, Err, Option, Some, None}
+use Rattle.std.specs.Prelude.{◌≡◌, ◌⊎◌, true, false, ℕ, min, Result, Ok, Err, Option, Some, None}
 use Rattle.worktime.specs.declared.ClockError.{ClockError}
-use Rattle.std.proofs.Common.{sym, ◌∙◌}
+use Rattle.std.proofs.Common.{sym, ◌∙◌, inl, inr}
 use Rattle.std.proofs.Math.Path.{ap}
 use Rattle.worktime.specs.Reads.{on_true, on_false}
+use Rattle.date.specs.declared.Date.{Date}
 use Rattle.project.specs.declared.Constraint.{Constraint}
+use Rattle.project.specs.declared.Constraint.TheVariants.{StartOnOrBefore, StartOn}
 use Rattle.project.specs.Status.{on_start, bounds_start}
 use Rattle.placing.specs.declared.Actual.{Actual}
 use Rattle.placing.specs.declared.Actual.TheVariants.{Unstarted, Begun, Completed}
-use Rattle.placing.specs.Placing.{via, bounded, constraint_time}
+use Rattle.placing.specs.Placing.{via, bounded, constraint_time, finish_for_start_by}
 use Rattle.placing.proofs.PlacingLaws.{via_at, via_refused}
 use Rattle.order.specs.Plan.{Plan}
 use Rattle.order.specs.Ids.{summary}
@@ -20,6 +22,11 @@ use Rattle.passes.specs.Backward.{at_late, limited, limited_by, held_late}
 module _ (p : Plan) (d : Early) (l : Late) (i : ℕ) where
   -- ---- one constraint
   module _ (c : Constraint) (latest : ℕ) where
+    pub late_start : (t : ℕ) → ((x : Date) × (c ≡ StartOnOrBefore x)) ⊎ ((x : Date) × (c ≡ StartOn x))
+        → at_late p d l i c t latest ≡ via Err (finish_for_start_by (own p i) (d.left i) t) (λ f. Ok (min latest f))
+    late_start t (inl (x, e)) = rw e
+    late_start t (inr (x, e)) = rw e
+
     pub limited_at : (t b : ℕ) → constraint_time (own p i) (on_start c) ≡ (Ok (Some t)) → bounded (origin p) t ≡ Ok b → limited p d l i c latest ≡ at_late p d l i c b latest
     unfolding limited
     limited_at t b e f = ap (λ (m : Result (Option ℕ) ClockError). on_time p d m (Ok latest) (λ t. at_late p d l i c t latest)) e ∙ via_at Err _ _ b f

@@ -1,7 +1,7 @@
 // The late dates of one activity: the finish that its links and constraints leave, and where its work then begins and ends.
 #![tactic(auto)]
 
-ghost use Rattle.std.specs.Prelude.{◌≡◌, ℕ, ◌^◌, ◌<◌, min, Ok};
+ghost use Rattle.std.specs.Prelude.{◌≡◌, ℕ, ◌^◌, ◌<◌, Ok};
 ghost use Rattle.calendar.specs.Records.{Valid};
 ghost use Rattle.clock.specs.On.{worked_on};
 ghost use Rattle.memory.specs.State.{state_of};
@@ -38,16 +38,6 @@ pub struct Unfinished {
 pub struct LateDates {
     pub start: u64,
     pub finish: u64,
-}
-
-// The earlier of two times.
-pub fn earlier(a: u64, b: u64) -> u64
-    ensures { result ≡ min a b }
-{
-    if a < b {
-        return a;
-    }
-    b
 }
 
 // A late finish before the early one that is the same moment is lifted to it.

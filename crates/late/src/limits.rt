@@ -36,7 +36,7 @@ fn start_limit(
         unfinished.left,
         t,
     )?;
-    Ok(crate::earlier(latest, f))
+    Ok(latest.min(f))
 }
 
 // What a constraint whose time is `t` leaves of `latest`.
@@ -52,13 +52,14 @@ fn limit_at(
     ensures { (p : Plan) (d : Early) (l : Late) (i : ℕ) → IsUnfinished p d i (worked_on week sheet.now unfinished.at unfinished.n) unfinished → result ≡ at_late p d l i constraint t latest }
 {
     match constraint {
-        Constraint::Unconstrained => Ok(latest),
-        Constraint::StartOnOrAfter(_) => Ok(latest),
-        Constraint::StartOnOrBefore(_) => start_limit(week, sheet, unfinished, t, latest),
-        Constraint::FinishOnOrAfter(_) => Ok(latest),
-        Constraint::FinishOnOrBefore(_) => Ok(crate::earlier(latest, t)),
-        Constraint::StartOn(_) => start_limit(week, sheet, unfinished, t, latest),
-        Constraint::FinishOn(_) => Ok(crate::earlier(latest, t)),
+        Constraint::Unconstrained
+        | Constraint::StartOnOrAfter(_)
+        | Constraint::FinishOnOrAfter(_)
+        | Constraint::AsLateAsPossible => Ok(latest),
+        Constraint::StartOnOrBefore(_) | Constraint::StartOn(_) => {
+            start_limit(week, sheet, unfinished, t, latest)
+        }
+        Constraint::FinishOnOrBefore(_) | Constraint::FinishOn(_) => Ok(latest.min(t)),
         Constraint::MandatoryStart(_) => placing::finish_for_start_by(
             unfinished.activity,
             week,
@@ -69,7 +70,6 @@ fn limit_at(
             t,
         ),
         Constraint::MandatoryFinish(_) => Ok(t),
-        Constraint::AsLateAsPossible => Ok(latest),
     }
 }
 

@@ -99,10 +99,8 @@ fn target(kind: RelationshipType, start: u64, finish: u64) -> u64
     ensures { result ≡ target_of kind start finish }
 {
     match kind {
-        RelationshipType::FinishToStart => start,
-        RelationshipType::StartToStart => start,
-        RelationshipType::FinishToFinish => finish,
-        RelationshipType::StartToFinish => finish,
+        RelationshipType::FinishToStart | RelationshipType::StartToStart => start,
+        RelationshipType::FinishToFinish | RelationshipType::StartToFinish => finish,
     }
 }
 
@@ -118,26 +116,18 @@ fn finish_by(
     ensures { result ≡ finish_by (worked_on week sheet.now unfinished.at unfinished.n) unfinished.left kind v }
 {
     match kind {
-        RelationshipType::FinishToStart => Ok(v),
-        RelationshipType::StartToStart => placing::finish_for_start(
-            unfinished.activity,
-            week,
-            sheet,
-            unfinished.at,
-            unfinished.n,
-            unfinished.left,
-            v,
-        ),
-        RelationshipType::FinishToFinish => Ok(v),
-        RelationshipType::StartToFinish => placing::finish_for_start(
-            unfinished.activity,
-            week,
-            sheet,
-            unfinished.at,
-            unfinished.n,
-            unfinished.left,
-            v,
-        ),
+        RelationshipType::FinishToStart | RelationshipType::FinishToFinish => Ok(v),
+        RelationshipType::StartToStart | RelationshipType::StartToFinish => {
+            placing::finish_for_start(
+                unfinished.activity,
+                week,
+                sheet,
+                unfinished.at,
+                unfinished.n,
+                unfinished.left,
+                v,
+            )
+        }
     }
 }
 
@@ -185,9 +175,10 @@ pub fn lower(
     let l = contents.links;
     let mut latest = last;
     let mut k = memory::get_act(work, a, l, i, memory::fields::FIRST_OUT) as usize;
+    // A `while`: the next link is read from the memory, so no range has the links.
     while k < t {
         let f = link_finish(sheet, contents, places, t, work, mine, week, unfinished, k)?;
-        latest = crate::earlier(latest, f);
+        latest = latest.min(f);
         k = memory::get_link(work, a, l, k, memory::fields::NEXT_OUT) as usize;
     }
     Ok(latest)

@@ -1,5 +1,5 @@
 -- Whether a link sets the start of its successor, by where its bound places it.
-use Rattle.std.specs.Prelude.{◌≡◌, refl, Bool, true, ◌&&◌, ◌≢◌, ℕ, eqb, Result, Ok, Err}
+use Rattle.std.specs.Prelude.{◌≡◌, refl, Bool, ◌&&◌, ◌≢◌, ℕ, eqb, Result, Ok, Err}
 use Rattle.worktime.specs.declared.ClockError.{ClockError}
 use Rattle.std.proofs.Math.Path.{sym, ap, ap₂}
 use Rattle.std.proofs.Common.{◌∙◌, eq-eqb, ne_eqb}
@@ -69,8 +69,5 @@ module _ (p : Plan) (d : Early) (i t : ℕ) where
           unfolding whether
           by_record c h = ap₂ (λ (x y : Bool). x && not y) (eq-eqb u (d.es i) here) h
 
-          pub drives_completed : is_completed p (recorded p (tie p t).from) ≡ true → go false ≡ drives p d i t go
-          drives_completed h = placed_at false (by_record true h)
-
-          pub drives_sets : is_completed p (recorded p (tie p t).from) ≡ false → go true ≡ drives p d i t go
-          drives_sets h = placed_at true (by_record false h)
+          pub drives_by : (b : Bool) → is_completed p (recorded p (tie p t).from) ≡ b → go (not b) ≡ drives p d i t go
+          drives_by b h = placed_at (not b) (by_record b h)

@@ -27,8 +27,7 @@ pub record Own (s : List ℕ) (c : Contents) (i : ℕ) (activity : Activity) (we
 
 -- what follows the answer whether a link sets the start of its successor
 abbrev pub driven : Result Bool ClockError → (Bool → Pass (ℕ → Bool)) → Pass (ℕ → Bool)
-driven (Ok true) go = go true
-driven (Ok false) go = go false
+driven (Ok b) go = go b
 driven (Err k) go = refused k
 
 module _ (p : Plan) (d : Early) (i : ℕ) where

@@ -2,7 +2,6 @@
 #![tactic(auto)]
 
 ghost use Rattle.std.specs.Prelude.{◌≡◌, Bool, reverse, ℕ, ◌<◌, length};
-ghost use Rattle.number.specs.Bit.{bit};
 ghost use Rattle.memory.specs.State.{Room, state_of};
 ghost use Rattle.topology.specs.Frame.{Frame};
 ghost use Rattle.order.specs.Plan.{Plan, plan_of};
@@ -25,12 +24,7 @@ use worktime::ClockError;
 fn is_completed(actual: Actual) -> bool
     ensures { (p : Plan) → result ≡ is_completed p actual }
 {
-    match actual {
-        Actual::Unstarted => false,
-        Actual::Begun(_) => false,
-        Actual::Completed(_, _) => true,
-        Actual::Refused(_) => false,
-    }
+    matches!(actual, Actual::Completed(_, _))
 }
 
 // ---- what finishes the project
@@ -50,26 +44,14 @@ fn is_last(work: &[i64], a: usize, l: usize, i: usize, finish: u64) -> bool
     memory::get_act(work, a, l, i, memory::fields::EARLY_FINISH) == finish
 }
 
-// A mark as a cell has it.
-fn flag(b: bool) -> u64
-    ensures { result ≡ bit b }
-{
-    if b {
-        return 1;
-    }
-    0
-}
-
 // Marks what finishes the project.
 fn mark_last(work: &mut [i64], a: usize, l: usize, finish: u64)
     requires { Room a l work.old }
     ensures { ((p : Plan) (t : ℕ) → p.activities ≡ a → Standing p t (state_of a l work.old) → Recorded p (state_of a l work.old) → path_in p (state_of a l work.new) (last_ones p (early_in p (state_of a l work.old)) finish) ≡ last_ones p (early_in p (state_of a l work.old)) finish) × Frame 16 17 0 0 (state_of a l work.old) (state_of a l work.new) × (length work.new ≡ length work.old) }
 {
-    let mut i: usize = 0;
-    while i < a {
-        let v = flag(is_last(work, a, l, i, finish));
+    for i in 0..a {
+        let v = u64::from(is_last(work, a, l, i, finish));
         memory::put_act(work, a, l, i, memory::fields::LONGEST_PATH, v);
-        i += 1;
     }
 }
 
@@ -129,10 +111,7 @@ fn drives(
     }
     let from = memory::get_link(work, a, l, k, memory::fields::FROM) as usize;
     let recorded = dates::recorded_at(work, a, l, from);
-    if is_completed(recorded) {
-        return Ok(false);
-    }
-    Ok(true)
+    Ok(!is_completed(recorded))
 }
 
 // Link `k` in its turn: its predecessor is marked if it sets the start of activity `i`.
@@ -160,7 +139,6 @@ fn mark_link(
         let l = contents.links;
         let from = memory::get_link(work, a, l, k, memory::fields::FROM) as usize;
         memory::put_act(work, a, l, from, memory::fields::LONGEST_PATH, 1);
-        return Ok(());
     }
     Ok(())
 }
@@ -184,6 +162,7 @@ fn mark_links(
     let a = contents.activities;
     let l = contents.links;
     let mut k = memory::get_act(work, a, l, i, memory::fields::FIRST_IN) as usize;
+    // A `while`: the next link is read from the memory, so no range has the links.
     while k < t {
         mark_link(
             sheet, contents, places, t, work, activity, week, at, n, i, k,
@@ -243,11 +222,9 @@ fn path_back(
 {
     let a = contents.activities;
     let l = contents.links;
-    let mut q: usize = 0;
-    while q < a {
-        let i = memory::get_act(work, a, l, a - (q + 1), memory::fields::ORDER_AT) as usize;
+    for q in (0..a).rev() {
+        let i = memory::get_act(work, a, l, q, memory::fields::ORDER_AT) as usize;
         on_path(sheet, contents, places, t, work, i)?;
-        q += 1;
     }
     Ok(())
 }

@@ -20,13 +20,10 @@ use Rattle.backward.proofs.backward_all.Given as goal
 
 abbrev pub invariant-loop-q : goal.invariant-loop-q
 invariant-loop-q l =
-    (l.q ≤ l.contents.activities) × (length l.work ≡ length l.initial.work)
+    (length l.work ≡ length l.initial.work)
     × Frame 10 12 0 0 (state_of l.contents.activities l.contents.links l.initial.work) (state_of l.contents.activities l.contents.links l.work)
     × Through (backward (plan_of l.sheet l.contents) (early_in (plan_of l.sheet l.contents) (state_of l.contents.activities l.contents.links l.initial.work)) l.last)
     (reverse (order (plan_of l.sheet l.contents)))
     (late_in (plan_of l.sheet l.contents) (state_of l.contents.activities l.contents.links l.initial.work) l.last)
     (late_in (plan_of l.sheet l.contents) (state_of l.contents.activities l.contents.links l.work) l.last)
-    l.q
-
-abbrev pub decreases-loop-q : goal.decreases-loop-q
-decreases-loop-q l = l.contents.activities - l.q
+    (l.contents.activities - l.q)

@@ -1,7 +1,6 @@
 -- `backward::finish_onward` meets its contract. Each way out has its law.
-use borrow.Author.Rules.{rules}
 use mathlib.Core.Path.{sym, ap, ◌∙◌}
-use Prim.Native.Nat.{ℕ, ◌+◌}
+use Prim.Native.Nat.{ℕ, ◌+◌, max}
 use native.Mathlib.Omega.{arith}
 use Rattle.number.specs.BitLaws.{mark_none, mark_some}
 use Rattle.memory.specs.State.{state_of}
@@ -9,17 +8,8 @@ use Rattle.memory.specs.Fields.{early_finish}
 use Rattle.order.specs.Plan.{plan_of}
 use Rattle.order.specs.Ids.{summary}
 use Rattle.bounds.specs.ReadyLaws.{activities_are}
-use Rattle.backward.specs.FinishLaws.{onward_summary, onward_later, onward_before}
+use Rattle.backward.specs.FinishLaws.{onward_summary, onward_met}
 use Rattle.backward.proofs.finish_onward.Goals as goal
-
-pub returns-then-top-next : goal.returns-then-top-next
-returns-then-top-next c =
-    let C = c.args.contents in
-    let B = summary (plan_of c.args.sheet.now C) c.args.i in
-    let F = (state_of C.activities C.links c.args.work.now).act early_finish c.args.i in
-    let g = c.get_act-next.ensures in
-    let m = c.get_act.ensures.0 ∙ c.requires.2 c.args.i (omega (arith, c.requires.1, activities_are c.args.sheet.now c.args.contents)) in
-    (ap (λ (x : ℕ). x + 1) g.0 ∙ sym (onward_later B F c.args.top (mark_none B m c.if-get_act-eq0.true) (omega (arith, g.0, c.if-top-next.true))), omega (arith, g.1))
 
 pub returns-then-get_act-eq0 : goal.returns-then-get_act-eq0
 returns-then-get_act-eq0 c =
@@ -28,10 +18,10 @@ returns-then-get_act-eq0 c =
     let F = (state_of C.activities C.links c.args.work.now).act early_finish c.args.i in
     let g = c.get_act-next.ensures in
     let m = c.get_act.ensures.0 ∙ c.requires.2 c.args.i (omega (arith, c.requires.1, activities_are c.args.sheet.now c.args.contents)) in
-    (sym (onward_before B F c.args.top (mark_none B m c.if-get_act-eq0.true) (omega (arith, g.0, c.if-top-next.false))), c.requires.3)
+    (c.max.ensures ∙ ap (λ (x : ℕ). max c.args.top (x + 1)) g.0 ∙ sym (onward_met B F c.args.top (mark_none B m c.if-get_act-eq0.true)), omega (arith, c.max.ensures, g.1, c.requires.3))
 
-pub returns : goal.returns
-returns c =
+pub returns-else-get_act-eq0 : goal.returns-else-get_act-eq0
+returns-else-get_act-eq0 c =
     let C = c.args.contents in
     let B = summary (plan_of c.args.sheet.now C) c.args.i in
     let F = (state_of C.activities C.links c.args.work.now).act early_finish c.args.i in

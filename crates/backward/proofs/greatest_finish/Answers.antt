@@ -16,16 +16,10 @@ loop-i-init c =
     let C = c.args.contents in
     let p = plan_of c.args.sheet.now C in
     let S = state_of C.activities C.links c.args.work.now in
-    (omega arith, omega arith, λ M. one_none p (early_in p S))
+    (omega arith, λ M. one_none p (early_in p S))
 
 pub finish_onward-top-requires : goal.finish_onward-top-requires
-finish_onward-top-requires c = (c.requires.1, c.loop-i-test.true, c.requires.2, c.loop-i.invariant.1)
-
-pub overflow_add-i : goal.overflow_add-i
-overflow_add-i c = omega (arith, c.loop-i-test.true, c.requires.0.activities_few)
-
-pub loop-i-smaller : goal.loop-i-smaller
-loop-i-smaller c = omega (arith, c.loop-i-test.true)
+finish_onward-top-requires c = (c.requires.1, omega arith, c.requires.2, c.loop-i.invariant.0)
 
 pub loop-i-preserved : goal.loop-i-preserved
 loop-i-preserved c =
@@ -33,9 +27,8 @@ loop-i-preserved c =
     let p = plan_of c.args.sheet.now C in
     let S = state_of C.activities C.links c.args.work.now in
     let L = c.loop-i in (
-      omega (arith, c.loop-i-test.true),
       c.finish_onward-top.ensures.1,
-      λ M. one_more p (early_in p S) L.i L.top _ (L.invariant.2 M) (c.finish_onward-top.ensures.0 ∙ ap (λ (x : ℕ). onward (summary p L.i) x L.top) (sym (finish_at c.args.sheet.now C S L.i c.loop-i-test.true))),
+      λ M. one_more p (early_in p S) L.i L.top _ (L.invariant.1 M) (c.finish_onward-top.ensures.0 ∙ ap (λ (x : ℕ). onward (summary p L.i) x L.top) (sym (finish_at c.args.sheet.now C S L.i (omega arith)))),
     )
 
 pub overflow_sub-result : goal.overflow_sub-result
@@ -47,9 +40,9 @@ returns-then-top-gt0 c =
     let p = plan_of c.args.sheet.now C in
     let S = state_of C.activities C.links c.args.work.now in
     let L = c.loop-i in
-    let e : L.i ≡ p.activities = omega (arith, L.invariant.0, c.loop-i-test.false, activities_are c.args.sheet.now C) in
-    let g = L.invariant.2 c.requires.2 ∙ ap (greatest_one p (early_in p S)) e in
-    (finish_some p (early_in p S) L.top g c.if-top-gt0.true, omega (arith, L.invariant.1, c.if-top-gt0.true))
+    let e : L.i ≡ p.activities = omega (arith, activities_are c.args.sheet.now C) in
+    let g = L.invariant.1 c.requires.2 ∙ ap (greatest_one p (early_in p S)) e in
+    (finish_some p (early_in p S) L.top g c.if-top-gt0.true, omega (arith, L.invariant.0, c.if-top-gt0.true))
 
 pub origin_of-requires : goal.origin_of-requires
 origin_of-requires c = c.requires.0
@@ -60,6 +53,6 @@ returns c =
     let p = plan_of c.args.sheet.now C in
     let S = state_of C.activities C.links c.args.work.now in
     let L = c.loop-i in
-    let e : L.i ≡ p.activities = omega (arith, L.invariant.0, c.loop-i-test.false, activities_are c.args.sheet.now C) in
-    let g = L.invariant.2 c.requires.2 ∙ ap (greatest_one p (early_in p S)) e in
+    let e : L.i ≡ p.activities = omega (arith, activities_are c.args.sheet.now C) in
+    let g = L.invariant.1 c.requires.2 ∙ ap (greatest_one p (early_in p S)) e in
     (finish_none p (early_in p S) L.top _ g (omega (arith, c.if-top-gt0.false)) c.origin_of.ensures.0, omega (arith, c.origin_of.ensures.1))

@@ -13,9 +13,6 @@ use Rattle.backward.proofs.greatest_finish.Given as goal
 
 abbrev pub invariant-loop-i : goal.invariant-loop-i
 invariant-loop-i l =
-    (l.i ≤ l.contents.activities) × (l.top ≤ 2 ^ 63)
+    (l.top ≤ 2 ^ 63)
     × (Marked (plan_of l.sheet l.contents) (state_of l.contents.activities l.contents.links l.work)
     → l.top ≡ greatest_one (plan_of l.sheet l.contents) (early_in (plan_of l.sheet l.contents) (state_of l.contents.activities l.contents.links l.work)) l.i)
-
-abbrev pub decreases-loop-i : goal.decreases-loop-i
-decreases-loop-i l = l.contents.activities - l.i

@@ -1,6 +1,6 @@
 -- `early::minutes_from` meets its contract. Each way out has its law.
 use mathlib.Core.Path.{sym, ◌∙◌}
-use Rattle.early.specs.EarlyLaws.{minutes_summary, minutes_task, minutes_start, minutes_finish, at_below}
+use Rattle.early.specs.EarlyLaws.{minutes_summary, minutes_task, minutes_milestone, at_below}
 use Rattle.early.proofs.minutes_from.Goals as goal
 
 pub returns-then-is_summary : goal.returns-then-is_summary
@@ -10,7 +10,4 @@ pub returns-in-Task : goal.returns-in-Task
 returns-in-Task c = (λ p d i H T q. c.work_to.ensures.0 p d i H T ∙ sym (minutes_task H _ q c.if-is_summary.false c.in-Task.is), c.work_to.ensures.1)
 
 pub returns-in-StartMilestone : goal.returns-in-StartMilestone
-returns-in-StartMilestone c = (λ p d i H T q. sym (minutes_start H _ q c.if-is_summary.false c.in-StartMilestone.is), at_below _ c.requires.1)
-
-pub returns-in-FinishMilestone : goal.returns-in-FinishMilestone
-returns-in-FinishMilestone c = (λ p d i H T q. sym (minutes_finish H _ q c.if-is_summary.false c.in-FinishMilestone.is), at_below _ c.requires.1)
+returns-in-StartMilestone c = (λ p d i H T q. sym (minutes_milestone H _ q c.if-is_summary.false c.in-StartMilestone.is), at_below _ c.requires.1)

@@ -7,7 +7,7 @@ use Rattle.early.specs.EarlyLaws.{goes_on_lem, stops}
 use Rattle.early.proofs.raised_to.Goals as goal
 
 pub returns : goal.returns
-returns c = ap Ok c.later.ensures ∙ sym (goes_on_lem Err (λ s. Ok (max _ s)) refl c.in_ok-s.was)
+returns c = ap Ok c.max.ensures ∙ sym (goes_on_lem Err (λ s. Ok (max _ s)) refl c.in_ok-s.was)
 
 pub returns-in_err-s : goal.returns-in_err-s
 returns-in_err-s c = rw (handed_on _ _ c.from_residual.ensures.1) (sym (stops Err _ refl c.in_err-s.was))

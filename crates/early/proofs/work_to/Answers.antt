@@ -8,7 +8,7 @@ use Rattle.early.specs.EarlyLaws.{work_counted, work_far, work_refused, work_une
 use Rattle.early.proofs.work_to.Goals as goal
 
 pub returns-in_ok-b-in-Some : goal.returns-in_ok-b-in-Some
-returns-in_ok-b-in-Some c = (λ p d i H T. c.counted.ensures.0 ∙ ap (λ (x : Result ℤ ClockError). counted Err x Ok) c.between-work.ensures ∙ sym (work_counted H _ _ _ c.in-Some.is _ c.midnight.ensures.0 c.previous_finish.ensures _ _ c.in_ok-e-in-Some.was T.origin_is c.bounded.ensures _ _ c.in_ok-b-in-Some.was c.later.ensures), c.counted.ensures.1)
+returns-in_ok-b-in-Some c = (λ p d i H T. c.counted.ensures.0 ∙ ap (λ (x : Result ℤ ClockError). counted Err x Ok) c.between-work.ensures ∙ sym (work_counted H _ _ _ c.in-Some.is _ c.midnight.ensures.0 c.previous_finish.ensures _ _ c.in_ok-e-in-Some.was T.origin_is c.bounded.ensures _ _ c.in_ok-b-in-Some.was c.max.ensures), c.counted.ensures.1)
 
 pub returns-in_err-b-in-Some : goal.returns-in_err-b-in-Some
 returns-in_err-b-in-Some c = rw (handed_on _ _ c.from_residual-in_err-b-in-Some.ensures.1) ((λ p d i H T. sym (work_far H _ _ _ c.in-Some.is _ c.midnight.ensures.0 c.previous_finish.ensures _ _ c.in_ok-e-in-Some.was T.origin_is c.bounded.ensures _ c.in_err-b-in-Some.was), refused_below _))

@@ -1,5 +1,4 @@
 -- `floats::free_at` meets its contract. Each way out has its law.
-use borrow.Author.Rules.{rules}
 use mathlib.Core.Path.{refl, ◌∙◌}
 use native.Mathlib.Omega.{arith}
 use Prim.Native.Nat.{◌<◌}

@@ -1,12 +1,10 @@
--- `floats::free_each` meets its contract: q activities are done, and the late dates are as they were.
-use borrow.Author.Rules.{rules}
-use mathlib.Core.Path.{◌≡◌, refl, ◌∙◌}
+-- `floats::free_each` meets its contract: the activities of the order from place `q` on are done, and the late dates are as they were.
+use mathlib.Core.Path.{◌≡◌, refl, ap, ◌∙◌}
 use mathlib.Core.List.{reverse}
 use native.Mathlib.Omega.{arith}
-use Prim.Native.Nat.{ℕ, ◌-◌}
-use lib.ListN.{length}
+use Prim.Native.Nat.{◌+◌, ◌-◌}
 use Rattle.memory.specs.State.{state_of}
-use Rattle.topology.specs.Frame.{Frame}
+use Rattle.memory.specs.Fields.{order_at}
 use Rattle.topology.specs.FrameLaws.{frame_refl, frame_then}
 use Rattle.order.specs.Plan.{plan_of}
 use Rattle.order.specs.Checks.{order}
@@ -14,7 +12,7 @@ use Rattle.passes.specs.Floats.{free_float}
 use Rattle.dates.specs.Columns.{late_in}
 use Rattle.dates.specs.KeptLaws.{ready_kept, recorded_kept}
 use Rattle.dates.specs.OrderLaws.{backward_at, backward_below, backward_length}
-use Rattle.dates.specs.ThroughLaws.{Through, through_start, through_turn, through_stop, through_end}
+use Rattle.dates.specs.ThroughLaws.{through_start, through_turn, through_stop, through_end}
 use Rattle.number.specs.Exits.{handed_on}
 use Rattle.floats.specs.Slack.{freed_in}
 use Rattle.floats.specs.PassLaws.{step_kept}
@@ -23,7 +21,10 @@ use Rattle.floats.proofs.free_each.Goals as goal
 pub loop-q-init : goal.loop-q-init
 loop-q-init c =
     let x = c.args in
-    (refl, frame_refl 12 16 0 0 (state_of x.contents.activities x.contents.links x.work.now), λ e. through_start _ _ _)
+    let p = plan_of x.sheet.now x.contents in
+    let S = state_of x.contents.activities x.contents.links x.work.now in
+    let z : x.contents.activities - x.contents.activities ≡ 0 = omega arith in
+    (refl, frame_refl 12 16 0 0 S, λ e. rw z (through_start (free_float p x.finish (late_in p S e)) (reverse (order p)) (freed_in p S)))
 
 pub get_act-i-requires : goal.get_act-i-requires
 get_act-i-requires c =
@@ -41,10 +42,10 @@ free_at-requires c =
     let S = state_of x.contents.activities x.contents.links x.work.now in
     let L = c.loop-q in
     let R = ready_kept c.requires.0 L.invariant.1 L.invariant.0 (omega arith) in
-    (R, recorded_kept L.invariant.1 p refl refl refl c.requires.1, omega (arith, backward_below R L.q c.loop-q-test.true, c.get_act-i.ensures.0))
-
-pub shape_of-work-in_err-free_at : goal.shape_of-work-in_err-free_at
-shape_of-work-in_err-free_at c = c.free_at.ensures.2 ∙ c.loop-q.invariant.0
+    let A = x.contents.activities in
+    let T = state_of A x.contents.links L.work in
+    let e : A - (A - L.q + 1) ≡ L.q - 1 = omega arith in
+    (R, recorded_kept L.invariant.1 p refl refl refl c.requires.1, omega (arith, c.get_act-i.ensures.0, ap (T.act order_at) e, backward_below R (A - L.q) (omega arith)))
 
 pub returns-in_err-free_at : goal.returns-in_err-free_at
 returns-in_err-free_at c = rw (handed_on _ _ c.from_residual.ensures.1) (let x = c.args in
@@ -53,8 +54,13 @@ returns-in_err-free_at c = rw (handed_on _ _ c.from_residual.ensures.1) (let x =
     let L = c.loop-q in
     let R = ready_kept c.requires.0 L.invariant.1 L.invariant.0 (omega arith) in
     let y = freed_in p (state_of x.contents.activities x.contents.links c.free_at.new.work) in
-    let r = c.free_at.result in (
-      λ e. through_stop (free_float p x.finish (late_in p S e)) (reverse (order p)) (freed_in p S) (L.invariant.2 e) _ (c.get_act-i.ensures.0 ∙ backward_at R L.q c.loop-q-test.true) (omega (arith, backward_length R, c.loop-q-test.true)) y r
+    let r = c.free_at.result in
+    let A = x.contents.activities in
+    let T = state_of A x.contents.links L.work in
+    let k : L.q - 1 ≡ A - (A - L.q + 1) = omega arith in
+    let at = c.get_act-i.ensures.0 ∙ ap (T.act order_at) k ∙ backward_at R (A - L.q) (omega arith) in
+    let n : A - (L.q - 1) ≡ A - L.q + 1 = omega arith in (
+      λ e. through_stop (free_float p x.finish (late_in p S e)) (reverse (order p)) (freed_in p S) (L.invariant.2 e) _ at (omega (arith, backward_length R)) y r
           (step_kept L.invariant.1 p x.finish _ y r c.free_at.ensures.0 e) y _ c.in_err-free_at.was,
       frame_then 12 16 0 0 L.invariant.1 c.free_at.ensures.1,
       c.free_at.ensures.2 ∙ L.invariant.0,
@@ -68,15 +74,17 @@ loop-q-preserved c =
     let L = c.loop-q in
     let R = ready_kept c.requires.0 L.invariant.1 L.invariant.0 (omega arith) in
     let y = freed_in p (state_of x.contents.activities x.contents.links c.free_at.new.work) in
-    let r = c.free_at.result in (
+    let r = c.free_at.result in
+    let A = x.contents.activities in
+    let T = state_of A x.contents.links L.work in
+    let k : L.q - 1 ≡ A - (A - L.q + 1) = omega arith in
+    let at = c.get_act-i.ensures.0 ∙ ap (T.act order_at) k ∙ backward_at R (A - L.q) (omega arith) in
+    let n : A - (L.q - 1) ≡ A - L.q + 1 = omega arith in (
       c.free_at.ensures.2 ∙ L.invariant.0,
       frame_then 12 16 0 0 L.invariant.1 c.free_at.ensures.1,
-      λ e. through_turn (free_float p x.finish (late_in p S e)) (reverse (order p)) (freed_in p S) (L.invariant.2 e) _ (c.get_act-i.ensures.0 ∙ backward_at R L.q c.loop-q-test.true) (omega (arith, backward_length R, c.loop-q-test.true)) y r
-          (step_kept L.invariant.1 p x.finish _ y r c.free_at.ensures.0 e) c.in_ok-free_at.was,
+      λ e. rw n (through_turn (free_float p x.finish (late_in p S e)) (reverse (order p)) (freed_in p S) (L.invariant.2 e) _ at (omega (arith, backward_length R)) y r
+          (step_kept L.invariant.1 p x.finish _ y r c.free_at.ensures.0 e) c.in_ok-free_at.was),
     )
-
-pub shape_of-work : goal.shape_of-work
-shape_of-work c = c.loop-q.invariant.0
 
 pub returns : goal.returns
 returns c =
@@ -85,4 +93,4 @@ returns c =
     let S = state_of x.contents.activities x.contents.links x.work.now in
     let L = c.loop-q in
     let R = ready_kept c.requires.0 L.invariant.1 L.invariant.0 (omega arith) in
-    (λ e. through_end (free_float p x.finish (late_in p S e)) (reverse (order p)) (freed_in p S) (L.invariant.2 e) (omega (arith, backward_length R, c.loop-q-test.false)), L.invariant.1, L.invariant.0)
+    (λ e. through_end (free_float p x.finish (late_in p S e)) (reverse (order p)) (freed_in p S) (L.invariant.2 e) (omega (arith, backward_length R)), L.invariant.1, L.invariant.0)

@@ -1,22 +1,16 @@
 -- `floats::free_each` meets its contract: q activities are done, and the late dates are as they were.
-use borrow.Author.Rules.{rules}
-use mathlib.Core.Path.{◌≡◌, refl, ◌∙◌}
+use mathlib.Core.Path.{◌≡◌}
 use mathlib.Core.List.{reverse}
-use native.Mathlib.Omega.{arith}
 use Prim.Native.Nat.{ℕ, ◌-◌}
 use lib.ListN.{length}
 use Rattle.memory.specs.State.{state_of}
 use Rattle.topology.specs.Frame.{Frame}
-use Rattle.topology.specs.FrameLaws.{frame_refl, frame_then}
 use Rattle.order.specs.Plan.{plan_of}
 use Rattle.order.specs.Checks.{order}
 use Rattle.passes.specs.Floats.{free_float}
 use Rattle.dates.specs.Columns.{late_in}
-use Rattle.dates.specs.KeptLaws.{ready_kept, recorded_kept}
-use Rattle.dates.specs.OrderLaws.{backward_at, backward_below, backward_length}
-use Rattle.dates.specs.ThroughLaws.{Through, through_start, through_turn, through_stop, through_end}
+use Rattle.dates.specs.ThroughLaws.{Through}
 use Rattle.floats.specs.Slack.{freed_in}
-use Rattle.floats.specs.PassLaws.{step_kept}
 use Rattle.floats.proofs.free_each.Given as goal
 
 abbrev pub invariant-loop-q : goal.invariant-loop-q
@@ -29,7 +23,4 @@ invariant-loop-q l =
     (reverse (order (plan_of l.sheet l.contents)))
     (freed_in (plan_of l.sheet l.contents) (state_of l.contents.activities l.contents.links l.initial.work))
     (freed_in (plan_of l.sheet l.contents) (state_of l.contents.activities l.contents.links l.work))
-    l.q)
-
-abbrev pub decreases-loop-q : goal.decreases-loop-q
-decreases-loop-q l = l.a - l.q
+    (l.contents.activities - l.q))

@@ -1,5 +1,4 @@
 -- `floats::gap_at` meets its contract. Each way out has its law.
-use borrow.Author.Rules.{rules}
 use mathlib.Core.Path.{◌∙◌}
 use native.Mathlib.Omega.{arith}
 use Rattle.clock.specs.On.{worked_on}
@@ -9,7 +8,6 @@ use Rattle.bounds.specs.LinkLaws.{to_in, lead_fits}
 use Rattle.number.specs.Exits.{handed_on}
 use Rattle.floats.specs.GapLaws.{gap_refused, gap_between}
 use Rattle.floats.proofs.gap_at.Goals as goal
-use Rattle.floats.proofs.gap_at.Tie as tie
 
 pub tie_at-tie-requires : goal.tie_at-tie-requires
 tie_at-tie-requires c = let q = c.requires in (q.0.room, omega (arith, kept_within q.0, q.1))

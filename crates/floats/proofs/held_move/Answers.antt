@@ -1,5 +1,4 @@
 -- `floats::held_move` meets its contract. Each way out has its law.
-use borrow.Author.Rules.{rules}
 use mathlib.Core.Path.{sym, ◌∙◌}
 use Rattle.number.specs.Exits.{handed_on}
 use Rattle.floats.specs.SlackLaws.{dates_moved_refuses, dates_moved_far, dates_moved_to}

@@ -1,5 +1,4 @@
 -- `floats::held_start` meets its contract. Each way out has its law.
-use borrow.Author.Rules.{rules}
 use mathlib.Core.Path.{sym, ◌∙◌}
 use Rattle.number.specs.Exits.{handed_on}
 use Rattle.floats.specs.SlackLaws.{start_moved_refuses, start_moved_unplaced, start_moved_none, start_moved_far, start_moved_back}

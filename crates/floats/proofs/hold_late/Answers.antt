@@ -1,5 +1,4 @@
 -- `floats::hold_late` meets its contract. Each way out has its law.
-use borrow.Author.Rules.{rules}
 use mathlib.Core.Path.{refl, sym, ap, ◌∙◌}
 use native.Mathlib.Omega.{arith}
 use Rattle.project.specs.declared.Activity.{Activity}

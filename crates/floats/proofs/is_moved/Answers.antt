@@ -1,5 +1,4 @@
 -- `floats::is_moved` meets its contract. Each way out has its law.
-use borrow.Author.Rules.{rules}
 use mathlib.Core.Path.{◌∙◌}
 use native.Mathlib.Omega.{arith}
 use Rattle.order.specs.Plan.{plan_of}

@@ -1,5 +1,4 @@
 -- `floats::store_move` meets its contract.
-use borrow.Author.Rules.{rules}
 use mathlib.Core.Path.{ap, ◌∙◌}
 use Rattle.memory.specs.State.{State, put_act}
 use Rattle.memory.specs.Fields.{early_finish, free_float}

@@ -1,5 +1,4 @@
 -- `floats::use_float` meets its contract.
-use borrow.Author.Rules.{rules}
 use mathlib.Core.Path.{sym, ap, ◌∙◌}
 use native.Mathlib.Omega.{arith}
 use Rattle.order.specs.Plan.{plan_of}

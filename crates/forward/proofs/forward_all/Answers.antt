@@ -34,12 +34,6 @@ returns-in_err-forward_one c = rw (handed_on _ _ c.from_residual.ensures.1) (let
     let d = early_in p S in
     (through_stop (forward p) (order p) d c.loop-q.invariant.0 _ (c.get_act-i.ensures.0 ∙ order_at_lem (ready_kept c.requires.0 c.loop-q.invariant.1 c.loop-q.invariant.2 (omega arith)) _ c.loop-q-test.true) (omega (arith, order_length c.requires.0, c.loop-q-test.true)) _ _ c.forward_one.ensures.0 d _ c.in_err-forward_one.was, frame_then 12 15 0 0 c.loop-q.invariant.1 c.forward_one.ensures.1, c.forward_one.ensures.2 ∙ c.loop-q.invariant.2))
 
-pub overflow_add-q : goal.overflow_add-q
-overflow_add-q c = omega (arith, c.loop-q-test.true)
-
-pub loop-q-smaller : goal.loop-q-smaller
-loop-q-smaller c = omega (arith, c.loop-q-test.true)
-
 pub loop-q-preserved : goal.loop-q-preserved
 loop-q-preserved c =
     let p = plan_of c.args.sheet.now c.args.contents in

@@ -1,5 +1,4 @@
 -- `forward::forward_all`: what is left of the order, from the dates that stand, gives what the whole gives; the rest stands.
-use Prim.Native.Nat.{◌-◌}
 use lib.ListN.{length}
 use mathlib.Core.Path.{◌≡◌}
 use Rattle.dates.specs.Columns.{early_in}
@@ -13,6 +12,3 @@ use Rattle.forward.proofs.forward_all.Given as goal
 
 abbrev pub invariant-loop-q : goal.invariant-loop-q
 invariant-loop-q l = Through (forward (plan_of l.sheet l.contents)) (order (plan_of l.sheet l.contents)) (early_in (plan_of l.sheet l.contents) (state_of l.contents.activities l.contents.links l.initial.work)) (early_in (plan_of l.sheet l.contents) (state_of l.contents.activities l.contents.links l.work)) l.q × Frame 12 15 0 0 (state_of l.contents.activities l.contents.links l.initial.work) (state_of l.contents.activities l.contents.links l.work) × (length l.work ≡ length l.initial.work)
-
-abbrev pub decreases-loop-q : goal.decreases-loop-q
-decreases-loop-q l = l.contents.activities - l.q

@@ -1,25 +1,19 @@
 -- `forward::raised_by` meets its contract. Each way out has its law.
-use mathlib.Core.Path.{sym}
+use Rattle.std.specs.Prelude.{Ok}
+use mathlib.Core.Path.{sym, ap, ◌∙◌}
 use Rattle.dates.specs.Columns.{early_in}
 use Rattle.memory.specs.State.{state_of}
 use Rattle.order.specs.Plan.{plan_of}
 use Rattle.number.specs.Exits.{handed_on}
-use Rattle.forward.specs.LinkedLaws.{raised_later, raised_same, raised_refused}
+use Rattle.forward.specs.LinkedLaws.{raised_found, raised_refused}
 use Rattle.forward.proofs.raised_by.Goals as goal
-
-pub returns-then-start-s : goal.returns-then-start-s
-returns-then-start-s c =
-    let p = plan_of c.args.sheet.now c.args.contents in
-    let S = state_of c.args.contents.activities c.args.contents.links c.args.work.now in
-    let d = early_in p S in
-    λ i H. sym (raised_later p d i c.args.k c.args.start (c.link_start.ensures i H) _ c.in_ok-s.was c.if-start-s.true)
 
 pub returns : goal.returns
 returns c =
     let p = plan_of c.args.sheet.now c.args.contents in
     let S = state_of c.args.contents.activities c.args.contents.links c.args.work.now in
     let d = early_in p S in
-    λ i H. sym (raised_same p d i c.args.k c.args.start (c.link_start.ensures i H) _ c.in_ok-s.was c.if-start-s.false)
+    λ i H. ap Ok c.max.ensures ∙ sym (raised_found p d i c.args.k c.args.start (c.link_start.ensures i H) _ c.in_ok-s.was)
 
 pub returns-in_err-s : goal.returns-in_err-s
 returns-in_err-s c = rw (handed_on _ _ c.from_residual.ensures.1) (let p = plan_of c.args.sheet.now c.args.contents in

@@ -1,6 +1,5 @@
 -- `late::lift` meets its contract. Each way out has its law.
 use Rattle.std.specs.Prelude.{Ok}
-use borrow.Author.Rules.{rules}
 use mathlib.Core.Path.{sym, ap, ◌∙◌}
 use native.Mathlib.Omega.{arith}
 use Rattle.number.specs.Exits.{handed_on}

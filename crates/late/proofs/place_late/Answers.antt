@@ -1,5 +1,4 @@
 -- `late::place_late` meets its contract. Each way out has its law.
-use borrow.Author.Rules.{rules}
 use mathlib.Core.Path.{sym, ◌∙◌}
 use Rattle.number.specs.Exits.{handed_on}
 use Rattle.late.specs.PlaceLaws.{fitting_refused, fitting_dates, bounded_fits, placed_finish_refused, placed_finish_beyond, placed_lift_refused, placed_start_refused, placed_start_beyond, placed_at}

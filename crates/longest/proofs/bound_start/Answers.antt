@@ -1,5 +1,4 @@
 -- `longest::bound_start` meets its contract, each way out by its law.
-use borrow.Author.Rules.{rules}
 use mathlib.Core.Path.{sym, ◌∙◌}
 use native.Mathlib.Omega.{arith}
 use Rattle.memory.specs.State.{state_of}

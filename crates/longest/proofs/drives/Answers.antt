@@ -1,5 +1,4 @@
 -- `longest::drives` meets its contract, each way out by its law.
-use borrow.Author.Rules.{rules}
 use mathlib.Core.Path.{sym, ◌∙◌}
 use native.Mathlib.Omega.{arith}
 use Rattle.memory.specs.State.{state_of}
@@ -7,7 +6,7 @@ use Rattle.order.specs.Plan.{plan_of}
 use Rattle.dates.specs.Columns.{early_in}
 use Rattle.number.specs.Exits.{handed_on}
 use Rattle.longest.specs.OwnLaws.{link_in, start_read, from_inside, completed_read}
-use Rattle.longest.specs.DriveLaws.{drives_refused, drives_elsewhere, drives_completed, drives_sets}
+use Rattle.longest.specs.DriveLaws.{drives_refused, drives_elsewhere, drives_by}
 use Rattle.longest.proofs.drives.Goals as goal
 
 pub bound_start-requires : goal.bound_start-requires
@@ -41,18 +40,6 @@ recorded_at-recorded-requires c = (c.requires.0.ready.room, from_inside c.requir
 pub is_completed-requires : goal.is_completed-requires
 is_completed-requires c = tt
 
-pub returns-then-is_completed : goal.returns-then-is_completed
-returns-then-is_completed c =
-    let x = c.args in
-    let p = plan_of x.sheet.now x.contents in
-    let d = early_in p (state_of x.contents.activities x.contents.links x.work.now) in
-    let b = c.bound_start in
-    let e = start_read c.requires.0 x.i c.requires.2 c.get_act.result c.get_act.ensures.0 in
-    let f = completed_read c.requires.0 x.k c.requires.3 c.get_link-from.result c.recorded_at-recorded.result c.get_link-from.ensures.0 c.recorded_at-recorded.ensures in
-    λ go.
-    drives_completed p d x.i x.k go b.result b.ensures c.in_ok-u.u c.in_ok-u.was (c.if-u-get_act.false ∙ e)
-    (f ∙ sym (c.is_completed.ensures p) ∙ c.if-is_completed.true)
-
 pub returns : goal.returns
 returns c =
     let x = c.args in
@@ -62,5 +49,5 @@ returns c =
     let e = start_read c.requires.0 x.i c.requires.2 c.get_act.result c.get_act.ensures.0 in
     let f = completed_read c.requires.0 x.k c.requires.3 c.get_link-from.result c.recorded_at-recorded.result c.get_link-from.ensures.0 c.recorded_at-recorded.ensures in
     λ go.
-    drives_sets p d x.i x.k go b.result b.ensures c.in_ok-u.u c.in_ok-u.was (c.if-u-get_act.false ∙ e)
-    (f ∙ sym (c.is_completed.ensures p) ∙ c.if-is_completed.false)
+    drives_by p d x.i x.k go b.result b.ensures c.in_ok-u.u c.in_ok-u.was (c.if-u-get_act.false ∙ e) c.is_completed.result
+    (f ∙ sym (c.is_completed.ensures p))

@@ -1,17 +1,13 @@
 -- `longest::mark_last` meets its contract: the marks of the activities before i stand.
 use mathlib.Core.Path.{◌≡◌, refl, ap, ◌∙◌}
-use Prim.Native.Nat.{ℕ, ◌≤◌, ◌-◌}
+use Prim.Native.Nat.{ℕ}
 use native.Mathlib.Omega.{arith}
-use lib.ListN.{length}
 use Rattle.number.specs.BitLaws.{bit_le}
 use Rattle.memory.specs.State.{state_of}
 use Rattle.memory.specs.Fields.{longest_path}
-use Rattle.topology.specs.Frame.{Frame}
 use Rattle.topology.specs.FrameLaws.{frame_refl}
-use Rattle.order.specs.Plan.{Plan}
 use Rattle.passes.specs.Floats.{last_ones}
 use Rattle.dates.specs.Columns.{flags, early_in}
-use Rattle.dates.specs.Standing.{Standing, Recorded}
 use Rattle.dates.specs.StandingLaws.{standing_kept}
 use Rattle.dates.specs.KeptLaws.{recorded_kept}
 use Rattle.longest.specs.LastLaws.{marks_none, last_turn, frame_mark}
@@ -21,24 +17,15 @@ pub loop-i-init : goal.loop-i-init
 loop-i-init c =
     let x = c.args in
     let S = state_of x.a x.l x.work.now in
-    (omega arith, refl, frame_refl 16 17 0 0 S, λ p t e W R. marks_none (last_ones p (early_in p S) x.finish) S)
+    (refl, frame_refl 16 17 0 0 S, λ p t e W R. marks_none (last_ones p (early_in p S) x.finish) S)
 
 pub is_last-requires : goal.is_last-requires
 is_last-requires c =
-    (omega (arith, c.requires, c.loop-i.invariant.1), c.loop-i-test.true)
-
-pub flag-v-requires : goal.flag-v-requires
-flag-v-requires c = tt
+    (omega (arith, c.requires, c.loop-i.invariant.0), omega arith)
 
 pub put_act-requires : goal.put_act-requires
 put_act-requires c =
-    (omega (arith, c.requires, c.loop-i.invariant.1), c.loop-i-test.true, omega arith, omega (arith, c.flag-v.ensures, bit_le c.is_last.result))
-
-pub overflow_add-i : goal.overflow_add-i
-overflow_add-i c = omega (arith, c.loop-i-test.true)
-
-pub loop-i-smaller : goal.loop-i-smaller
-loop-i-smaller c = omega (arith, c.loop-i-test.true)
+    (omega (arith, c.requires, c.loop-i.invariant.0), omega arith, omega arith, omega (arith, c.from-v.ensures, bit_le c.is_last.result))
 
 pub loop-i-preserved : goal.loop-i-preserved
 loop-i-preserved c =
@@ -48,12 +35,9 @@ loop-i-preserved c =
     let S = state_of x.a x.l c.loop-i.work in
     let T = state_of x.a x.l c.put_act.new.work in
     let e = c.put_act.ensures in
-    let f = c.flag-v in
+    let f = c.from-v in
     let g = c.is_last in
-    (omega (arith, c.loop-i-test.true), e.1 ∙ v.1, frame_mark v.2 c.loop-i.i f.result e.0, λ p t a W R. last_turn p S₀ S T v.2 x.finish c.loop-i.i f.result g.result e.0 f.ensures (v.3 p t a W R) (g.ensures p t a (standing_kept v.2 p (omega arith) W) (recorded_kept v.2 p refl refl refl R)))
-
-pub shape_of-work : goal.shape_of-work
-shape_of-work c = c.loop-i.invariant.1
+    (e.1 ∙ v.0, frame_mark v.1 c.loop-i.i f.result e.0, λ p t a W R. last_turn p S₀ S T v.1 x.finish c.loop-i.i f.result g.result e.0 f.ensures (v.2 p t a W R) (g.ensures p t a (standing_kept v.1 p (omega arith) W) (recorded_kept v.1 p refl refl refl R)))
 
 pub returns : goal.returns
 returns c =
@@ -62,9 +46,9 @@ returns c =
     let S₀ = state_of x.a x.l x.work.now in
     let S = state_of x.a x.l c.loop-i.work in (
       λ p t a W R.
-          let e : p.activities ≡ c.loop-i.i = omega (arith, a, c.loop-i-test.false, v.0) in
+          let e : p.activities ≡ c.loop-i.i = omega (arith, a) in
           let other = last_ones p (early_in p S₀) x.finish in
-          ap (λ (n : ℕ). flags n other S longest_path) e ∙ v.3 p t a W R,
-      v.2,
+          ap (λ (n : ℕ). flags n other S longest_path) e ∙ v.2 p t a W R,
       v.1,
+      v.0,
     )

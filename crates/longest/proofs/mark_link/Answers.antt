@@ -1,5 +1,4 @@
 -- `longest::mark_link` meets its contract, each way out by its law.
-use borrow.Author.Rules.{rules}
 use Rattle.std.specs.Prelude.{Ok}
 use mathlib.Core.Path.{refl, ap, ◌∙◌}
 use native.Mathlib.Omega.{arith}
@@ -25,8 +24,8 @@ returns-in_err-sets c =
     let b = c.drives in
     (λ other go. mark_refused p (early_in p S) x.i x.k S other go b.result b.ensures c.in_err-sets.field-0.0 c.in_err-sets.was, frame_refl 16 17 0 0 S, refl))
 
-pub returns : goal.returns
-returns c =
+pub returns-else-sets : goal.returns-else-sets
+returns-else-sets c =
     let x = c.args in
     let p = plan_of x.sheet.now x.contents in
     let S = state_of x.contents.activities x.contents.links x.work.now in

@@ -1,19 +1,14 @@
 -- `longest::mark_links` meets its contract: the links of the chain before k have had their turns.
-use borrow.Author.Rules.{rules}
-use mathlib.Core.Path.{◌≡◌, refl, ◌∙◌}
-use mathlib.Core.Bool.{Bool}
-use Prim.Native.Nat.{ℕ, ◌-◌}
+use mathlib.Core.Path.{refl, ◌∙◌}
 use native.Mathlib.Omega.{arith}
-use lib.ListN.{length}
 use Rattle.memory.specs.State.{state_of}
-use Rattle.topology.specs.Frame.{Frame}
 use Rattle.topology.specs.FrameLaws.{frame_refl, frame_then}
 use Rattle.order.specs.Plan.{plan_of}
 use Rattle.bounds.specs.ReadyLaws.{activities_are}
 use Rattle.number.specs.Exits.{handed_on}
 use Rattle.longest.specs.KeptLaws.{lent_kept}
 use Rattle.longest.specs.OwnLaws.{link_in}
-use Rattle.longest.specs.WalkLaws.{Marking, marking_start, next_stands, marking_turn, marking_stop, marking_end}
+use Rattle.longest.specs.WalkLaws.{marking_start, next_stands, marking_turn, marking_stop, marking_end}
 use Rattle.longest.proofs.mark_links.Goals as goal
 
 pub get_act-k-requires : goal.get_act-k-requires

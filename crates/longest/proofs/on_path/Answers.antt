@@ -1,5 +1,4 @@
 -- `longest::on_path` meets its contract, each way out by its law.
-use borrow.Author.Rules.{rules}
 use mathlib.Core.Path.{refl, sym, ◌∙◌}
 use native.Mathlib.Omega.{arith}
 use Rattle.memory.specs.State.{state_of}

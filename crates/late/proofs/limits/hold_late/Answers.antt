@@ -1,5 +1,4 @@
 -- `late::limits::hold_late` meets its contract. Each way out has its law.
-use borrow.Author.Rules.{rules}
 use mathlib.Core.Path.{sym, ap, ◌∙◌}
 use Rattle.project.specs.declared.Activity.{Activity}
 use Rattle.number.specs.Exits.{handed_on}

@@ -1,6 +1,5 @@
 -- `late::limits::limit` meets its contract. Each way out has its law.
 use Rattle.std.specs.Prelude.{Ok}
-use borrow.Author.Rules.{rules}
 use mathlib.Core.Path.{sym, ap, ◌∙◌}
 use Prim.Native.Nat.{ℕ}
 use Rattle.placing.specs.Placing.{bounded, constraint_time}

@@ -1,5 +1,4 @@
 -- `late::limits::limit_by` meets its contract, by what is recorded.
-use borrow.Author.Rules.{rules}
 use mathlib.Core.Path.{sym, ◌∙◌}
 use Rattle.late.specs.LimitLaws.{by_unstarted, by_begun_start, by_begun, by_completed, by_refused}
 use Rattle.late.proofs.limits.limit_by.Goals as goal

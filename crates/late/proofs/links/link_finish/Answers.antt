@@ -19,7 +19,6 @@ use Rattle.late.specs.StandLaws.{times_are, over_are, by_are}
 use Rattle.late.specs.LinkLaws.{link_times_refused, link_lag_refused, link_finish_refused, link_at}
 use Rattle.late.specs.UnfinishedLaws.{own_bounded, own_by}
 use Rattle.late.proofs.links.link_finish.Goals as goal
-use Rattle.late.proofs.links.link_finish.Tie as tie
 
 pub tie_at-tie-requires : goal.tie_at-tie-requires
 tie_at-tie-requires c = (c.requires.0.room, omega (arith, c.requires.1, kept_within c.requires.0))

@@ -1,13 +1,10 @@
 -- `late::links::lower` meets its contract. The loop's invariant: the links before `k` are met, and `latest` is what they leave.
 -- The measure is what is left of the links.
-use borrow.Author.Rules.{rules}
 use mathlib.Core.Path.{sym, ◌∙◌}
-use Prim.Native.Nat.{◌-◌}
 use native.Mathlib.Omega.{arith}
 use Rattle.bounds.specs.ReadyLaws.{kept_within}
-use Rattle.dates.specs.Standing.{Ready}
 use Rattle.number.specs.Exits.{handed_on}
-use Rattle.late.specs.StandLaws.{Lowering, lowering_start, lowering_next, lowering_on, lowering_stop, lowering_end}
+use Rattle.late.specs.StandLaws.{lowering_start, lowering_next, lowering_on, lowering_stop, lowering_end}
 use Rattle.late.proofs.links.lower.Goals as goal
 
 pub get_act-k-requires : goal.get_act-k-requires
@@ -33,7 +30,7 @@ loop-k-smaller c =
 pub loop-k-preserved : goal.loop-k-preserved
 loop-k-preserved c =
     λ R.
-    lowering_next R c.args.i c.args.last (c.loop-k.invariant R) _ _ _ c.loop-k-test.true (sym (c.link_finish.ensures c.args.i c.args.last c.requires.3) ∙ c.in_ok-f.was) c.earlier-latest.ensures
+    lowering_next R c.args.i c.args.last (c.loop-k.invariant R) _ _ _ c.loop-k-test.true (sym (c.link_finish.ensures c.args.i c.args.last c.requires.3) ∙ c.in_ok-f.was) c.min-latest.ensures
     c.get_link-k.ensures.0
 
 pub returns : goal.returns

@@ -1,12 +1,8 @@
 -- `late::links::lower` meets its contract. The loop's invariant: the links before `k` are met, and `latest` is what they leave.
 -- The measure is what is left of the links.
-use borrow.Author.Rules.{rules}
-use mathlib.Core.Path.{sym, ◌∙◌}
 use Prim.Native.Nat.{◌-◌}
-use native.Mathlib.Omega.{arith}
-use Rattle.bounds.specs.ReadyLaws.{kept_within}
 use Rattle.dates.specs.Standing.{Ready}
-use Rattle.late.specs.StandLaws.{Lowering, lowering_start, lowering_next, lowering_on, lowering_stop, lowering_end}
+use Rattle.late.specs.StandLaws.{Lowering}
 use Rattle.late.proofs.links.lower.Given as goal
 
 abbrev pub invariant-loop-k : goal.invariant-loop-k

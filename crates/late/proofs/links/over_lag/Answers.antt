@@ -1,5 +1,4 @@
 -- `late::links::over_lag` meets its contract.
-use borrow.Author.Rules.{rules}
 use mathlib.Core.Path.{sym, ap, ◌∙◌}
 use Prim.Native.Nat.{◌^◌, ◌<◌, ℕ}
 use native.Mathlib.Omega.{arith}

@@ -1,5 +1,4 @@
 -- `late::links::successor_times` meets its contract.
-use borrow.Author.Rules.{rules}
 use mathlib.Core.Path.{sym, ap, ◌∙◌}
 use Rattle.calendars.specs.CalendarLaws.{calendar_valid, calendar_worked}
 use Rattle.passes.specs.Plan.{own}

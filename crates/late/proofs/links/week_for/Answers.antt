@@ -1,6 +1,5 @@
 -- `late::links::week_for` meets its contract.
-use borrow.Author.Rules.{rules}
-use mathlib.Core.Path.{◌≡◌, sym, ap, ◌∙◌}
+use mathlib.Core.Path.{◌≡◌, ap, ◌∙◌}
 use native.Mathlib.Omega.{arith}
 use Rattle.order.specs.Plan.{week_of_calendar}
 use Rattle.late.proofs.links.week_for.Goals as goal
