@@ -30,6 +30,7 @@ use sheet::Contents;
 use worktime::ClockError;
 
 // ---- chains through the activities
+// They are not `memory::chain`'s: those chain links by an activity, these activities by a key that may be none, and in another table.
 // Puts activity `c` before those with its key.
 fn chain_one(work: &mut [i64], a: usize, l: usize, key: usize, head: usize, c: usize)
     requires { Room a l work.old × (c < a) × (key < head) × (head + 2 ≤ 64) × KeysIn key a (state_of a l work.old) × LinkedIn key head a (c + 1) (state_of a l work.old) }
@@ -127,6 +128,7 @@ fn sum_children(work: &[i64], a: usize, l: usize, s: usize, first: usize) -> Sho
 {
     let mut x = results::shown_at(work, a, l, first);
     let mut k = memory::get_act(work, a, l, first, memory::fields::NEXT_CHILD) as usize;
+    // The next child comes from the memory: no range or iterator of std gives it, and an iterator of our own would need its own proof for this one loop.
     while k < a {
         x = join(x, results::shown_at(work, a, l, k));
         k = memory::get_act(work, a, l, k, memory::fields::NEXT_CHILD) as usize;
@@ -213,6 +215,7 @@ fn roll_depth(
         d - 1,
         memory::fields::FIRST_DEEP,
     ) as usize;
+    // As in `sum_children`, the next comes from the memory, which `roll_one` writes to meanwhile.
     while k < contents.activities {
         roll_one(sheet, contents, places, lengths, project, work, k)?;
         k = memory::get_act(
