@@ -11,7 +11,7 @@ ghost use Rattle.sheet.specs.Reading.{run_of};
 use calendar::Period;
 use sheet::runs::RecordKind;
 use std::{fs, io};
-use worktime::{Walk, Work, Working};
+use worktime::ClockError;
 
 fn write(rt: &impl Print, text: &[u8]) -> io::Result<()> {
     rt.write_all(text)
@@ -34,31 +34,28 @@ fn print_refused(rt: &impl Print, k: u64) -> io::Result<()> {
     print!(rt; "refused {k}")
 }
 
-fn print_walk(rt: &impl Print, r: Walk) -> io::Result<()> {
-    match r {
-        Walk::At(t) => print_time(rt, t),
-        Walk::Refused(k) => print_refused(rt, k),
+fn print_walk(rt: &impl Print, walk: Result<u64, ClockError>) -> io::Result<()> {
+    match walk {
+        Ok(t) => print_time(rt, t),
+        Err(e) => print_refused(rt, e.number()),
     }
 }
 
-fn print_work(rt: &impl Print, r: Work) -> io::Result<()> {
-    match r {
-        Work::Minutes(z) => print_signed(rt, z),
-        Work::Refused(k) => print_refused(rt, k),
+fn print_work(rt: &impl Print, work: Result<i64, ClockError>) -> io::Result<()> {
+    match work {
+        Ok(z) => print_signed(rt, z),
+        Err(e) => print_refused(rt, e.number()),
     }
 }
 
 fn print_test(rt: &impl Print, b: bool) -> io::Result<()> {
-    if b {
-        return write(rt, b"yes");
-    }
-    write(rt, b"no")
+    write(rt, if b { b"yes" } else { b"no" })
 }
 
-fn print_working(rt: &impl Print, r: Working) -> io::Result<()> {
-    match r {
-        Working::Is(b) => print_test(rt, b),
-        Working::Refused(k) => print_refused(rt, k),
+fn print_working(rt: &impl Print, working: Result<bool, ClockError>) -> io::Result<()> {
+    match working {
+        Ok(b) => print_test(rt, b),
+        Err(e) => print_refused(rt, e.number()),
     }
 }
 
@@ -90,19 +87,14 @@ fn answer_walk(
 ) -> io::Result<()>
     requires { Valid week file.now at n }
 {
-    if code == 1 {
-        return print_walk(rt, clock::next_start(week, file, at, n, t));
-    }
-    if code == 2 {
-        return print_walk(rt, clock::previous_finish(week, file, at, n, t));
-    }
-    if code == 3 {
-        return print_walk(rt, clock::next_finish(week, file, at, n, t));
-    }
-    if code == 4 {
-        return print_walk(rt, clock::previous_start(week, file, at, n, t));
-    }
-    print_walk(rt, clock::start_by(week, file, at, n, t))
+    let walk = match code {
+        1 => clock::next_start(week, file, at, n, t),
+        2 => clock::previous_finish(week, file, at, n, t),
+        3 => clock::next_finish(week, file, at, n, t),
+        4 => clock::previous_start(week, file, at, n, t),
+        _ => clock::start_by(week, file, at, n, t),
+    };
+    print_walk(rt, walk)
 }
 
 // The functions of a time that answer a test or a count.
@@ -117,13 +109,11 @@ fn answer_count(
 ) -> io::Result<()>
     requires { Valid week file.now at n }
 {
-    if code == 6 {
-        return print_working(rt, clock::working_at(week, file, at, n, t));
+    match code {
+        6 => print_working(rt, clock::working_at(week, file, at, n, t)),
+        7 => print_work(rt, clock::worked_before(week, file, at, n, t)),
+        _ => print_work(rt, clock::day_work(week, file, at, n, t / 1440)),
     }
-    if code == 7 {
-        return print_work(rt, clock::worked_before(week, file, at, n, t));
-    }
-    print_work(rt, clock::day_work(week, file, at, n, t / 1440))
 }
 
 // The functions of a time and the work that stands at `second`.
@@ -139,25 +129,21 @@ fn answer_move(
 ) -> io::Result<()>
     requires { Valid week file.now at n × (second + 6 ≤ length file.now) }
 {
-    if code == 9 {
-        return print_walk(
+    match code {
+        9 => print_walk(
             rt,
             clock::advance(week, file, at, n, t, number::read_u32(file, second)),
-        );
-    }
-    if code == 10 {
-        return print_walk(
+        ),
+        10 => print_walk(
             rt,
             clock::retreat(week, file, at, n, t, number::read_u32(file, second)),
-        );
+        ),
+        11 => print_walk(rt, clock::shift(week, file, at, n, t, lag_at(file, second))),
+        _ => print_work(
+            rt,
+            clock::between(week, file, at, n, t, time_at(file, second)),
+        ),
     }
-    if code == 11 {
-        return print_walk(rt, clock::shift(week, file, at, n, t, lag_at(file, second)));
-    }
-    print_work(
-        rt,
-        clock::between(week, file, at, n, t, time_at(file, second)),
-    )
 }
 
 // The answer of the function with a code, on the time `t` and what stands at `second`.
@@ -174,57 +160,30 @@ fn answer(
     requires { Valid week file.now at n × (second + 6 ≤ length file.now) }
 {
     if code < 6 {
-        return answer_walk(rt, week, file, at, n, code, t);
+        answer_walk(rt, week, file, at, n, code, t)
+    } else if code < 9 {
+        answer_count(rt, week, file, at, n, code, t)
+    } else {
+        answer_move(rt, week, file, at, n, code, t, second)
     }
-    if code < 9 {
-        return answer_count(rt, week, file, at, n, code, t);
-    }
-    answer_move(rt, week, file, at, n, code, t, second)
 }
 
-fn name_walk(rt: &impl Print, code: u64) -> io::Result<()> {
-    if code == 1 {
-        return write(rt, b"next_start ");
-    }
-    if code == 2 {
-        return write(rt, b"previous_finish ");
-    }
-    if code == 3 {
-        return write(rt, b"next_finish ");
-    }
-    if code == 4 {
-        return write(rt, b"previous_start ");
-    }
-    write(rt, b"start_by ")
-}
-
-fn name_rest(rt: &impl Print, code: u64) -> io::Result<()> {
-    if code == 6 {
-        return write(rt, b"working_at ");
-    }
-    if code == 7 {
-        return write(rt, b"worked_before ");
-    }
-    if code == 8 {
-        return write(rt, b"day_work ");
-    }
-    if code == 9 {
-        return write(rt, b"advance ");
-    }
-    if code == 10 {
-        return write(rt, b"retreat ");
-    }
-    if code == 11 {
-        return write(rt, b"shift ");
-    }
-    write(rt, b"between ")
-}
-
+// The name of the function with a code; 0 counts as 5, as in `answer`.
 fn print_name(rt: &impl Print, code: u64) -> io::Result<()> {
-    if code < 6 {
-        return name_walk(rt, code);
+    match code {
+        1 => write(rt, b"next_start "),
+        2 => write(rt, b"previous_finish "),
+        3 => write(rt, b"next_finish "),
+        4 => write(rt, b"previous_start "),
+        0 | 5 => write(rt, b"start_by "),
+        6 => write(rt, b"working_at "),
+        7 => write(rt, b"worked_before "),
+        8 => write(rt, b"day_work "),
+        9 => write(rt, b"advance "),
+        10 => write(rt, b"retreat "),
+        11 => write(rt, b"shift "),
+        _ => write(rt, b"between "),
     }
-    name_rest(rt, code)
 }
 
 // The second argument, where the function has one.
@@ -381,6 +340,7 @@ fn run_calendar(rt: &impl Print, file: &[u8], at: usize) -> Ran
 
 fn run_file(rt: &impl Print, file: &[u8]) -> io::Result<()> {
     let mut at: usize = 0;
+    // Each calendar tells where it ends, so no range gives the places of the next: an iterator of our own would say no more than this loop.
     while at < file.len() {
         let ran = run_calendar(rt, file, at);
         ran.printed?;

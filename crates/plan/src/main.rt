@@ -6,6 +6,8 @@ ghost use Rattle.std.specs.Prelude.{◌+◌, ◌≤◌, ◌<◌, length};
 use sched::Answer;
 use std::io;
 
+// This and the three after it stand in both `plan` and `replay`. std's `Print` promises nothing of what is written, so in a library they would be public functions
+// with no contract, and a rule of the project wants one of each.
 fn write(rt: &impl Print, text: &[u8]) -> io::Result<()> {
     rt.write_all(text)
 }
@@ -29,13 +31,8 @@ fn print_row(rt: &impl Print, results: &[i64], at: usize, n: usize) -> io::Resul
 
 // A line an activity, as far as the results reach.
 fn print_rows(rt: &impl Print, results: &[i64], a: u64) -> io::Result<()> {
-    let mut at: usize = 0;
-    for _ in 0..a {
-        if results.len() - at < 15 {
-            break;
-        }
-        print_row(rt, results, at, 15)?;
-        at += 15;
+    for i in 0..(results.len() / 15).min(a as usize) {
+        print_row(rt, results, 15 * i, 15)?;
     }
     Ok(())
 }

@@ -1,7 +1,7 @@
 // Before the forward pass: recorded dates are placed and the work left of each activity is found.
 #![tactic(auto)]
 
-ghost use Rattle.std.specs.Prelude.{◌≡◌, false, ◌-◌, ◌^◌, ◌<◌, max, min, length, Ok};
+ghost use Rattle.std.specs.Prelude.{◌≡◌, false, ◌^◌, ◌<◌, length, Ok};
 ghost use Rattle.number.specs.Zed.{up};
 ghost use Rattle.sheet.specs.Known.{SheetRead};
 ghost use Rattle.memory.specs.State.{Room, state_of};
@@ -27,42 +27,11 @@ use worktime::ClockError;
 // The most minutes of work left that an activity may tell.
 const MOST: u64 = 144000000;
 
-// The later of two times.
-fn later(s: u64, t: u64) -> u64
-    ensures { result ≡ max s t }
-{
-    if s < t {
-        return t;
-    }
-    s
-}
-
-// What is left of `whole` minutes once `done` are worked.
-fn less(whole: u64, done: u64) -> u64
-    ensures { result ≡ whole - done }
-{
-    if whole < done {
-        return 0;
-    }
-    whole - done
-}
-
 // Minutes as a record has them: 0 for a negative number.
 fn minutes_of(minutes: i32) -> u64
     ensures { (result ≡ up minutes) × (result < 2 ^ 63) }
 {
     number::sign::upward(minutes as i64)
-}
-
-// The minutes of work left that an activity tells, from 0 to the most.
-fn clamped(told: i32) -> u64
-    ensures { result ≡ min (up told) 144000000 }
-{
-    let minutes = minutes_of(told);
-    if MOST < minutes {
-        return MOST;
-    }
-    minutes
 }
 
 // The minutes less the work from the recorded start to the data day; all of them without a data day.
@@ -82,9 +51,9 @@ fn since_start(
     match project::fields::read_optional_date(sheet, 5) {
         None => Ok(whole),
         Some(day) => {
-            let by = later(day.midnight(), start);
+            let by = day.midnight().max(start);
             let done = clock::between(week, sheet, at, n, start, by)?;
-            Ok(less(whole, number::sign::upward(done)))
+            Ok(whole.saturating_sub(number::sign::upward(done)))
         }
     }
 }
@@ -104,9 +73,8 @@ fn still_left(
     requires { SheetRead sheet.now contents × (activity ≡ (plan_of sheet.now contents).activity i) × IsCalendar sheet.now contents (calendar_of (plan_of sheet.now contents) i) week at n × (whole ≡ full (plan_of sheet.now contents) i) }
     ensures { result ≡ still_left (plan_of sheet.now contents) i start ((plan_of sheet.now contents).activity i).remaining }
 {
-    let told = activity.remaining;
-    match told {
-        Some(minutes) => Ok(clamped(minutes)),
+    match activity.remaining {
+        Some(minutes) => Ok(minutes_of(minutes).min(MOST)),
         None => since_start(sheet, contents, i, week, at, n, start, whole),
     }
 }
@@ -116,8 +84,7 @@ fn settled(actual: Actual, whole: u64) -> Result<u64, ClockError>
     ensures { result ≡ settled_by actual whole }
 {
     match actual {
-        Actual::Unstarted => Ok(whole),
-        Actual::Begun(_) => Ok(whole),
+        Actual::Unstarted | Actual::Begun(_) => Ok(whole),
         Actual::Completed(_, _) => Ok(0),
         Actual::Refused(k) => Err(k),
     }
@@ -149,10 +116,9 @@ fn how_of(actual: Actual) -> u64
     ensures { (result ≡ how_of actual) × (result < 3) }
 {
     match actual {
-        Actual::Unstarted => 0,
+        Actual::Unstarted | Actual::Refused(_) => 0,
         Actual::Begun(_) => 1,
         Actual::Completed(_, _) => 2,
-        Actual::Refused(_) => 0,
     }
 }
 
@@ -161,10 +127,8 @@ fn start_of(actual: Actual) -> u64
     ensures { result ≡ start_of actual }
 {
     match actual {
-        Actual::Unstarted => 0,
-        Actual::Begun(start) => start,
-        Actual::Completed(start, _) => start,
-        Actual::Refused(_) => 0,
+        Actual::Unstarted | Actual::Refused(_) => 0,
+        Actual::Begun(start) | Actual::Completed(start, _) => start,
     }
 }
 
@@ -267,11 +231,8 @@ pub fn remaining(
     requires { Ready sheet.now contents places.now t work.old }
     ensures { (ended (left_in (plan_of sheet.now contents) (state_of contents.activities contents.links work.new)) result ≡ remaining (plan_of sheet.now contents)) × (result ≡ (Ok tt) → Recorded (plan_of sheet.now contents) (state_of contents.activities contents.links work.new)) × Frame 14 20 0 0 (state_of contents.activities contents.links work.old) (state_of contents.activities contents.links work.new) × (length work.new ≡ length work.old) }
 {
-    let a = contents.activities;
-    let mut i: usize = 0;
-    while i < a {
+    for i in 0..contents.activities {
         record_one(sheet, contents, places, t, work, i)?;
-        i += 1;
     }
     Ok(())
 }

@@ -8,6 +8,8 @@ use sched::Answer;
 use std::io::Read;
 use std::{fs, io};
 
+// This and the three after it stand in both `plan` and `replay`. std's `Print` promises nothing of what is written, so in a library they would be public functions
+// with no contract, and a rule of the project wants one of each.
 fn write(rt: &impl Print, text: &[u8]) -> io::Result<()> {
     rt.write_all(text)
 }
@@ -31,33 +33,20 @@ fn print_row(rt: &impl Print, results: &[i64], at: usize, n: usize) -> io::Resul
 
 // A line an activity, as far as the results reach.
 fn print_rows(rt: &impl Print, results: &[i64], a: u64) -> io::Result<()> {
-    let mut at: usize = 0;
-    for _ in 0..a {
-        if results.len() - at < 15 {
-            break;
-        }
-        print_row(rt, results, at, 15)?;
-        at += 15;
+    for i in 0..(results.len() / 15).min(a as usize) {
+        print_row(rt, results, 15 * i, 15)?;
     }
     Ok(())
-}
-
-fn wide(x: u32) -> u64 {
-    x as u64
 }
 
 // Where the first 0 stands, or the end.
 fn first_zero(names: &[u32]) -> usize
     ensures { result ≤ length names.now }
 {
-    let mut i: usize = 0;
-    while i < names.len() {
-        if names[i] == 0 {
-            return i;
-        }
-        i += 1;
-    }
-    i
+    names
+        .iter()
+        .position(|name| *name == 0)
+        .unwrap_or(names.len())
 }
 
 // The first `n` names on a line, where there are any.
@@ -69,7 +58,7 @@ fn print_names(rt: &impl Print, names: &[u32], n: usize) -> io::Result<()>
     }
     write(rt, b"names")?;
     for name in &names[..n] {
-        print!(rt; " {}", wide(*name))?;
+        print!(rt; " {name}")?;
     }
     write(rt, b"\n")
 }

@@ -76,9 +76,7 @@ fn total_by(actual: Actual, total: i64) -> i64
 {
     match actual {
         Actual::Completed(_, _) => 0,
-        Actual::Unstarted => total,
-        Actual::Begun(_) => total,
-        Actual::Refused(_) => total,
+        Actual::Unstarted | Actual::Begun(_) | Actual::Refused(_) => total,
     }
 }
 
@@ -100,24 +98,13 @@ fn total_of(
 }
 
 // ---- days
-// The minute before.
-fn before(t: u64) -> u64
-    ensures { result ≡ t - 1 }
-{
-    if t == 0 {
-        return 0;
-    }
-    t - 1
-}
-
 // The minute whose day a start shows.
 fn start_minute(kind: ActivityKind, t: u64) -> u64
     ensures { result ≡ start_minute kind t }
 {
     match kind {
-        ActivityKind::Task => t,
-        ActivityKind::StartMilestone => t,
-        ActivityKind::FinishMilestone => before(t),
+        ActivityKind::Task | ActivityKind::StartMilestone => t,
+        ActivityKind::FinishMilestone => t.saturating_sub(1),
     }
 }
 
@@ -126,14 +113,9 @@ fn finish_minute(kind: ActivityKind, left: u64, t: u64) -> u64
     ensures { result ≡ finish_minute kind left t }
 {
     match kind {
-        ActivityKind::Task => {
-            if left == 0 {
-                return t;
-            }
-            before(t)
-        }
+        ActivityKind::Task if left == 0 => t,
         ActivityKind::StartMilestone => t,
-        ActivityKind::FinishMilestone => before(t),
+        ActivityKind::Task | ActivityKind::FinishMilestone => t.saturating_sub(1),
     }
 }
 
@@ -151,16 +133,10 @@ fn days_of(kind: ActivityKind, actual: Actual, t: Times) -> Days
 fn all_in_years(days: Days) -> bool
     ensures { result ≡ all_in_years days }
 {
-    if date::in_years(days.ef) {
-        if date::in_years(days.es) {
-            if date::in_years(days.ls) {
-                return date::in_years(days.lf);
-            }
-            return false;
-        }
-        return false;
-    }
-    false
+    date::in_years(days.ef)
+        && date::in_years(days.es)
+        && date::in_years(days.ls)
+        && date::in_years(days.lf)
 }
 
 // ---- critical, by total float or by the longest path
@@ -189,9 +165,9 @@ fn critical_of(actual: Actual, by: CriticalBy, day_length: u64, total: i64, path
 {
     match actual {
         Actual::Completed(_, _) => false,
-        Actual::Unstarted => is_critical(by, day_length, total, path),
-        Actual::Begun(_) => is_critical(by, day_length, total, path),
-        Actual::Refused(_) => is_critical(by, day_length, total, path),
+        Actual::Unstarted | Actual::Begun(_) | Actual::Refused(_) => {
+            is_critical(by, day_length, total, path)
+        }
     }
 }
 
@@ -214,22 +190,22 @@ fn shown_of(
     let by = project.critical_by;
     let total = total_of(float, actual, t, week, sheet, at, n)?;
     let days = days_of(kind, actual, t);
-    if all_in_years(days) {
-        let critical = critical_of(actual, by, day_length, total, t.path);
-        return Ok(Shown {
-            es: days.es,
-            ef: days.ef,
-            ls: days.ls,
-            lf: days.lf,
-            total,
-            free: t.free,
-            critical,
-            path: t.path,
-            finish: t.ef,
-            late: t.lf,
-        });
+    if !all_in_years(days) {
+        return Err(ClockError::TooLong);
     }
-    Err(ClockError::TooLong)
+    let critical = critical_of(actual, by, day_length, total, t.path);
+    Ok(Shown {
+        es: days.es,
+        ef: days.ef,
+        ls: days.ls,
+        lf: days.lf,
+        total,
+        free: t.free,
+        critical,
+        path: t.path,
+        finish: t.ef,
+        late: t.lf,
+    })
 }
 
 // ---- an activity's row of the memory
@@ -295,10 +271,7 @@ pub fn shown_at(work: &[i64], a: usize, l: usize, i: usize) -> Shown
 pub fn number_of(b: bool) -> u64
     ensures { result ≡ bit b }
 {
-    if b {
-        return 1;
-    }
-    0
+    b as u64
 }
 
 fn put_days(work: &mut [i64], a: usize, l: usize, i: usize, x: Shown)
@@ -383,8 +356,7 @@ fn show_one(
     requires { ToShow sheet.now contents places.now lengths.now work.old × (i < contents.activities) × (project ≡ (plan_of sheet.now contents).project) }
     ensures { (ended (shown_to (i + 1) (state_of contents.activities contents.links work.new)) result ≡ shown_next (row_shown (plan_of sheet.now contents) (state_of contents.activities contents.links work.old) i) (shown_to i (state_of contents.activities contents.links work.old)) i) × Frame 20 30 0 0 (state_of contents.activities contents.links work.old) (state_of contents.activities contents.links work.new) × (length work.new ≡ length work.old) }
 {
-    let row = row_of(sheet, contents, places, lengths, project, work, i);
-    let x = row?;
+    let x = row_of(sheet, contents, places, lengths, project, work, i)?;
     put_shown(work, contents.activities, contents.links, i, x);
     Ok(())
 }
@@ -401,11 +373,8 @@ pub fn show_all(
     ensures { ((e : ℕ) (other : ℕ → Bool) → ended (shown_to contents.activities (state_of contents.activities contents.links work.new)) result ≡ shown_below (plan_of sheet.now contents) (ran_in (plan_of sheet.now contents) (state_of contents.activities contents.links work.old) e other) contents.activities) × Frame 20 30 0 0 (state_of contents.activities contents.links work.old) (state_of contents.activities contents.links work.new) × (length work.new ≡ length work.old) }
 {
     let project = project::records::read_project(sheet, 0);
-    let mut i: usize = 0;
-    while i < contents.activities {
-        let step = show_one(sheet, contents, places, lengths, project, work, i);
-        step?;
-        i += 1;
+    for i in 0..contents.activities {
+        show_one(sheet, contents, places, lengths, project, work, i)?;
     }
     Ok(())
 }

@@ -1,13 +1,12 @@
 -- How the chains are built, from the last activity to the first.
-use Rattle.std.specs.Prelude.{◌≡◌, refl, ◌≢◌, ℕ, suc, ◌+◌, ◌-◌, ◌≤◌, ◌<◌, pos}
+use Rattle.std.specs.Prelude.{◌≡◌, ◌≢◌, ℕ, suc, ◌+◌, ◌<◌, pos}
 use Rattle.std.proofs.Common.{sym, ap, ◌∙◌, subst, ⊎_elim, arith}
 use Rattle.number.specs.Order.{eq_or_ne}
-use Rattle.cells.specs.Chain.{Stands}
 use Rattle.cells.specs.ChainLaws.{stands_here, stands_end, stands_back}
 use Rattle.memory.specs.State.{State, put_act, fill_act}
-use Rattle.memory.specs.StateLaws.{act_same, act_row, act_field, fill_act_lem, fill_act_field}
+use Rattle.memory.specs.StateLaws.{act_same, act_row, act_field, fill_act_lem}
 use Rattle.topology.specs.Frame.{Frame}
-use Rattle.topology.specs.FrameLaws.{outside_below, outside_above, frame_put, frame_then, frame_fill}
+use Rattle.topology.specs.FrameLaws.{outside_below, frame_put, frame_then}
 use Rattle.rollup.specs.Chained.{Linked, LinkedIn, KeysIn}
 
 linked_none : (key head next : ℕ → ℕ) (a : ℕ) → ((i : ℕ) → i < a → head i ≡ a) → Linked key head next a a

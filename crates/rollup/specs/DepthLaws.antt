@@ -1,5 +1,5 @@
 -- The turns of a climb that counts its steps, and depths put one after the other.
-use Rattle.std.specs.Prelude.{◌≡◌, Bool, true, false, ◌≢◌, eqb, pos}
+use Rattle.std.specs.Prelude.{◌≡◌, true, false, ◌≢◌, eqb, pos}
 use Rattle.std.proofs.Math.Path.{refl, sym, ap}
 use Rattle.std.proofs.Common.{◌∙◌, ⊎_elim, eq-eqb, ne_eqb}
 use Prim.Native.Nat.{ℕ, zero, suc, ◌+◌, ◌-◌, ◌≤◌, ◌<◌}

@@ -1,5 +1,5 @@
 -- The depth of each summary in its row, and 0 for the others.
-use Rattle.std.specs.Prelude.{◌≡◌, Bool, true, false, ℕ, ◌<◌, eqb, ltb}
+use Rattle.std.specs.Prelude.{◌≡◌, true, false, ℕ, ◌<◌, eqb}
 use Rattle.memory.specs.State.{State}
 use Rattle.memory.specs.Fields.{parent, is_summary, depth_of}
 use Rattle.network.specs.ParentLinks.{depth}

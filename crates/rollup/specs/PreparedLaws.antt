@@ -2,9 +2,9 @@
 use Rattle.std.specs.Prelude.{◌≡◌, Bool, List, eqb, ltb, ℤ, Result, Ok, Err}
 use Rattle.worktime.specs.declared.ClockError.{ClockError}
 use Rattle.std.proofs.Math.Path.{refl, ap}
-use Rattle.std.proofs.Common.{sym, ◌∙◌, subst, arith}
+use Rattle.std.proofs.Common.{sym, ◌∙◌, arith}
 use Rattle.std.proofs.Math.Bool.{true, false}
-use Prim.Native.Nat.{ℕ, zero, suc, ◌+◌, ◌≤◌, ◌<◌}
+use Prim.Native.Nat.{ℕ, zero, suc, ◌≤◌, ◌<◌}
 use Rattle.number.specs.Bit.{bit}
 use Rattle.memory.specs.State.{State, state_of}
 use Rattle.memory.specs.Fields.{parent, is_summary, depth_of, first_deep, next_deep, first_child, shown_start, shown_finish, shown_late_start, shown_late_finish, total_float, shown_free, is_critical, is_longest, greatest_finish, greatest_late}

@@ -1,5 +1,5 @@
 -- A summary from its children: joined one after the other, with its own float.
-use Rattle.std.specs.Prelude.{Bool, true, false, ◌||◌, List, [], ◌∷◌, ◌++◌, ℕ, zero, suc, ◌+◌, min, max, eqb, ℤ}
+use Rattle.std.specs.Prelude.{Bool, true, false, ◌||◌, List, [], ◌∷◌, ◌++◌, ℕ, zero, suc, ◌+◌, min, max, ℤ}
 use Rattle.cells.specs.Chain.{after}
 use Rattle.memory.specs.State.{State}
 use Rattle.memory.specs.Fields.{parent, first_child}

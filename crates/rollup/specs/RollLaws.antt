@@ -1,23 +1,22 @@
 -- The children and the summaries of a depth as the chains list them, and a summary by its children's sum.
-use Rattle.std.specs.Prelude.{◌≡◌, Bool, ◌||◌, ◌&&◌, ◌≢◌, ℤ}
+use Rattle.std.specs.Prelude.{◌≡◌, Bool, ◌||◌, ◌&&◌}
 use Rattle.std.proofs.Math.Path.{refl, sym, ap}
-use Rattle.std.proofs.Common.{◌∙◌, ⊎_elim, arith, eq-eqb, ne_eqb}
+use Rattle.std.proofs.Common.{◌∙◌, arith, ne_eqb}
 use Rattle.std.proofs.Math.Bool.{true, false}
 use mathlib.Core.List.{List, [], ◌∷◌, ◌++◌, append-nil}
-use Prim.Native.Nat.{ℕ, zero, suc, ◌+◌, ◌-◌, min, max, ◌≤◌, ◌<◌}
+use Prim.Native.Nat.{ℕ, zero, suc, ◌+◌, ◌-◌, ◌≤◌, ◌<◌}
 use Rattle.std.proofs.Math.Dec.{eqb}
-use Rattle.number.specs.Bit.{bit}
 use Rattle.cells.specs.Chain.{keyed, after, Stands}
 use Rattle.cells.specs.ChainLaws.{after_hit, after_end}
 use Rattle.worktime.specs.Walks.{between}
 use Rattle.memory.specs.State.{State}
-use Rattle.memory.specs.Fields.{parent, is_summary, depth_of, first_child}
+use Rattle.memory.specs.Fields.{parent, first_child}
 use Rattle.network.specs.ParentLinks.{depth}
 use Rattle.order.specs.Plan.{Plan}
 use Rattle.order.specs.Ids.{parent_of, summary}
 use Rattle.passes.specs.Plan.{own}
-use Rattle.passes.specs.Dates.{Pass, leaves, refused, put}
-use Rattle.passes.specs.Floats.{measured, day_of, critical_by}
+use Rattle.passes.specs.Dates.{leaves, refused, put}
+use Rattle.passes.specs.Floats.{measured, critical_by}
 use Rattle.passes.specs.Run.{Ran}
 use Rattle.results.specs.declared.Shown.{Shown}
 use Rattle.results.specs.Results.{least_of, greatest_of, some_of, children_below, summaries_at, rolled_from, rolled}

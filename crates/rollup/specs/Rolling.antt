@@ -1,18 +1,16 @@
 -- What the roll-up needs of the memory, and a summary's own part of it.
-use Rattle.std.specs.Prelude.{◌≡◌, Bool, true, false, List, ℕ, ◌≤◌, ◌<◌, ℤ}
+use Rattle.std.specs.Prelude.{◌≡◌, true, false, ℕ, ◌≤◌, ◌<◌}
 use Rattle.number.specs.Bit.{bit}
 use Rattle.worktime.specs.Walks.{between}
-use Rattle.memory.specs.State.{State, state_of}
+use Rattle.memory.specs.State.{State}
 use Rattle.memory.specs.Fields.{parent, is_summary, depth_of, first_deep, first_child}
 use Rattle.network.specs.ParentLinks.{depth}
-use Rattle.sheet.specs.declared.Contents.{Contents}
-use Rattle.order.specs.Plan.{Plan, plan_of}
+use Rattle.order.specs.Plan.{Plan}
 use Rattle.order.specs.Ids.{parent_of, summary}
 use Rattle.passes.specs.Plan.{own}
 use Rattle.passes.specs.Dates.{Pass, leaves, refused}
 use Rattle.passes.specs.Floats.{measured}
 use Rattle.results.specs.declared.Shown.{Shown}
-use Rattle.results.specs.Row.{ToShow}
 use Rattle.rollup.specs.Chained.{LinkedIn}
 use Rattle.rollup.specs.Roll.{summed}
 

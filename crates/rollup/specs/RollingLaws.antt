@@ -1,10 +1,10 @@
 -- The turns of the roll-up.
-use Rattle.std.specs.Prelude.{◌≡◌, refl, Bool, true, false, ◌&&◌, eqb, ℤ, Result, Ok, Err}
+use Rattle.std.specs.Prelude.{◌≡◌, refl, Bool, ℤ, Result, Ok, Err}
 use Rattle.worktime.specs.declared.ClockError.{ClockError}
 use Rattle.std.proofs.Math.Path.{sym, ap}
-use Rattle.std.proofs.Common.{◌∙◌, subst}
+use Rattle.std.proofs.Common.{◌∙◌}
 use mathlib.Core.List.{List, [], ◌∷◌, ◌++◌}
-use Prim.Native.Nat.{ℕ, zero, suc, ◌+◌, ◌-◌, ◌≤◌, ◌<◌}
+use Prim.Native.Nat.{ℕ, suc, ◌+◌, ◌-◌, ◌≤◌, ◌<◌}
 use native.Mathlib.Omega.{arith}
 use Rattle.cells.specs.Chain.{after, Stands}
 use Rattle.cells.specs.ChainLaws.{after_hit, after_end}
@@ -12,9 +12,7 @@ use Rattle.worktime.specs.Walks.{between}
 use Rattle.memory.specs.State.{State}
 use Rattle.memory.specs.Fields.{parent, depth_of, first_deep, next_deep, first_child, next_child}
 use Rattle.topology.specs.Frame.{Frame}
-use Rattle.network.specs.ParentLinks.{depth}
 use Rattle.order.specs.Plan.{Plan}
-use Rattle.order.specs.Ids.{parent_of, summary}
 use Rattle.passes.specs.Plan.{own}
 use Rattle.passes.specs.Dates.{Pass, leaves, refused, put, through}
 use Rattle.passes.specs.Dates as pass
@@ -23,12 +21,12 @@ use Rattle.passes.specs.Run.{Ran}
 use Rattle.dates.specs.Columns.{ended}
 use Rattle.results.specs.declared.Shown.{Shown}
 use Rattle.results.specs.Results.{summaries_at, deepest_first, rolled}
-use Rattle.results.specs.View.{shown_to, shown_in, put_shown}
+use Rattle.results.specs.View.{shown_in, put_shown}
 use Rattle.results.specs.ViewLaws.{to_put}
 use Rattle.results.specs.Showing.{showing, critical_in}
 use Rattle.rollup.specs.Roll.{child_sum, summed}
 use Rattle.rollup.specs.RollLaws.{roll_none, roll_some, summaries_are}
-use Rattle.rollup.specs.Rolling.{deep_of, Deep, summed_pass}
+use Rattle.rollup.specs.Rolling.{Deep, summed_pass}
 
 -- ---- one summary
 abbrev pub put_pass : Pass Shown → (ℕ → Shown) → ℕ → Pass (ℕ → Shown)

@@ -1,7 +1,7 @@
 // Summaries rolled up from their children, deepest first.
 #![tactic(auto)]
 
-ghost use Rattle.std.specs.Prelude.{◌≡◌, Bool, ◌||◌, ℕ, ◌+◌, ◌^◌, ◌≤◌, ◌<◌, min, max, length};
+ghost use Rattle.std.specs.Prelude.{◌≡◌, Bool, ℕ, ◌+◌, ◌^◌, ◌≤◌, ◌<◌, length};
 ghost use Rattle.memory.specs.State.{Room, state_of, put_act};
 ghost use Rattle.memory.specs.Fields.{parent, depth_of, first_child};
 ghost use Rattle.topology.specs.Frame.{Frame};
@@ -30,6 +30,7 @@ use sheet::Contents;
 use worktime::ClockError;
 
 // ---- chains through the activities
+// They are not `memory::chain`'s: those chain links by an activity, these activities by a key that may be none, and in another table.
 // Puts activity `c` before those with its key.
 fn chain_one(work: &mut [i64], a: usize, l: usize, key: usize, head: usize, c: usize)
     requires { Room a l work.old × (c < a) × (key < head) × (head + 2 ≤ 64) × KeysIn key a (state_of a l work.old) × LinkedIn key head a (c + 1) (state_of a l work.old) }
@@ -49,9 +50,7 @@ fn chain_down(work: &mut [i64], a: usize, l: usize, key: usize, head: usize)
     requires { Room a l work.old × (key < head) × (head + 2 ≤ 64) × KeysIn key a (state_of a l work.old) × LinkedIn key head a a (state_of a l work.old) }
     ensures { LinkedIn key head a 0 (state_of a l work.new) × Frame head (head + 2) 0 0 (state_of a l work.old) (state_of a l work.new) × (length work.new ≡ length work.old) }
 {
-    let mut c = a;
-    while c > 0 {
-        c -= 1;
+    for c in (0..a).rev() {
         chain_one(work, a, l, key, head, c);
     }
 }
@@ -72,15 +71,13 @@ fn depth_of(work: &[i64], a: usize, l: usize, i: usize) -> usize
     ensures { (result ≡ depth ((state_of a l work.now).act parent) a i) × (result ≤ a) }
 {
     let mut y = i + 1;
-    let mut k: usize = 0;
-    while k < a {
+    for k in 0..a {
         if y == 0 {
             return k;
         }
         y = memory::get_act(work, a, l, y - 1, memory::fields::PARENT) as usize;
-        k += 1;
     }
-    k
+    a
 }
 
 // Puts the depth of activity `i` into its row, where it is a summary, and else 0.
@@ -101,64 +98,26 @@ fn mark_depths(work: &mut [i64], a: usize, l: usize)
     requires { Room a l work.old × (a < 2 ^ 63) × KeysIn parent a (state_of a l work.old) }
     ensures { DepthsTo (state_of a l work.old) (state_of a l work.new) a a × Frame 30 31 0 0 (state_of a l work.old) (state_of a l work.new) × (length work.new ≡ length work.old) }
 {
-    let mut i: usize = 0;
-    while i < a {
+    for i in 0..a {
         mark_one(work, a, l, i);
-        i += 1;
     }
 }
 
 // ---- a summary's children
-fn least(a: u64, b: u64) -> u64
-    ensures { result ≡ min a b }
-{
-    if b < a {
-        return b;
-    }
-    a
-}
-
-fn greatest(a: u64, b: u64) -> u64
-    ensures { result ≡ max a b }
-{
-    if a < b {
-        return b;
-    }
-    a
-}
-
-fn either(a: bool, b: bool) -> bool
-    ensures { result ≡ (a || b) }
-{
-    if a {
-        return true;
-    }
-    b
-}
-
 // The dates of both, the total float of the first.
 fn join(x: Shown, y: Shown) -> Shown
     requires { Holds x × Holds y }
     ensures { (result ≡ joined x y) × Holds result }
 {
-    let es = least(x.es, y.es);
-    let ef = greatest(x.ef, y.ef);
-    let ls = least(x.ls, y.ls);
-    let lf = greatest(x.lf, y.lf);
-    let path = either(x.path, y.path);
-    let finish = greatest(x.finish, y.finish);
-    let late = greatest(x.late, y.late);
     Shown {
-        es,
-        ef,
-        ls,
-        lf,
-        total: x.total,
-        free: x.free,
-        critical: x.critical,
-        path,
-        finish,
-        late,
+        es: x.es.min(y.es),
+        ef: x.ef.max(y.ef),
+        ls: x.ls.min(y.ls),
+        lf: x.lf.max(y.lf),
+        path: x.path || y.path,
+        finish: x.finish.max(y.finish),
+        late: x.late.max(y.late),
+        ..x
     }
 }
 
@@ -169,6 +128,7 @@ fn sum_children(work: &[i64], a: usize, l: usize, s: usize, first: usize) -> Sho
 {
     let mut x = results::shown_at(work, a, l, first);
     let mut k = memory::get_act(work, a, l, first, memory::fields::NEXT_CHILD) as usize;
+    // The next child comes from the memory: no range or iterator of std gives it, and an iterator of our own would need its own proof for this one loop.
     while k < a {
         x = join(x, results::shown_at(work, a, l, k));
         k = memory::get_act(work, a, l, k, memory::fields::NEXT_CHILD) as usize;
@@ -198,16 +158,10 @@ fn summed_of(
     let total = clock::between(week, sheet, e.at, e.n, x.finish, x.late)?;
     let critical = results::is_critical(by, lengths[k], total, x.path);
     Ok(Shown {
-        es: x.es,
-        ef: x.ef,
-        ls: x.ls,
-        lf: x.lf,
         total,
         free: 0,
         critical,
-        path: x.path,
-        finish: x.finish,
-        late: x.late,
+        ..x
     })
 }
 
@@ -235,8 +189,7 @@ fn roll_one(
         return Ok(());
     }
     let x = sum_children(work, contents.activities, contents.links, s, first);
-    let sum = summed_of(sheet, contents, places, lengths, project, s, x);
-    let y = sum?;
+    let y = summed_of(sheet, contents, places, lengths, project, s, x)?;
     results::put_shown(work, contents.activities, contents.links, s, y);
     Ok(())
 }
@@ -262,9 +215,9 @@ fn roll_depth(
         d - 1,
         memory::fields::FIRST_DEEP,
     ) as usize;
+    // As in `sum_children`, the next comes from the memory, which `roll_one` writes to meanwhile.
     while k < contents.activities {
-        let step = roll_one(sheet, contents, places, lengths, project, work, k);
-        step?;
+        roll_one(sheet, contents, places, lengths, project, work, k)?;
         k = memory::get_act(
             work,
             contents.activities,
@@ -287,11 +240,8 @@ fn roll_all(
     requires { ToShow sheet.now contents places.now lengths.now work.old × Deep (plan_of sheet.now contents) (state_of contents.activities contents.links work.old) × (project ≡ (plan_of sheet.now contents).project) }
     ensures { ((q : Ran) → ended (shown_in (plan_of sheet.now contents) (state_of contents.activities contents.links work.new)) result ≡ through (rolled (plan_of sheet.now contents) q) (deepest_first (plan_of sheet.now contents) q contents.activities) (shown_in (plan_of sheet.now contents) (state_of contents.activities contents.links work.old))) × Frame 20 30 0 0 (state_of contents.activities contents.links work.old) (state_of contents.activities contents.links work.new) × (length work.new ≡ length work.old) }
 {
-    let mut d = contents.activities;
-    while d > 0 {
-        let step = roll_depth(sheet, contents, places, lengths, project, work, d);
-        step?;
-        d -= 1;
+    for d in (0..contents.activities).rev() {
+        roll_depth(sheet, contents, places, lengths, project, work, d + 1)?;
     }
     Ok(())
 }
@@ -346,7 +296,6 @@ pub fn results(
     requires { Ready sheet.now contents places.now t work.old × Recorded (plan_of sheet.now contents) (state_of contents.activities contents.links work.old) × Lengths (plan_of sheet.now contents) lengths.now }
     ensures { ((e : ℕ) (other : ℕ → Bool) → ended (shown_in (plan_of sheet.now contents) (state_of contents.activities contents.links work.new)) result ≡ results (plan_of sheet.now contents) (ran_in (plan_of sheet.now contents) (state_of contents.activities contents.links work.old) e other)) × Frame 20 35 0 0 (state_of contents.activities contents.links work.old) (state_of contents.activities contents.links work.new) × (length work.new ≡ length work.old) }
 {
-    let step = results::show_all(sheet, contents, places, lengths, work);
-    step?;
+    results::show_all(sheet, contents, places, lengths, work)?;
     roll_up(sheet, contents, places, lengths, work)
 }

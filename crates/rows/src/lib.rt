@@ -1,7 +1,7 @@
 // The rows of results: 01's fifteen fields of each activity, written into the lent slice, and the finish day.
 #![tactic(auto)]
 
-ghost use Rattle.std.specs.Prelude.{◌≡◌, Bool, ◌++◌, ℕ, ◌+◌, ◌*◌, ◌^◌, ◌≤◌, ◌<◌, max, length, drop};
+ghost use Rattle.std.specs.Prelude.{◌≡◌, Bool, ◌++◌, ℕ, ◌+◌, ◌*◌, ◌^◌, ◌≤◌, ◌<◌, length, drop};
 ghost use Rattle.memory.specs.State.{Room, state_of};
 ghost use Rattle.sheet.specs.Known.{SheetRead};
 ghost use Rattle.order.specs.Plan.{plan_of};
@@ -29,10 +29,9 @@ fn status_number(actual: Actual) -> u64
     ensures { (result ≡ status_number actual) × (result < 3) }
 {
     match actual {
-        Actual::Unstarted => 0,
+        Actual::Unstarted | Actual::Refused(_) => 0,
         Actual::Begun(_) => 1,
         Actual::Completed(_, _) => 2,
-        Actual::Refused(_) => 0,
     }
 }
 
@@ -172,10 +171,8 @@ pub fn write_rows(
     requires { ToWrite sheet.now contents lengths.now work.now × (15 * contents.activities ≤ length results.old) }
     ensures { (e : ℕ) (other : ℕ → Bool) → results.new ≡ rows_below (plan_of sheet.now contents) (ran_in (plan_of sheet.now contents) (state_of contents.activities contents.links work.now) e other) (shown_in (plan_of sheet.now contents) (state_of contents.activities contents.links work.now)) contents.activities ++ drop (15 * contents.activities) results.old }
 {
-    let mut i: usize = 0;
-    while i < contents.activities {
+    for i in 0..contents.activities {
         write_row(sheet, contents, lengths, work, results, i);
-        i += 1;
     }
 }
 
@@ -185,28 +182,14 @@ pub fn finish_day(sheet: &[u8], contents: Contents, work: &[i64]) -> i64
     ensures { (q : Ran) → result ≡ signed_day_of (finish_day (plan_of sheet.now contents) q (shown_in (plan_of sheet.now contents) (state_of contents.activities contents.links work.now)) contents.activities) }
 {
     let mut d = dates::origin_of(sheet, contents) / 1440;
-    let mut i: usize = 0;
-    while i < contents.activities {
-        d = later(
-            d,
-            memory::get_act(
-                work,
-                contents.activities,
-                contents.links,
-                i,
-                memory::fields::SHOWN_FINISH,
-            ),
-        );
-        i += 1;
+    for i in 0..contents.activities {
+        d = d.max(memory::get_act(
+            work,
+            contents.activities,
+            contents.links,
+            i,
+            memory::fields::SHOWN_FINISH,
+        ));
     }
     signed_day_of(d)
-}
-
-fn later(a: u64, b: u64) -> u64
-    ensures { result ≡ max a b }
-{
-    if a < b {
-        return b;
-    }
-    a
 }

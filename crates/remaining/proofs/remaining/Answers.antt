@@ -14,12 +14,12 @@ pub loop-i-init : goal.loop-i-init
 loop-i-init c =
     let x = c.args in
     let S = state_of x.contents.activities x.contents.links x.work.now in
-    (omega arith, refl, frame_refl 14 20 0 0 S, passed_start (plan_of x.sheet.now x.contents) S)
+    (refl, frame_refl 14 20 0 0 S, passed_start (plan_of x.sheet.now x.contents) S)
 
 pub record_one-requires : goal.record_one-requires
 record_one-requires c =
     let L = c.loop-i in
-    (ready_kept c.requires L.invariant.2 L.invariant.1 (omega arith), omega arith)
+    (ready_kept c.requires L.invariant.1 L.invariant.0 (omega arith), omega arith)
 
 pub returns-in_err-record_one : goal.returns-in_err-record_one
 unfolding plan_of
@@ -27,10 +27,10 @@ returns-in_err-record_one c = rw (handed_on _ _ c.from_residual.ensures.1) (let 
     let L = c.loop-i in
     let x = c.args in
     let p = plan_of x.sheet.now x.contents in (
-      passed_stop p L.i _ _ L.invariant.3 _ e.0 _ c.in_err-record_one.was (omega arith),
+      passed_stop p L.i _ _ L.invariant.2 _ e.0 _ c.in_err-record_one.was (omega arith),
       λ d. clash (cc),
-      frame_then 14 20 0 0 L.invariant.2 e.0.frame,
-      e.1 ∙ L.invariant.1,
+      frame_then 14 20 0 0 L.invariant.1 e.0.frame,
+      e.1 ∙ L.invariant.0,
     ))
 
 pub loop-i-preserved : goal.loop-i-preserved
@@ -39,14 +39,13 @@ loop-i-preserved c =
     let L = c.loop-i in
     let x = c.args in
     let p = plan_of x.sheet.now x.contents in (
-      omega arith,
-      e.1 ∙ L.invariant.1,
-      frame_then 14 20 0 0 L.invariant.2 e.0.frame,
-      passed_turn p L.i _ _ L.invariant.3 _ e.0 c.in_ok-record_one.was,
+      e.1 ∙ L.invariant.0,
+      frame_then 14 20 0 0 L.invariant.1 e.0.frame,
+      passed_turn p L.i _ _ L.invariant.2 _ e.0 c.in_ok-record_one.was,
     )
 
 pub shape_of-work : goal.shape_of-work
-shape_of-work c = c.loop-i.invariant.1
+shape_of-work c = c.loop-i.invariant.0
 
 pub returns : goal.returns
 unfolding plan_of
@@ -55,5 +54,5 @@ returns c =
     let x = c.args in
     let p = plan_of x.sheet.now x.contents in
     let d : L.i ≡ x.contents.activities = omega arith in
-    let e = passed_end p L.i (state_of x.contents.activities x.contents.links L.work) d L.invariant.3 in
-    (e.0, λ q. e.1, L.invariant.2, L.invariant.1)
+    let e = passed_end p L.i (state_of x.contents.activities x.contents.links L.work) d L.invariant.2 in
+    (e.0, λ q. e.1, L.invariant.1, L.invariant.0)

@@ -28,8 +28,8 @@ pub returns-in_ok-done-in-Some : goal.returns-in_ok-done-in-Some
 returns-in_ok-done-in-Some c =
     let x = c.args in
     let f : SFits w64 c.in_ok-done-in-Some.done = record { sfits = search rules } in
-    let n = c.less.ensures ∙ ap (λ (m : ℕ). x.whole - m) (rw (to_z-of_z f) at c.upward.ensures.0) in
-    let u = c.later-by.ensures ∙ ap (λ (m : ℕ). max m x.start) c.midnight.ensures.0 in
+    let n = c.saturating_sub.ensures ∙ ap (λ (m : ℕ). x.whole - m) (rw (to_z-of_z f) at c.upward.ensures.0) in
+    let u = c.max-by.ensures ∙ ap (λ (m : ℕ). max m x.start) c.midnight.ensures.0 in
     ap Ok n
     ∙ sym
     (since_done (plan_of x.sheet.now x.contents) x.i x.start _ _ x.whole _
@@ -38,7 +38,7 @@ returns-in_ok-done-in-Some c =
 
 pub returns-in_err-done-in-Some : goal.returns-in_err-done-in-Some
 returns-in_err-done-in-Some c = rw (handed_on _ _ c.from_residual.ensures.1) (let x = c.args in
-    let u = c.later-by.ensures ∙ ap (λ (m : ℕ). max m x.start) c.midnight.ensures.0 in
+    let u = c.max-by.ensures ∙ ap (λ (m : ℕ). max m x.start) c.midnight.ensures.0 in
     sym
     (since_refused (plan_of x.sheet.now x.contents) x.i x.start _ _ _
     (sym (plan_data_date x.sheet.now x.contents) ∙ sym c.read_optional_date.ensures ∙ c.in-Some.is)

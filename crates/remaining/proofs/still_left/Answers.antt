@@ -2,6 +2,7 @@
 use Rattle.std.specs.Prelude.{Ok}
 use borrow.Author.Rules.{rules}
 use mathlib.Core.Path.{sym, ap, ◌∙◌}
+use native.Mathlib.Omega.{arith}
 use mir.Facts.{to_z-of_z}
 use mir.Syntax.{w32}
 use mir.Val.{SFits}
@@ -14,7 +15,7 @@ pub returns-in-Some : goal.returns-in-Some
 returns-in-Some c =
     let x = c.args in
     let f : SFits w32 c.in-Some.minutes = search rules in
-    ap Ok (rw (to_z-of_z f) at c.clamped.ensures)
+    ap Ok (omega (arith, rw (to_z-of_z f) at c.minutes_of.ensures.0, c.min.ensures))
     ∙ sym
     (still_told (plan_of x.sheet.now x.contents) x.i x.start _ _
     (sym (ap (λ (a : Activity). a.remaining) c.requires.1) ∙ c.in-Some.is))

@@ -1,6 +1,5 @@
 -- `results::show_all` meets its contract.
 use mathlib.Core.Path.{◌≡◌}
-use Prim.Native.Nat.{◌-◌, ◌≤◌}
 use lib.ListN.{length}
 use Rattle.memory.specs.State.{state_of}
 use Rattle.order.specs.Plan.{plan_of}
@@ -9,8 +8,5 @@ use Rattle.results.proofs.show_all.Given as goal
 
 abbrev pub invariant-loop-i : goal.invariant-loop-i
 invariant-loop-i l =
-    (l.i ≤ l.contents.activities) × (length l.work ≡ length l.initial.work) × (l.project ≡ (plan_of l.sheet l.contents).project)
+    (length l.work ≡ length l.initial.work) × (l.project ≡ (plan_of l.sheet l.contents).project)
     × Shows (plan_of l.sheet l.contents) (state_of l.contents.activities l.contents.links l.initial.work) (state_of l.contents.activities l.contents.links l.work) l.i
-
-abbrev pub decreases-loop-i : goal.decreases-loop-i
-decreases-loop-i l = l.contents.activities - l.i

@@ -8,30 +8,30 @@ use Rattle.number.specs.Exits.{handed_on}
 use Rattle.results.proofs.ShowingLaws.{shown_refused, shown_out, shown_in_lem, days_low}
 use Rattle.results.proofs.shown_of.Goals as goal
 
-pub returns-then-all_in_years : goal.returns-then-all_in_years
-returns-then-all_in_years c =
-    let f : SFits w64 c.in_ok-total.total = record { sfits = search rules } in
-    let y = sym c.all_in_years.ensures ∙ c.if-all_in_years.true in
-    let l = days_low _ y in (
-      (λ p.
-          rw (to_z-of_z f)
-          (shown_in_lem p c.args.project c.args.kind c.args.day_length _ c.args.actual c.args.t c.in_ok-total.total _ _ (sym (c.total_of.ensures p) ∙ c.in_ok-total.was)
-          (c.days_of-days.ensures p) y (rw (to_z-of_z f) at (c.critical_of-critical.ensures p)))),
-      record { es = l.0; ef = l.1; ls = l.2; lf = l.3; free = c.requires.4; finish = c.requires.2; late = c.requires.3 },
-    )
-
-pub returns : goal.returns
-returns c = (
-  (λ p.
-      shown_out p c.args.project c.args.kind c.args.day_length _ c.args.actual c.args.t c.in_ok-total.total _ (sym (c.total_of.ensures p) ∙ c.in_ok-total.was)
-      (c.days_of-days.ensures p) (sym c.all_in_years.ensures ∙ c.if-all_in_years.false)),
-  tt,
-)
-
 pub returns-in_err-total : goal.returns-in_err-total
 returns-in_err-total c = rw (handed_on _ _ c.from_residual.ensures.1) ((
   (λ p.
       shown_refused p c.args.project c.args.kind c.args.day_length _ c.args.actual c.args.t _ (sym (c.total_of.ensures p) ∙ c.in_err-total.was)),
   tt,
 )
+    )
+
+pub returns-then-not-all_in_years : goal.returns-then-not-all_in_years
+returns-then-not-all_in_years c = (
+  (λ p.
+      shown_out p c.args.project c.args.kind c.args.day_length _ c.args.actual c.args.t c.in_ok-total.total _ (sym (c.total_of.ensures p) ∙ c.in_ok-total.was)
+      (c.days_of-days.ensures p) (sym c.all_in_years.ensures ∙ c.if-not-all_in_years.true)),
+  tt,
+)
+
+pub returns : goal.returns
+returns c =
+    let f : SFits w64 c.in_ok-total.total = record { sfits = search rules } in
+    let y = sym c.all_in_years.ensures ∙ c.if-not-all_in_years.false in
+    let l = days_low _ y in (
+      (λ p.
+          rw (to_z-of_z f)
+          (shown_in_lem p c.args.project c.args.kind c.args.day_length _ c.args.actual c.args.t c.in_ok-total.total _ _ (sym (c.total_of.ensures p) ∙ c.in_ok-total.was)
+          (c.days_of-days.ensures p) y (rw (to_z-of_z f) at (c.critical_of-critical.ensures p)))),
+      record { es = l.0; ef = l.1; ls = l.2; lf = l.3; free = c.requires.4; finish = c.requires.2; late = c.requires.3 },
     )

@@ -1,4 +1,5 @@
 -- `results::total_by` meets its contract, by what is recorded.
+use mathlib.Core.Logic.{⊎_elim}
 use mir.Facts.{to_z-of_z}
 use Rattle.results.proofs.total_by.Goals as goal
 
@@ -6,10 +7,4 @@ pub returns-in-Completed : goal.returns-in-Completed
 returns-in-Completed c = rw c.in-Completed.is
 
 pub returns-in-Unstarted : goal.returns-in-Unstarted
-returns-in-Unstarted c = rw (to_z-of_z c.ranges.total, c.in-Unstarted.is)
-
-pub returns-in-Begun : goal.returns-in-Begun
-returns-in-Begun c = rw (to_z-of_z c.ranges.total, c.in-Begun.is)
-
-pub returns-in-Refused : goal.returns-in-Refused
-returns-in-Refused c = rw (to_z-of_z c.ranges.total, c.in-Refused.is)
+returns-in-Unstarted c = rw (to_z-of_z c.ranges.total) (⊎_elim (λ e. rw e) (⊎_elim (λ h. rw h.1) (λ h. rw h.1)) c.in-Unstarted.is)

@@ -1,4 +1,5 @@
 -- `rollup::depth_of` meets its contract: k steps are made and lead to `y`.
+use mathlib.Core.Path.{◌≡◌, ◌∙◌}
 use Prim.Native.Nat.{◌-◌}
 use native.Mathlib.Omega.{arith}
 use Rattle.memory.specs.State.{state_of}
@@ -32,4 +33,4 @@ loop-k-preserved c =
 pub returns : goal.returns
 returns c =
     let x = c.args in
-    let up = (state_of x.a x.l x.work.now).act parent in let L = c.loop-k in (climbs_end up x.a x.i L.y L.k L.invariant (omega arith), L.invariant.steps)
+    let up = (state_of x.a x.l x.work.now).act parent in let L = c.loop-k in let e : x.a ≡ L.k = omega arith in (e ∙ climbs_end up x.a x.i L.y L.k L.invariant (omega arith), omega arith)

@@ -1,5 +1,4 @@
 -- `rollup::depth_of` meets its contract: k steps are made and lead to `y`.
-use Prim.Native.Nat.{◌-◌}
 use Rattle.memory.specs.State.{state_of}
 use Rattle.memory.specs.Fields.{parent}
 use Rattle.rollup.specs.DepthLaws.{Climbs}
@@ -7,6 +6,3 @@ use Rattle.rollup.proofs.depth_of.Given as goal
 
 abbrev pub invariant-loop-k : goal.invariant-loop-k
 invariant-loop-k l = Climbs ((state_of l.a l.l l.work).act parent) l.a l.i l.y l.k
-
-abbrev pub decreases-loop-k : goal.decreases-loop-k
-decreases-loop-k l = l.a - l.k

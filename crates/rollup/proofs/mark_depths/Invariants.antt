@@ -1,6 +1,5 @@
 -- `rollup::mark_depths` meets its contract: the first i have their depths.
 use mathlib.Core.Path.{◌≡◌}
-use Prim.Native.Nat.{◌-◌, ◌≤◌}
 use lib.ListN.{length}
 use Rattle.memory.specs.State.{state_of}
 use Rattle.topology.specs.Frame.{Frame}
@@ -9,7 +8,4 @@ use Rattle.rollup.proofs.mark_depths.Given as goal
 
 abbrev pub invariant-loop-i : goal.invariant-loop-i
 invariant-loop-i l =
-    (l.i ≤ l.a) × (length l.work ≡ length l.initial.work) × Frame 30 31 0 0 (state_of l.a l.l l.initial.work) (state_of l.a l.l l.work) × DepthsTo (state_of l.a l.l l.initial.work) (state_of l.a l.l l.work) l.a l.i
-
-abbrev pub decreases-loop-i : goal.decreases-loop-i
-decreases-loop-i l = l.a - l.i
+    (length l.work ≡ length l.initial.work) × Frame 30 31 0 0 (state_of l.a l.l l.initial.work) (state_of l.a l.l l.work) × DepthsTo (state_of l.a l.l l.initial.work) (state_of l.a l.l l.work) l.a l.i

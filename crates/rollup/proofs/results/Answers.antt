@@ -11,25 +11,25 @@ use Rattle.number.specs.Exits.{handed_on}
 use Rattle.rollup.specs.PreparedLaws.{to_roll, to_roll_kept, results_stop, results_on}
 use Rattle.rollup.proofs.results.Goals as goal
 
-pub show_all-step-requires : goal.show_all-step-requires
+pub show_all-requires : goal.show_all-requires
 unfolding plan_of
-show_all-step-requires c =
+show_all-requires c =
     let x = c.args in
     let h = c.requires in
     let p = plan_of x.sheet.now x.contents in
     let S : List ℤ → State = λ ys. state_of x.contents.activities x.contents.links ys in
     let S₀ = S x.work.now in to_show h.0 h.2 h.1
 
-pub returns-in_err-step : goal.returns-in_err-step
+pub returns-in_err-show_all : goal.returns-in_err-show_all
 unfolding plan_of
-returns-in_err-step c = rw (handed_on _ _ c.from_residual.ensures.1) (let x = c.args in
+returns-in_err-show_all c = rw (handed_on _ _ c.from_residual.ensures.1) (let x = c.args in
     let h = c.requires in
     let p = plan_of x.sheet.now x.contents in
     let S : List ℤ → State = λ ys. state_of x.contents.activities x.contents.links ys in
     let S₀ = S x.work.now in
-    let e = c.show_all-step.ensures in
-    let T = S c.show_all-step.new.work in
-    ((λ f other. results_stop p (ran_in p S₀ f other) (shown_in p T) (shown_in p T) _ _ (e.0 f other) c.in_err-step.was), (frame_wider 20 35 0 0 20 30 0 0 (omega arith) (omega arith) (omega arith) (omega arith) e.1), omega (arith, e.2)))
+    let e = c.show_all.ensures in
+    let T = S c.show_all.new.work in
+    ((λ f other. results_stop p (ran_in p S₀ f other) (shown_in p T) (shown_in p T) _ _ (e.0 f other) c.in_err-show_all.was), (frame_wider 20 35 0 0 20 30 0 0 (omega arith) (omega arith) (omega arith) (omega arith) e.1), omega (arith, e.2)))
 
 pub roll_up-requires : goal.roll_up-requires
 unfolding plan_of
@@ -39,7 +39,7 @@ roll_up-requires c =
     let p = plan_of x.sheet.now x.contents in
     let S : List ℤ → State = λ ys. state_of x.contents.activities x.contents.links ys in
     let S₀ = S x.work.now in
-    let e = c.show_all-step.ensures in
+    let e = c.show_all.ensures in
     (to_show_kept (omega arith) e.1 e.2 (to_show h.0 h.2 h.1), to_roll_kept p (omega arith) e.1 (to_roll h.0))
 
 pub returns : goal.returns
@@ -50,11 +50,11 @@ returns c =
     let p = plan_of x.sheet.now x.contents in
     let S : List ℤ → State = λ ys. state_of x.contents.activities x.contents.links ys in
     let S₀ = S x.work.now in
-    let e = c.show_all-step.ensures in
+    let e = c.show_all.ensures in
     let d = c.roll_up.ensures in
-    let T = S c.show_all-step.new.work in
+    let T = S c.show_all.new.work in
     let U = S c.roll_up.new.work in (
-      (λ f other. results_on p (ran_in p S₀ f other) (shown_in p T) (shown_in p U) _ c.roll_up.result (e.0 f other) c.in_ok-step.was (d.0 (ran_in p S₀ f other))),
+      (λ f other. results_on p (ran_in p S₀ f other) (shown_in p T) (shown_in p U) _ c.roll_up.result (e.0 f other) c.in_ok-show_all.was (d.0 (ran_in p S₀ f other))),
       frame_then 20 35 0 0 (frame_wider 20 35 0 0 20 30 0 0 (omega arith) (omega arith) (omega arith) (omega arith) e.1) d.1,
       omega (arith, e.2, d.2),
     )

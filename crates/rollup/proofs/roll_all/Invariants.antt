@@ -1,6 +1,5 @@
 -- `rollup::roll_all` meets its contract: the depths from `d` up to the top are left.
 use mathlib.Core.Path.{◌≡◌}
-use Prim.Native.Nat.{◌≤◌}
 use lib.ListN.{length}
 use Rattle.memory.specs.State.{state_of}
 use Rattle.order.specs.Plan.{plan_of}
@@ -9,8 +8,5 @@ use Rattle.rollup.proofs.roll_all.Given as goal
 
 abbrev pub invariant-loop-d : goal.invariant-loop-d
 invariant-loop-d l =
-    (l.d ≤ l.contents.activities) × (length l.work ≡ length l.initial.work)
+    (length l.work ≡ length l.initial.work)
     × Rising (plan_of l.sheet l.contents) (state_of l.contents.activities l.contents.links l.initial.work) (state_of l.contents.activities l.contents.links l.work) l.d
-
-abbrev pub decreases-loop-d : goal.decreases-loop-d
-decreases-loop-d l = l.d

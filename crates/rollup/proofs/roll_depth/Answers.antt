@@ -36,9 +36,9 @@ loop-k-init c =
     let U = subst (Stands (S₀.act depth_of) x.contents.activities (suc (x.d - 1)) 0) (sym c.get_act-k.ensures.0) T in
     (refl, rolls_start p S₀ x.d _ (frame_refl 20 30 0 0 S₀) (subst (λ (i : ℕ). Stands (S₀.act depth_of) x.contents.activities i 0 c.get_act-k.result) n U))
 
-pub roll_one-step-requires : goal.roll_one-step-requires
+pub roll_one-requires : goal.roll_one-requires
 unfolding plan_of
-roll_one-step-requires c =
+roll_one-requires c =
     let x = c.args in
     let h = c.requires in
     let p = plan_of x.sheet.now x.contents in
@@ -47,25 +47,25 @@ roll_one-step-requires c =
     let L = c.loop-k in
     (to_show_kept (omega arith) L.invariant.1.frame L.invariant.0 h.0, deep_kept p S₀ (S L.work) L.invariant.1.frame h.1, omega (arith, c.loop-k-test.true), h.4)
 
-pub returns-in_err-step : goal.returns-in_err-step
+pub returns-in_err-roll_one : goal.returns-in_err-roll_one
 unfolding plan_of
-returns-in_err-step c = rw (handed_on _ _ c.from_residual.ensures.1) (let x = c.args in
+returns-in_err-roll_one c = rw (handed_on _ _ c.from_residual.ensures.1) (let x = c.args in
     let h = c.requires in
     let p = plan_of x.sheet.now x.contents in
     let S : List ℤ → State = λ ys. state_of x.contents.activities x.contents.links ys in
     let S₀ = S x.work.now in
     let L = c.loop-k in
     let W = L.invariant.1 in
-    let e = c.roll_one-step.ensures in
-    let T = S c.roll_one-step.new.work in (
-      (λ q. rolls_stop p S₀ x.d (S L.work) T L.k W (omega (arith, c.loop-k-test.true)) _ e.0 _ (shown_in p T) c.in_err-step.was q
+    let e = c.roll_one.ensures in
+    let T = S c.roll_one.new.work in (
+      (λ q. rolls_stop p S₀ x.d (S L.work) T L.k W (omega (arith, c.loop-k-test.true)) _ e.0 _ (shown_in p T) c.in_err-roll_one.was q
           ∙ ap (λ (ks : List ℕ). through (rolled p q) ks (shown_in p S₀)) (depth_is p S₀ h.1 x.d h.2 q)),
       frame_then 20 30 0 0 W.frame e.1,
       omega (arith, e.2, L.invariant.0),
     ))
 
 pub get_act-k-requires-in-loop-k : goal.get_act-k-requires-in-loop-k
-get_act-k-requires-in-loop-k c = let h = c.requires in (omega (arith, c.roll_one-step.ensures.2, c.loop-k.invariant.0, h.0.room), omega (arith, c.loop-k-test.true), omega arith)
+get_act-k-requires-in-loop-k c = let h = c.requires in (omega (arith, c.roll_one.ensures.2, c.loop-k.invariant.0, h.0.room), omega (arith, c.loop-k-test.true), omega arith)
 
 pub loop-k-smaller : goal.loop-k-smaller
 unfolding plan_of
@@ -77,8 +77,8 @@ loop-k-smaller c =
     let S₀ = S x.work.now in
     let L = c.loop-k in
     let W = L.invariant.1 in
-    let e = c.roll_one-step.ensures in
-    let T = S c.roll_one-step.new.work in
+    let e = c.roll_one.ensures in
+    let T = S c.roll_one.new.work in
     let F = frame_then 20 30 0 0 W.frame e.1 in
     let k : L.k < x.contents.activities = omega (arith, c.loop-k-test.true) in
     let m = c.get_act-k-in-loop-k.ensures.0 ∙ ap (λ (f : ℕ → ℕ). f L.k) (F.acts next_deep refl) in
@@ -94,13 +94,13 @@ loop-k-preserved c =
     let S₀ = S x.work.now in
     let L = c.loop-k in
     let W = L.invariant.1 in
-    let e = c.roll_one-step.ensures in
-    let T = S c.roll_one-step.new.work in
+    let e = c.roll_one.ensures in
+    let T = S c.roll_one.new.work in
     let F = frame_then 20 30 0 0 W.frame e.1 in
     let k : L.k < x.contents.activities = omega (arith, c.loop-k-test.true) in
     let m = c.get_act-k-in-loop-k.ensures.0 ∙ ap (λ (f : ℕ → ℕ). f L.k) (F.acts next_deep refl) in
     let G = subst (Stands (S₀.act depth_of) x.contents.activities (S₀.act depth_of L.k) (L.k + 1)) (sym m) (h.1.deep.nexts L.k (omega arith) k (omega (arith, W.hits k, h.2))) in
-    (omega (arith, e.2, L.invariant.0), rolls_turn p S₀ x.d (S L.work) T L.k W k _ e.0 _ T refl c.in_ok-step.was F G)
+    (omega (arith, e.2, L.invariant.0), rolls_turn p S₀ x.d (S L.work) T L.k W k _ e.0 _ T refl c.in_ok-roll_one.was F G)
 
 pub returns : goal.returns
 unfolding plan_of

@@ -34,9 +34,9 @@ sum_children-x-requires c =
     let S = state_of x.contents.activities x.contents.links x.work.now in
     (h.0.room, h.2, h.1.children, c.get_act-first.ensures.0, omega (arith, c.if-first-contents.false))
 
-pub summed_of-sum-requires : goal.summed_of-sum-requires
+pub summed_of-requires : goal.summed_of-requires
 unfolding plan_of
-summed_of-sum-requires c =
+summed_of-requires c =
     let x = c.args in
     let h = c.requires in
     let p = plan_of x.sheet.now x.contents in
@@ -49,7 +49,7 @@ put_shown-requires c =
     let h = c.requires in
     let p = plan_of x.sheet.now x.contents in
     let S = state_of x.contents.activities x.contents.links x.work.now in
-    (h.0.room, h.2, rw c.in_ok-y.was at c.summed_of-sum.ensures.1)
+    (h.0.room, h.2, rw c.in_ok-y.was at c.summed_of.ensures.1)
 
 pub returns : goal.returns
 unfolding plan_of
@@ -61,7 +61,7 @@ returns c =
     let l : S.act first_child x.s < x.contents.activities = omega (arith, c.get_act-first.ensures.0, c.if-first-contents.false) in
     let y = c.in_ok-y.y in
     let e = c.put_shown.ensures in (
-      (λ q. one_done p S h.1 x.s h.2 l _ _ c.sum_children-x.ensures.0 c.summed_of-sum.ensures.0 y _ c.in_ok-y.was e.0 q),
+      (λ q. one_done p S h.1 x.s h.2 l _ _ c.sum_children-x.ensures.0 c.summed_of.ensures.0 y _ c.in_ok-y.was e.0 q),
       subst (Frame 20 30 0 0 S) (sym e.0) (shown_frame S x.s y),
       e.1,
     )
@@ -73,7 +73,7 @@ returns-in_err-y c = rw (handed_on _ _ c.from_residual.ensures.1) (let x = c.arg
     let p = plan_of x.sheet.now x.contents in
     let S = state_of x.contents.activities x.contents.links x.work.now in
     let l : S.act first_child x.s < x.contents.activities = omega (arith, c.get_act-first.ensures.0, c.if-first-contents.false) in (
-      (λ q. one_refused p S h.1 x.s h.2 l _ _ c.sum_children-x.ensures.0 c.summed_of-sum.ensures.0 _ (shown_in p S) c.in_err-y.was q),
+      (λ q. one_refused p S h.1 x.s h.2 l _ _ c.sum_children-x.ensures.0 c.summed_of.ensures.0 _ (shown_in p S) c.in_err-y.was q),
       frame_refl 20 30 0 0 S,
       refl,
     ))

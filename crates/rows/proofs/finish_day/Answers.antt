@@ -20,10 +20,10 @@ loop-i-init c =
     let x = c.args in
     let S = state_of x.contents.activities x.contents.links x.work.now in
     let p = plan_of x.sheet.now x.contents in
-    (omega arith, omega (arith, c.origin_of-d.ensures.1), λ q. ap (λ (t : ℕ). t / 1440) c.origin_of-d.ensures.0 ∙ day_none p q S)
+    (omega (arith, c.origin_of-d.ensures.1), λ q. ap (λ (t : ℕ). t / 1440) c.origin_of-d.ensures.0 ∙ day_none p q S)
 
 pub get_act-requires : goal.get_act-requires
-get_act-requires c = (c.requires.1, omega (arith, c.loop-i-test.true), omega arith)
+get_act-requires c = (c.requires.1, omega arith, omega arith)
 
 pub loop-i-preserved : goal.loop-i-preserved
 unfolding plan_of
@@ -33,13 +33,12 @@ loop-i-preserved c =
     let p = plan_of x.sheet.now x.contents in
     let L = c.loop-i in
     let g = c.get_act.ensures in (
-      omega arith,
-      omega (arith, c.later-d.ensures, g.1, L.invariant.1),
-      λ q. c.later-d.ensures ∙ ap (max L.d) g.0 ∙ day_more p q S L.i L.d (omega (arith, c.loop-i-test.true)) (L.invariant.2 q),
+      omega (arith, c.max-d.ensures, g.1, L.invariant.0),
+      λ q. c.max-d.ensures ∙ ap (max L.d) g.0 ∙ day_more p q S L.i L.d (omega arith) (L.invariant.1 q),
     )
 
 pub signed_day_of-requires : goal.signed_day_of-requires
-signed_day_of-requires c = c.loop-i.invariant.1
+signed_day_of-requires c = c.loop-i.invariant.0
 
 pub returns : goal.returns
 unfolding plan_of
@@ -48,6 +47,6 @@ returns c =
     let S = state_of x.contents.activities x.contents.links x.work.now in
     let p = plan_of x.sheet.now x.contents in
     let L = c.loop-i in
-    let n : L.i ≡ x.contents.activities = omega (arith, c.loop-i-test.false) in
+    let n : L.i ≡ x.contents.activities = omega arith in
     λ q. rw (to_z-of_z (record { sfits = c.signed_day_of.type_inv }))
-    (c.signed_day_of.ensures ∙ ap signed_day_of (L.invariant.2 q ∙ ap (finish_day p q (shown_in p S)) n))
+    (c.signed_day_of.ensures ∙ ap signed_day_of (L.invariant.1 q ∙ ap (finish_day p q (shown_in p S)) n))

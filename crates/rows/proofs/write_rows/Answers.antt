@@ -16,10 +16,10 @@ loop-i-init c =
     let x = c.args in
     let S = state_of x.contents.activities x.contents.links x.work.now in
     let p = plan_of x.sheet.now x.contents in
-    (omega arith, refl, rows_none p S x.results.now)
+    (refl, rows_none p S x.results.now)
 
 pub write_row-requires : goal.write_row-requires
-write_row-requires c = (c.requires.0, omega (arith, c.loop-i-test.true), omega (arith, c.loop-i-test.true, c.requires.1, c.loop-i.invariant.1))
+write_row-requires c = (c.requires.0, omega arith, omega (arith, c.requires.1, c.loop-i.invariant.0))
 
 pub loop-i-preserved : goal.loop-i-preserved
 loop-i-preserved c =
@@ -28,13 +28,12 @@ loop-i-preserved c =
     let p = plan_of x.sheet.now x.contents in
     let L = c.loop-i in
     let e = c.write_row.ensures in (
-      omega arith,
-      ap length e ∙ stored_length (row_in p S L.i) L.results (15 * L.i) 0 ∙ L.invariant.1,
-      e ∙ rows_more p S x.results.now L.results L.i L.invariant.2 (omega (arith, c.requires.1)),
+      ap length e ∙ stored_length (row_in p S L.i) L.results (15 * L.i) 0 ∙ L.invariant.0,
+      e ∙ rows_more p S x.results.now L.results L.i L.invariant.1 (omega (arith, c.requires.1)),
     )
 
 pub shape_of-results : goal.shape_of-results
-shape_of-results c = c.loop-i.invariant.1
+shape_of-results c = c.loop-i.invariant.0
 
 pub returns : goal.returns
 unfolding plan_of
@@ -44,4 +43,4 @@ returns c =
     let p = plan_of x.sheet.now x.contents in
     let L = c.loop-i in
     let n : L.i ≡ x.contents.activities = omega arith in
-    λ e other. L.invariant.2 ∙ (λ z. rows_in p S (n z) ++ drop (15 * n z) x.results.now) ∙ ap (λ (zs : List ℤ). zs ++ drop (15 * x.contents.activities) x.results.now) (rows_same p S e other x.contents.activities (omega arith))
+    λ e other. L.invariant.1 ∙ (λ z. rows_in p S (n z) ++ drop (15 * n z) x.results.now) ∙ ap (λ (zs : List ℤ). zs ++ drop (15 * x.contents.activities) x.results.now) (rows_same p S e other x.contents.activities (omega arith))

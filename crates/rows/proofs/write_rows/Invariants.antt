@@ -1,7 +1,7 @@
 -- `rows::write_rows` meets its contract.
 use mathlib.Core.Path.{◌≡◌}
 use mathlib.Core.List.{◌++◌}
-use Prim.Native.Nat.{◌*◌, ◌-◌, ◌≤◌}
+use Prim.Native.Nat.{◌*◌}
 use lib.ListN.{length, drop}
 use Rattle.memory.specs.State.{state_of}
 use Rattle.order.specs.Plan.{plan_of}
@@ -10,8 +10,5 @@ use Rattle.rows.proofs.write_rows.Given as goal
 
 abbrev pub invariant-loop-i : goal.invariant-loop-i
 invariant-loop-i l =
-    (l.i ≤ l.contents.activities) × (length l.results ≡ length l.initial.results)
+    (length l.results ≡ length l.initial.results)
     × (l.results ≡ rows_in (plan_of l.sheet l.contents) (state_of l.contents.activities l.contents.links l.work) l.i ++ drop (15 * l.i) l.initial.results)
-
-abbrev pub decreases-loop-i : goal.decreases-loop-i
-decreases-loop-i l = l.contents.activities - l.i
