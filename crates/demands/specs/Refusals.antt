@@ -1,7 +1,6 @@
 -- Every refusal of a walk, of a count and of recorded work is row 8, "too long": the clock has no other error.
 use Rattle.std.specs.Prelude.{◌≡◌, Result, Ok, Err}
 use Rattle.std.proofs.Math.Path.{refl}
-use Prim.Native.Nat.{ℕ}
 use Rattle.worktime.specs.declared.ClockError.{ClockError}
 use Rattle.worktime.specs.declared.ClockError.TheVariants.{TooLong}
 use Rattle.worktime.specs.Number.{clock_number}
