@@ -1,7 +1,7 @@
 -- `rollup::roll_depth` meets its contract: the next summary of the depth is k.
 use mathlib.Core.Path.{◌≡◌, refl, sym, ap, subst, ◌∙◌}
 use mathlib.Core.List.{List}
-use Prim.Native.Nat.{ℕ, suc, ◌+◌, ◌-◌, ◌<◌}
+use Prim.Native.Nat.{ℕ, suc, ◌+◌, ◌-◌}
 use native.Mathlib.Omega.{arith}
 use lib.IntN.{ℤ}
 use Rattle.cells.specs.Chain.{Stands}
@@ -67,40 +67,30 @@ returns-in_err-roll_one c = rw (handed_on _ _ c.from_residual.ensures.1) (let x 
 pub get_act-k-requires-in-loop-k : goal.get_act-k-requires-in-loop-k
 get_act-k-requires-in-loop-k c = let h = c.requires in (omega (arith, c.roll_one.ensures.2, c.loop-k.invariant.0, h.0.room), omega (arith, c.loop-k-test.true), omega arith)
 
-pub loop-k-smaller : goal.loop-k-smaller
+-- what is rolled up leaves the chain, so the next stands where the definition says
+next-stands : (c : goal.After-get_act-k-in-loop-k) → Stands ((state_of c.args.contents.activities c.args.contents.links c.args.work.now).act depth_of) c.args.contents.activities ((state_of c.args.contents.activities c.args.contents.links c.args.work.now).act depth_of c.loop-k.k) (c.loop-k.k + 1) c.get_act-k-in-loop-k.result
 unfolding plan_of
-loop-k-smaller c =
+next-stands c =
     let x = c.args in
-    let h = c.requires in
-    let p = plan_of x.sheet.now x.contents in
-    let S : List ℤ → State = λ ys. state_of x.contents.activities x.contents.links ys in
-    let S₀ = S x.work.now in
+    let S₀ = state_of x.contents.activities x.contents.links x.work.now in
     let L = c.loop-k in
-    let W = L.invariant.1 in
-    let e = c.roll_one.ensures in
-    let T = S c.roll_one.new.work in
-    let F = frame_then 20 30 0 0 W.frame e.1 in
-    let k : L.k < x.contents.activities = omega (arith, c.loop-k-test.true) in
+    let F = frame_then 20 30 0 0 L.invariant.1.frame c.roll_one.ensures.1 in
     let m = c.get_act-k-in-loop-k.ensures.0 ∙ ap (λ (f : ℕ → ℕ). f L.k) (F.acts next_deep refl) in
-    let G = subst (Stands (S₀.act depth_of) x.contents.activities (S₀.act depth_of L.k) (L.k + 1)) (sym m) (h.1.deep.nexts L.k (omega arith) k (omega (arith, W.hits k, h.2))) in omega (arith, G.low, k)
+    subst (Stands (S₀.act depth_of) x.contents.activities (S₀.act depth_of L.k) (L.k + 1)) (sym m) (c.requires.1.deep.nexts L.k (omega arith) (omega (arith, c.loop-k-test.true)) (omega (arith, L.invariant.1.hits (omega (arith, c.loop-k-test.true)), c.requires.2)))
+
+pub loop-k-smaller : goal.loop-k-smaller
+loop-k-smaller c = omega (arith, (next-stands c).low, c.loop-k-test.true)
 
 pub loop-k-preserved : goal.loop-k-preserved
 unfolding plan_of
 loop-k-preserved c =
     let x = c.args in
-    let h = c.requires in
-    let p = plan_of x.sheet.now x.contents in
     let S : List ℤ → State = λ ys. state_of x.contents.activities x.contents.links ys in
-    let S₀ = S x.work.now in
     let L = c.loop-k in
     let W = L.invariant.1 in
     let e = c.roll_one.ensures in
     let T = S c.roll_one.new.work in
-    let F = frame_then 20 30 0 0 W.frame e.1 in
-    let k : L.k < x.contents.activities = omega (arith, c.loop-k-test.true) in
-    let m = c.get_act-k-in-loop-k.ensures.0 ∙ ap (λ (f : ℕ → ℕ). f L.k) (F.acts next_deep refl) in
-    let G = subst (Stands (S₀.act depth_of) x.contents.activities (S₀.act depth_of L.k) (L.k + 1)) (sym m) (h.1.deep.nexts L.k (omega arith) k (omega (arith, W.hits k, h.2))) in
-    (omega (arith, e.2, L.invariant.0), rolls_turn p S₀ x.d (S L.work) T L.k W k _ e.0 _ T refl c.in_ok-roll_one.was F G)
+    (omega (arith, e.2, L.invariant.0), rolls_turn (plan_of x.sheet.now x.contents) (S x.work.now) x.d (S L.work) T L.k W (omega (arith, c.loop-k-test.true)) _ e.0 _ T refl c.in_ok-roll_one.was (frame_then 20 30 0 0 W.frame e.1) (next-stands c))
 
 pub returns : goal.returns
 unfolding plan_of

@@ -40,33 +40,26 @@ join-x-requires c = (c.loop-k.invariant.1, c.shown_at.ensures.1)
 pub get_act-k-requires-in-loop-k : goal.get_act-k-requires-in-loop-k
 get_act-k-requires-in-loop-k c = (c.requires.0, omega arith, omega arith)
 
-pub loop-k-smaller : goal.loop-k-smaller
-loop-k-smaller c =
+next-stands : (c : goal.After-get_act-k-in-loop-k) → Stands ((state_of c.args.a c.args.l c.args.work.now).act parent) c.args.a ((state_of c.args.a c.args.l c.args.work.now).act parent c.loop-k.k) (c.loop-k.k + 1) c.get_act-k-in-loop-k.result
+next-stands c =
     let x = c.args in
-    let h = c.requires in
-    let S = state_of x.a x.l x.work.now in
-    let key = S.act parent in
-    let F = shown_to x.a S in
+    let key = (state_of x.a x.l x.work.now).act parent in
     let L = c.loop-k in
-    let W = L.invariant.0 in
-    let y = c.shown_at.ensures.0 ∙ sym (to_at_lem x.a S L.k (omega arith)) in
-    let e = W.hits (omega arith) in
-    let T = subst (Stands key x.a (key L.k) (L.k + 1)) (sym c.get_act-k-in-loop-k.ensures.0) (h.2.nexts L.k (omega arith) (omega arith) (omega (arith, e))) in omega (arith, T.low)
+    subst (Stands key x.a (key L.k) (L.k + 1)) (sym c.get_act-k-in-loop-k.ensures.0) (c.requires.2.nexts L.k (omega arith) (omega arith) (omega (arith, L.invariant.0.hits (omega arith))))
+
+pub loop-k-smaller : goal.loop-k-smaller
+loop-k-smaller c = omega (arith, (next-stands c).low)
 
 pub loop-k-preserved : goal.loop-k-preserved
 loop-k-preserved c =
     let x = c.args in
-    let h = c.requires in
     let S = state_of x.a x.l x.work.now in
     let key = S.act parent in
     let F = shown_to x.a S in
     let L = c.loop-k in
-    let W = L.invariant.0 in
-    let y = c.shown_at.ensures.0 ∙ sym (to_at_lem x.a S L.k (omega arith)) in
-    let e = W.hits (omega arith) in
-    let T = subst (Stands key x.a (key L.k) (L.k + 1)) (sym c.get_act-k-in-loop-k.ensures.0) (h.2.nexts L.k (omega arith) (omega arith) (omega (arith, e))) in (
+    let y = c.shown_at.ensures.0 ∙ sym (to_at_lem x.a S L.k (omega arith)) in (
       subst (λ (v : Shown). Sums F key x.a (suc x.s) (child_sum S x.a x.s) v c.get_act-k-in-loop-k.result) (sym c.join-x.ensures.0)
-          (sums_turn F key x.a (suc x.s) (child_sum S x.a x.s) L.x L.k W _ _ (omega arith) y T),
+          (sums_turn F key x.a (suc x.s) (child_sum S x.a x.s) L.x L.k L.invariant.0 _ _ (omega arith) y (next-stands c)),
       c.join-x.ensures.1,
     )
 

@@ -1,8 +1,6 @@
 -- `rows::write_days` meets its contract.
 use mathlib.Core.Path.{◌∙◌}
 use mathlib.Core.List.{[], ◌∷◌}
-use native.Mathlib.Omega.{arith}
-use lib.ListN.{length-set}
 use mir.Facts.{to_z-of_z}
 use mir.Syntax.{w64}
 use Rattle.rows.specs.Writing.{stored_from}
@@ -19,18 +17,6 @@ signed_day_of-ls-requires c = c.requires.1.ls
 
 pub signed_day_of-lf-requires : goal.signed_day_of-lf-requires
 signed_day_of-lf-requires c = c.requires.1.lf
-
-pub bounds-results-at : goal.bounds-results-at
-bounds-results-at c = (omega (arith, c.requires.0))
-
-pub bounds-results-at-2 : goal.bounds-results-at-2
-bounds-results-at-2 c = simp length-set (omega (arith, c.requires.0))
-
-pub bounds-results-at-3 : goal.bounds-results-at-3
-bounds-results-at-3 c = simp length-set (omega (arith, c.requires.0))
-
-pub bounds-results-at-4 : goal.bounds-results-at-4
-bounds-results-at-4 c = simp length-set (omega (arith, c.requires.0))
 
 pub returns : goal.returns
 returns c =

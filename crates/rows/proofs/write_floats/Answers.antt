@@ -28,24 +28,6 @@ overflow_cast-critical c = record { sfits = omega (arith, c.number_of-critical.e
 pub overflow_cast-path : goal.overflow_cast-path
 overflow_cast-path c = record { sfits = omega (arith, c.number_of-path.ensures, bit_le c.args.x.path) }
 
-pub bounds-results-at : goal.bounds-results-at
-bounds-results-at c = (omega (arith, c.requires.0))
-
-pub bounds-results-at-2 : goal.bounds-results-at-2
-bounds-results-at-2 c = simp length-set (omega (arith, c.requires.0))
-
-pub bounds-results-at-3 : goal.bounds-results-at-3
-bounds-results-at-3 c = simp length-set (omega (arith, c.requires.0))
-
-pub bounds-results-at-4 : goal.bounds-results-at-4
-bounds-results-at-4 c = simp length-set (omega (arith, c.requires.0))
-
-pub bounds-results-at-5 : goal.bounds-results-at-5
-bounds-results-at-5 c = simp length-set (omega (arith, c.requires.0))
-
-pub bounds-results-at-6 : goal.bounds-results-at-6
-bounds-results-at-6 c = simp length-set (omega (arith, c.requires.0))
-
 pub shape_of-results : goal.shape_of-results
 shape_of-results c = simp length-set refl
 

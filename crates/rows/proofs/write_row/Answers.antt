@@ -9,27 +9,6 @@ use Rattle.rows.specs.Writing.{stored_from}
 use Rattle.rows.specs.WritingLaws.{fields_are}
 use Rattle.rows.proofs.write_row.Goals as goal
 
-pub activity_of-activity-requires : goal.activity_of-activity-requires
-activity_of-activity-requires c = let h = c.requires in (h.0.read, h.1)
-
-pub shown_at-x-requires : goal.shown_at-x-requires
-shown_at-x-requires c = let h = c.requires in (h.0.room, h.1)
-
-pub recorded_at-actual-requires : goal.recorded_at-actual-requires
-recorded_at-actual-requires c = let h = c.requires in (h.0.room, h.1)
-
-pub get_act-is_summary-requires : goal.get_act-is_summary-requires
-get_act-is_summary-requires c = let h = c.requires in (h.0.room, h.1, omega arith)
-
-pub get_act-left-requires : goal.get_act-left-requires
-get_act-left-requires c = let h = c.requires in (h.0.room, h.1, omega arith)
-
-pub get_act-es-requires : goal.get_act-es-requires
-get_act-es-requires c = let h = c.requires in (h.0.room, h.1, omega arith)
-
-pub get_act-ef-requires : goal.get_act-ef-requires
-get_act-ef-requires c = let h = c.requires in (h.0.room, h.1, omega arith)
-
 pub overflow_mul-i : goal.overflow_mul-i
 overflow_mul-i c = record { fits = omega (arith, c.requires.1, c.requires.0.read.activities_few) }
 

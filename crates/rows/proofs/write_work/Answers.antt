@@ -2,7 +2,6 @@
 use mathlib.Core.Path.{ap, ◌∙◌}
 use mathlib.Core.List.{[], ◌∷◌}
 use native.Mathlib.Omega.{arith}
-use lib.ListN.{length-set}
 use mir.Facts.{to_z-of_z, to_z_pos}
 use mir.Syntax.{w64}
 use lib.IntN.{pos}
@@ -20,18 +19,6 @@ minute_of-start-requires c = c.requires.2
 
 pub minute_of-finish-requires : goal.minute_of-finish-requires
 minute_of-finish-requires c = c.requires.3
-
-pub bounds-results-at : goal.bounds-results-at
-bounds-results-at c = (omega (arith, c.requires.0))
-
-pub bounds-results-at-2 : goal.bounds-results-at-2
-bounds-results-at-2 c = simp length-set (omega (arith, c.requires.0))
-
-pub bounds-results-at-3 : goal.bounds-results-at-3
-bounds-results-at-3 c = simp length-set (omega (arith, c.requires.0))
-
-pub bounds-results-at-4 : goal.bounds-results-at-4
-bounds-results-at-4 c = simp length-set (omega (arith, c.requires.0))
 
 pub returns : goal.returns
 returns c =
