@@ -1,7 +1,6 @@
 -- Demand 3 about the call's own answers: loops are refused exactly where kept links close one, and named; the early starts shown are the earliest.
 use Rattle.std.specs.Prelude.{ℕ, ◌+◌, ◌*◌, ℤ, pos, get_or}
-use Rattle.sched.specs.declared.Answer.{Answer}
-use Rattle.sched.specs.declared.Answer.TheVariants.{Accepted}
+use Rattle.sched.specs.Answers.{Answer, Accepted}
 use Rattle.sched.specs.Outcome.{Ended}
 
 -- 01's number of an answer: 0 for an accepted plan

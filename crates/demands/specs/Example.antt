@@ -12,7 +12,7 @@ use Rattle.project.specs.declared.ProgressMode.TheVariants.{RetainedLogic}
 use Rattle.project.specs.declared.CriticalBy.TheVariants.{TotalFloat}
 use Rattle.project.specs.declared.Activity.{Activity}
 use Rattle.order.specs.Plan.{Plan}
-use Rattle.sched.specs.declared.Answer.TheVariants.{Accepted}
+use Rattle.sched.specs.Answers.{Accepted}
 use Rattle.sched.specs.Outcome.{Lent}
 use Rattle.worktime.specs.Walks.{reads, least, next_start, greatest, previous_finish, next_finish, working_at, previous_start, start_by, forward, advance, backward, retreat, shift, spanned, work_from, between, day_work, worked_before}
 use Rattle.worktime.specs.Worked.{count, closing}

@@ -1,6 +1,6 @@
 -- 01's example sheet, byte by byte: what `outcome` gives it is what 01 prints, by evaluation.
 use Rattle.std.specs.Prelude.{◌≡◌, refl, List, [], ◌∷◌, ℕ, pos, negsuc, replicate}
-use Rattle.sched.specs.declared.Answer.TheVariants.{Accepted}
+use Rattle.sched.specs.Answers.{Accepted}
 use Rattle.sched.specs.Outcome.{Lent}
 use Rattle.sheet.specs.Reading.{run, run_of, calendar_end, calendars_from, read_sheet}
 use Rattle.judges.specs.Judging.{judged, judge_calendar, period_ok, week_after, judge_week, no_work, exception_after, judge_exception, judge_activity, judge_link}

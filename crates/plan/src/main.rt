@@ -3,7 +3,7 @@
 
 ghost use Rattle.std.specs.Prelude.{◌+◌, ◌≤◌, ◌<◌, length};
 
-use sched::Answer;
+use sched::{Accepted, Refusal};
 use std::io;
 
 // This and the three after it stand in both `plan` and `replay`. std's `Print` promises nothing of what is written, so in a library they would be public functions
@@ -37,14 +37,18 @@ fn print_rows(rt: &impl Print, results: &[i64], a: u64) -> io::Result<()> {
     Ok(())
 }
 
-fn print_answer(rt: &impl Print, answer: Answer, results: &[i64]) -> io::Result<()> {
+fn print_answer(
+    rt: &impl Print,
+    answer: Result<Accepted, Refusal>,
+    results: &[i64],
+) -> io::Result<()> {
     match answer {
-        Answer::Refused(number, id) => println!(rt; "refused {number} {id}"),
-        Answer::Accepted(day, a, ignored, open) => {
+        Err(refusal) => println!(rt; "refused {} {}", refusal.number(), refusal.id()),
+        Ok(a) => {
             write(rt, b"plan ")?;
-            print_signed(rt, day)?;
-            println!(rt; " {a} {ignored} {open}")?;
-            print_rows(rt, results, a)
+            print_signed(rt, a.finish_day)?;
+            println!(rt; " {} {} {}", a.activities, a.ignored, a.open_ends)?;
+            print_rows(rt, results, a.activities)
         }
     }
 }

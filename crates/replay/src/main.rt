@@ -4,7 +4,7 @@
 
 ghost use Rattle.std.specs.Prelude.{◌+◌, ◌≤◌, ◌<◌, length};
 
-use sched::Answer;
+use sched::{Accepted, Refusal};
 use std::io::Read;
 use std::{fs, io};
 
@@ -84,13 +84,18 @@ fn print_ignored(rt: &impl Print, names: &[u32], ignored: u64) -> io::Result<()>
     Ok(())
 }
 
-fn print_answer(rt: &impl Print, answer: Answer, results: &[i64], names: &[u32]) -> io::Result<()> {
+fn print_answer(
+    rt: &impl Print,
+    answer: Result<Accepted, Refusal>,
+    results: &[i64],
+    names: &[u32],
+) -> io::Result<()> {
     match answer {
-        Answer::Refused(number, id) => print_refused(rt, number, id, names),
-        Answer::Accepted(day, a, ignored, open) => {
-            print_totals(rt, day, a, ignored, open)?;
-            print_rows(rt, results, a)?;
-            print_ignored(rt, names, ignored)
+        Err(refusal) => print_refused(rt, refusal.number(), refusal.id(), names),
+        Ok(a) => {
+            print_totals(rt, a.finish_day, a.activities, a.ignored, a.open_ends)?;
+            print_rows(rt, results, a.activities)?;
+            print_ignored(rt, names, a.ignored)
         }
     }
 }

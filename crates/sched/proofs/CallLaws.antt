@@ -1,5 +1,5 @@
 -- The outcome by the ways of the code: what is left at each of its ends is what the definition says.
-use Rattle.std.specs.Prelude.{◌≡◌, Bool, true, false, ◌&&◌, Ok, Err, List, [], ◌++◌, ◌≢◌, ℕ, ◌+◌, ◌-◌, ◌*◌, ◌≤◌, ◌<◌, max, eqb, leb, ℤ, pos, drop, replicate}
+use Rattle.std.specs.Prelude.{◌≡◌, Bool, true, false, ◌&&◌, Result, Ok, Err, List, [], ◌++◌, ◌≢◌, ℕ, ◌+◌, ◌-◌, ◌*◌, ◌≤◌, ◌<◌, max, eqb, leb, ℤ, pos, drop, replicate}
 use Rattle.std.proofs.Math.Path.{refl, sym, ap}
 use Rattle.std.proofs.Common.{◌∙◌, eq-eqb, ne_eqb, le-leb, leb-true, length-append}
 use native.Mathlib.Omega.{arith}
@@ -9,12 +9,14 @@ use Rattle.std.proofs.lemmas.List.{length-replicate}
 use Rattle.worktime.specs.Reads.{on_true, on_false}
 use Rattle.sheet.specs.declared.Contents.{Contents}
 use Rattle.judges.specs.declared.SheetError.{SheetError}
-use Rattle.judges.specs.Judging.{sheet_number}
 use Rattle.sheet.specs.Reading.{read_sheet}
 use Rattle.order.specs.Plan.{Plan, plan_of}
 use Rattle.order.specs.Ties.{ignored_links, open_ends}
 use Rattle.order.specs.TieLaws.{ignored_le}
 use Rattle.order.specs.Checks.{checked}
+use Rattle.order.specs.declared.PlanError.{PlanError}
+use Rattle.order.specs.Refusals.{plan_number, plan_id}
+use Rattle.order.specs.RefusalLaws.{number_some}
 use Rattle.worktime.specs.declared.ClockError.{ClockError}
 use Rattle.worktime.specs.Number.{clock_number}
 use Rattle.passes.specs.Dates.{leaves, refused}
@@ -23,10 +25,12 @@ use Rattle.results.specs.declared.Shown.{Shown}
 use Rattle.results.specs.Results.{results, finish_day}
 use Rattle.results.specs.Rows.{signed_day_of, rows_below}
 use Rattle.checks.specs.Names.{then_zeros}
-use Rattle.sched.specs.declared.Answer.{Answer}
-use Rattle.sched.specs.declared.Answer.TheVariants.{Accepted}
+use Rattle.sched.specs.declared.Accepted as declared
+use Rattle.sched.specs.declared.Refusal.{Refusal}
+use Rattle.sched.specs.declared.Refusal.TheVariants.{NoRoom, Sheet, Plan as OfPlan, Clock}
+use Rattle.sched.specs.Answers.{Answer, Accepted}
 use Rattle.sched.specs.Outcome.{Lent, refused_with, untouched, accepted, shown_with, ran_with, planned, room_for, read_with, outcome}
-use Rattle.sched.specs.CallLaws.{ended_with, zeros, LentAs, AcceptedAs}
+use Rattle.sched.specs.CallLaws.{left_with, ended_with, zeros, LentAs, AcceptedAs}
 
 -- ---- room
 abbrev tag : Bool → ℕ
@@ -105,18 +109,18 @@ then_same xs names other e = rw e
 -- ---- the ways of a plan that was read and has room
 module _ (m : Lent) (p : Plan) where
   pub refused_is : (number id : ℕ) (loop names : List ℕ) (work : List ℤ) → names ≡ then_zeros loop m.names → work ≡ zeros m.work
-      → ended_with (Answer.Refused number id) m.results names work ≡ refused_with m number id loop
+      → left_with (Answer.Refused number id) m.results names work ≡ refused_with m number id loop
   unfolding refused_with
   refused_is number id loop names work e f = rw (e, f)
 
   -- rows 5 to 15
-  pub planned_checked : (number id : ℕ) (names : List ℕ) (work : List ℤ) → number ≡ (checked p).number → id ≡ (checked p).id → 0 < number
-      → names ≡ then_zeros (checked p).loop m.names → work ≡ zeros m.work → ended_with (Answer.Refused number id) m.results names work ≡ planned m p
+  pub planned_checked : (x : PlanError) (names : List ℕ) (work : List ℤ) → plan_number x ≡ (checked p).number → plan_id x ≡ (checked p).id
+      → names ≡ then_zeros (checked p).loop m.names → work ≡ zeros m.work → ended_with (Err (OfPlan x)) m.results names work ≡ planned m p
   unfolding planned
-  planned_checked number id names work d e l f g =
-      let n : (checked p).number ≢ 0 = λ z. omega arith in
-      ap (λ (k : ℕ). ended_with (Answer.Refused k id) m.results names work) d
-      ∙ ap (λ (k : ℕ). ended_with (Answer.Refused (checked p).number k) m.results names work) e
+  planned_checked x names work d e f g =
+      let n : (checked p).number ≢ 0 = λ z. omega (arith, z, d, number_some x) in
+      ap (λ (k : ℕ). left_with (Answer.Refused k (plan_id x)) m.results names work) d
+      ∙ ap (λ (k : ℕ). left_with (Answer.Refused (checked p).number k) m.results names work) e
       ∙ refused_is (checked p).number (checked p).id (checked p).loop names work f g
       ∙ sym (on_false (eqb (checked p).number 0) _ _ (ne_eqb (checked p).number 0 n))
 
@@ -126,18 +130,18 @@ module _ (m : Lent) (p : Plan) where
     planned_run = on_true (eqb (checked p).number 0) _ _ (eq-eqb (checked p).number 0 fine)
 
     cleared : (k : ℕ) (names : List ℕ) (work : List ℤ) → names ≡ replicate (length m.names) 0 → work ≡ zeros m.work
-        → ended_with (Answer.Refused k 0) m.results names work ≡ refused_with m k 0 []
+        → left_with (Answer.Refused k 0) m.results names work ≡ refused_with m k 0 []
     cleared k names work e f = refused_is k 0 [] names work (e ∙ sym (zeros_alone m.names)) f
 
     -- a walk of the passes is refused
     pub planned_passes : (k : ClockError) (names : List ℕ) (work : List ℤ) → run p ≡ refused k → names ≡ replicate (length m.names) 0 → work ≡ zeros m.work
-        → ended_with (Answer.Refused (clock_number k) 0) m.results names work ≡ planned m p
+        → left_with (Answer.Refused (clock_number k) 0) m.results names work ≡ planned m p
     planned_passes k names work r e f = cleared (clock_number k) names work e f ∙ sym (ap (ran_with m p) r) ∙ sym planned_run
 
     module _ (ran : Ran) (runs : run p ≡ leaves ran) where
       -- a walk of the results is refused
       pub planned_results : (k : ClockError) (names : List ℕ) (work : List ℤ) → results p ran ≡ refused k → names ≡ replicate (length m.names) 0 → work ≡ zeros m.work
-          → ended_with (Answer.Refused (clock_number k) 0) m.results names work ≡ planned m p
+          → left_with (Answer.Refused (clock_number k) 0) m.results names work ≡ planned m p
       planned_results k names work r e f =
           cleared (clock_number k) names work e f ∙ sym (ap (shown_with m p ran) r) ∙ sym (ap (ran_with m p) runs) ∙ sym planned_run
 
@@ -145,20 +149,19 @@ module _ (m : Lent) (p : Plan) where
       pub planned_accepted : (f : ℕ → Shown) → results p ran ≡ leaves f → (day : ℤ) (a n o : ℕ) (rows : List ℤ) (names : List ℕ) (work : List ℤ)
           → day ≡ signed_day_of (finish_day p ran f p.activities) → a ≡ p.activities → n ≡ length (ignored_links p) → o ≡ open_ends p
           → rows ≡ rows_below p ran f p.activities ++ drop (15 * p.activities) m.results → names ≡ then_zeros (ignored_links p) m.names → work ≡ zeros m.work
-          → ended_with (Accepted day a n o) rows names work ≡ planned m p
+          → left_with (Accepted day a n o) rows names work ≡ planned m p
       unfolding accepted
       planned_accepted f r day a n o rows names work e1 e2 e3 e4 e5 e6 e7 =
           rw (e1, e2, e3, e4, e5, e6, e7) (sym (ap (shown_with m p ran) r)) ∙ sym (ap (ran_with m p) runs) ∙ sym planned_run
 
 -- ---- the ways of a sheet
 module _ (s : List ℕ) (m : Lent) where
-  pub unread_is : (number : ℕ) (x : SheetError) → number ≡ sheet_number x → read_sheet s ≡ Err x
-      → ended_with (Answer.Refused number 0) m.results m.names m.work ≡ outcome s m
+  pub unread_is : (x : SheetError) → read_sheet s ≡ Err x → ended_with (Err (Sheet x)) m.results m.names m.work ≡ outcome s m
   unfolding outcome
-  unread_is number x d e = rw d (sym (ap (read_with s m) e))
+  unread_is x e = sym (ap (read_with s m) e)
 
   module _ (c : Contents) (read : read_sheet s ≡ Ok c) where
-    pub short_is : room_for m c ≡ false → ended_with (Answer.Refused 1 0) m.results m.names m.work ≡ outcome s m
+    pub short_is : room_for m c ≡ false → ended_with (Err NoRoom) m.results m.names m.work ≡ outcome s m
     unfolding outcome
     short_is e = sym (on_false (room_for m c) (planned m (plan_of s c)) (untouched m 1) e) ∙ sym (ap (read_with s m) read)
 
@@ -174,39 +177,36 @@ module _ (m : Lent) (p : Plan) {results₀ : List ℤ} {names₀ : List ℕ} {wo
   cleared_work : (work₁ work : List ℤ) → length work₁ ≡ length work₀ → work ≡ zeros work₁ → work ≡ zeros m.work
   cleared_work work₁ work k e = e ∙ ap (λ (k : ℕ). replicate k (pos 0)) (k ∙ L.work_length)
 
-  answered_as : (r r' : Answer) (names : List ℕ) (work : List ℤ) → r ≡ r' → ended_with r results₀ names work ≡ ended_with r' m.results names work
+  answered_as : (r r' : Result declared.Accepted Refusal) (names : List ℕ) (work : List ℤ) → r ≡ r' → ended_with r results₀ names work ≡ ended_with r' m.results names work
   answered_as r r' names work e = λ z. ended_with (e z) (L.results_is z) names work
 
   -- a walk of the passes is refused; work₁ is what the passes leave
-  pub run_refuses : (r : Answer) (k : ClockError) (names : List ℕ) (work₁ work : List ℤ) → run p ≡ refused k → r ≡ Answer.Refused (clock_number k) 0 → names ≡ replicate (length names₀) 0
+  pub run_refuses : (r : Result declared.Accepted Refusal) (k : ClockError) (names : List ℕ) (work₁ work : List ℤ) → run p ≡ refused k → r ≡ Err (Clock k) → names ≡ replicate (length names₀) 0
       → length work₁ ≡ length work₀ → work ≡ zeros work₁ → ended_with r results₀ names work ≡ planned m p
   run_refuses r k names work₁ work q e f g h =
-      answered_as r (Answer.Refused (clock_number k) 0) names work e ∙ planned_passes m p fine k names work q (cleared_names names f) (cleared_work work₁ work g h)
+      answered_as r (Err (Clock k)) names work e ∙ planned_passes m p fine k names work q (cleared_names names f) (cleared_work work₁ work g h)
 
   module _ (ran : Ran) (runs : run p ≡ leaves ran) where
     -- a walk of the results is refused
-    pub show_refuses : (r : Answer) (k : ClockError) (names : List ℕ) (work₁ work : List ℤ) → results p ran ≡ refused k → r ≡ Answer.Refused (clock_number k) 0 → names ≡ replicate (length names₀) 0
+    pub show_refuses : (r : Result declared.Accepted Refusal) (k : ClockError) (names : List ℕ) (work₁ work : List ℤ) → results p ran ≡ refused k → r ≡ Err (Clock k) → names ≡ replicate (length names₀) 0
         → length work₁ ≡ length work₀ → work ≡ zeros work₁ → ended_with r results₀ names work ≡ planned m p
     show_refuses r k names work₁ work q e f g h =
-        answered_as r (Answer.Refused (clock_number k) 0) names work e ∙ planned_results m p fine ran runs k names work q (cleared_names names f) (cleared_work work₁ work g h)
+        answered_as r (Err (Clock k)) names work e ∙ planned_results m p fine ran runs k names work q (cleared_names names f) (cleared_work work₁ work g h)
 
     -- nothing is refused
-    pub show_accepts : (f : ℕ → Shown) → results p ran ≡ leaves f → (r : Answer) (day : ℤ) (a n o : ℕ) (rows : List ℤ) (work₁ work : List ℤ) → r ≡ Accepted day a n o
-        → day ≡ signed_day_of (finish_day p ran f p.activities) → a ≡ p.activities → n ≡ length (ignored_links p) → o ≡ open_ends p
-        → rows ≡ rows_below p ran f p.activities ++ drop (15 * p.activities) results₀ → length work₁ ≡ length work₀ → work ≡ zeros work₁
-        → ended_with r rows names₀ work ≡ planned m p
-    show_accepts f q r day a n o rows work₁ work e e1 e2 e3 e4 e5 g h =
-        (λ z. ended_with (e z) rows names₀ work)
-        ∙ planned_accepted m p fine ran runs f q day a n o rows names₀ work e1 e2 e3 e4
-        (e5 ∙ ap (λ (xs : List ℤ). rows_below p ran f p.activities ++ drop (15 * p.activities) xs) L.results_is) L.names_is (cleared_work work₁ work g h)
+    pub show_accepts : (f : ℕ → Shown) → results p ran ≡ leaves f → {n o : ℕ} {rows : List ℤ} {a : declared.Accepted} → AcceptedAs p ran f n o results₀ rows a → n ≡ length (ignored_links p) → o ≡ open_ends p
+        → (work₁ work : List ℤ) → length work₁ ≡ length work₀ → work ≡ zeros work₁ → ended_with (Ok a) rows names₀ work ≡ planned m p
+    show_accepts f q {rows = rows} {a = a} A e3 e4 work₁ work g h =
+        planned_accepted m p fine ran runs f q a.finish_day a.activities a.ignored a.open_ends rows names₀ work A.day_is A.activities_is (A.ignored_is ∙ e3) (A.ends_is ∙ e4)
+        (A.rows_is ∙ ap (λ (xs : List ℤ). rows_below p ran f p.activities ++ drop (15 * p.activities) xs) L.results_is) L.names_is (cleared_work work₁ work g h)
 
 -- ---- a plan of the sheet: its counts are the contents'
 module _ (s : List ℕ) (c : Contents) where
-  pub accepted_as : {ran : Ran} {f : ℕ → Shown} {n o : ℕ} {results rows : List ℤ} {r : Answer} (day : ℤ) → day ≡ signed_day_of (finish_day (plan_of s c) ran f c.activities)
-      → r ≡ Accepted day c.activities n o → rows ≡ rows_below (plan_of s c) ran f c.activities ++ drop (15 * c.activities) results
-      → AcceptedAs (plan_of s c) ran f n o results rows r
+  pub accepted_as : {ran : Ran} {f : ℕ → Shown} {n o : ℕ} {results rows : List ℤ} (day : ℤ) → day ≡ signed_day_of (finish_day (plan_of s c) ran f c.activities)
+      → rows ≡ rows_below (plan_of s c) ran f c.activities ++ drop (15 * c.activities) results
+      → AcceptedAs (plan_of s c) ran f n o results rows (record { finish_day = day; activities = c.activities; ignored = n; open_ends = o })
   unfolding plan_of
-  accepted_as day e g h = record { day = day; day_is = e; is = g; rows_is = h }
+  accepted_as day e h = record { day_is = e; activities_is = refl; ignored_is = refl; ends_is = refl; rows_is = h }
 
   -- the ignored links fit into the names
   pub names_kept : (names after : List ℕ) → max (c.activities + 1) c.links ≤ length names → after ≡ then_zeros (ignored_links (plan_of s c)) names → length after ≡ length names

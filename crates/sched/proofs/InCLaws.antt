@@ -1,11 +1,12 @@
 -- The C form by the ways of its code.
-use Rattle.std.specs.Prelude.{◌≡◌, refl, List, [], ◌∷◌, ◌++◌, ℕ, min, ◌≤◌, ◌<◌, ltb, ℤ, pos, length, drop}
+use Rattle.std.specs.Prelude.{◌≡◌, refl, Result, Ok, Err, List, [], ◌∷◌, ◌++◌, ℕ, min, ◌≤◌, ◌<◌, ltb, ℤ, pos, length, drop}
 use Rattle.std.proofs.Math.Path.{sym, ap}
 use Rattle.std.proofs.Common.{◌∙◌, arith, lt-ltb, le-ltb}
 use Rattle.cells.specs.Cell.{store_z}
 use Rattle.worktime.specs.Reads.{on_true, on_false}
-use Rattle.sched.specs.declared.Answer.{Answer}
-use Rattle.sched.specs.declared.Answer.TheVariants.{Accepted}
+use Rattle.sched.specs.declared.Accepted as declared
+use Rattle.sched.specs.declared.Refusal.{Refusal}
+use Rattle.sched.specs.Answers.{refusal_number, refusal_id, answer_of}
 use Rattle.sched.specs.Outcome.{Lent, outcome}
 use Rattle.sched.specs.CallLaws.{ended_with}
 use Rattle.sched.specs.InC.{held_as, numbers_of, called_with, called}
@@ -33,24 +34,24 @@ five_stores xs a b c d e l p q r s t =
     ∙ five_set xs a b c d e l
 
 -- the numbers of an answer
-pub accepted_numbers : {r : Answer} {day : ℤ} {a n o : ℕ} {day' a' n' o' : ℤ} {after rest : List ℤ} → r ≡ Accepted day a n o → day' ≡ day → a' ≡ held_as a → n' ≡ held_as n → o' ≡ held_as o
-    → after ≡ (pos 0 ∷ day' ∷ a' ∷ n' ∷ o' ∷ []) ++ rest → after ≡ numbers_of r ++ rest
+pub accepted_numbers : {r : Result declared.Accepted Refusal} {a : declared.Accepted} {day' a' n' o' : ℤ} {after rest : List ℤ} → r ≡ Ok a → day' ≡ a.finish_day → a' ≡ held_as a.activities
+    → n' ≡ held_as a.ignored → o' ≡ held_as a.open_ends → after ≡ (pos 0 ∷ day' ∷ a' ∷ n' ∷ o' ∷ []) ++ rest → after ≡ numbers_of (answer_of r) ++ rest
 unfolding numbers_of
 accepted_numbers {rest = rest} e f g h k q =
-    q ∙ (λ z. pos 0 ∷ f z ∷ g z ∷ h z ∷ k z ∷ rest) ∙ sym (ap (λ (x : Answer). numbers_of x ++ rest) e)
+    q ∙ (λ z. pos 0 ∷ f z ∷ g z ∷ h z ∷ k z ∷ rest) ∙ sym (ap (λ (x : Result declared.Accepted Refusal). numbers_of (answer_of x) ++ rest) e)
 
-pub refused_numbers : {r : Answer} {k i : ℕ} {k' i' : ℤ} {after rest : List ℤ} → r ≡ Answer.Refused k i → k' ≡ held_as k → i' ≡ held_as i
-    → after ≡ (pos 1 ∷ k' ∷ i' ∷ pos 0 ∷ pos 0 ∷ []) ++ rest → after ≡ numbers_of r ++ rest
+pub refused_numbers : {r : Result declared.Accepted Refusal} {e : Refusal} {k' i' : ℤ} {after rest : List ℤ} → r ≡ Err e → k' ≡ held_as (refusal_number e) → i' ≡ held_as (refusal_id e)
+    → after ≡ (pos 1 ∷ k' ∷ i' ∷ pos 0 ∷ pos 0 ∷ []) ++ rest → after ≡ numbers_of (answer_of r) ++ rest
 unfolding numbers_of
-refused_numbers {rest = rest} e f g q = q ∙ (λ z. pos 1 ∷ f z ∷ g z ∷ pos 0 ∷ pos 0 ∷ rest) ∙ sym (ap (λ (x : Answer). numbers_of x ++ rest) e)
+refused_numbers {rest = rest} e f g q = q ∙ (λ z. pos 1 ∷ f z ∷ g z ∷ pos 0 ∷ pos 0 ∷ rest) ∙ sym (ap (λ (x : Result declared.Accepted Refusal). numbers_of (answer_of x) ++ rest) e)
 
 module _ (s : List ℕ) (m : Lent) (answer : List ℤ) where
   pub called_short : length answer < 5 → record { lent = m; answer = answer } ≡ called s m answer
   unfolding called
   called_short l = sym (on_true (ltb (length answer) 5) _ (called_with answer (outcome s m)) (lt-ltb (length answer) 5 l))
 
-  pub called_whole : (r : Answer) (results : List ℤ) (names : List ℕ) (work after : List ℤ) → 5 ≤ length answer → ended_with r results names work ≡ outcome s m
-      → after ≡ numbers_of r ++ drop 5 answer → record { lent = record { results = results; names = names; work = work }; answer = after } ≡ called s m answer
+  pub called_whole : (r : Result declared.Accepted Refusal) (results : List ℤ) (names : List ℕ) (work after : List ℤ) → 5 ≤ length answer → ended_with r results names work ≡ outcome s m
+      → after ≡ numbers_of (answer_of r) ++ drop 5 answer → record { lent = record { results = results; names = names; work = work }; answer = after } ≡ called s m answer
   unfolding called
   called_whole r results names work after l e f =
       (λ z. record { lent = record { results = results; names = names; work = work }; answer = f z }) ∙ ap (called_with answer) e

@@ -1,7 +1,6 @@
 -- The C form of the call: the answer as five numbers in a lent slice.
 use Rattle.std.specs.Prelude.{true, false, List, [], ◌∷◌, ◌++◌, ℕ, min, ltb, ℤ, pos, length, drop}
-use Rattle.sched.specs.declared.Answer.{Answer}
-use Rattle.sched.specs.declared.Answer.TheVariants.{Accepted}
+use Rattle.sched.specs.Answers.{Answer, Accepted}
 use Rattle.sched.specs.Outcome.{Lent, Ended, outcome}
 
 -- a number as an i64 holds it; none of an answer's is beyond

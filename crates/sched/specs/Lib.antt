@@ -1,4 +1,5 @@
 -- The scheduling call.
+pub mod Answers
 pub mod Outcome
 pub mod CallLaws
 pub mod InC

@@ -14,8 +14,7 @@ use Rattle.passes.specs.Run.{Ran, run}
 use Rattle.results.specs.declared.Shown.{Shown}
 use Rattle.results.specs.Results.{results, finish_day}
 use Rattle.results.specs.Rows.{signed_day_of, rows_below}
-use Rattle.sched.specs.declared.Answer.{Answer}
-use Rattle.sched.specs.declared.Answer.TheVariants.{Accepted}
+use Rattle.sched.specs.Answers.{Answer, Accepted}
 
 -- what is lent: results, names and work memory
 pub record Lent : Type 0 where

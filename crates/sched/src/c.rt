@@ -1,8 +1,9 @@
 // The scheduling call as C has it: the answer five numbers in a slice. The crate `sched_c` exports it.
 ghost use Rattle.std.specs.Prelude.{◌≡◌, [], ◌∷◌, ◌++◌, ◌≤◌, length, drop};
+ghost use Rattle.sched.specs.Answers.{answer_of};
 ghost use Rattle.sched.specs.InC.{held_as, numbers_of, called};
 
-use crate::Answer;
+use crate::{Accepted, Refusal};
 
 // A number as an i64.
 fn held(n: u64) -> i64
@@ -27,16 +28,23 @@ fn put_five(answer: &mut [i64], a: i64, b: i64, c: i64, d: i64, e: i64)
 }
 
 // The answer's numbers.
-fn put_answer(answer: &mut [i64], r: Answer)
+fn put_answer(answer: &mut [i64], r: Result<Accepted, Refusal>)
     requires { 5 ≤ length answer.old }
-    ensures { answer.new ≡ numbers_of r ++ drop 5 answer.old }
+    ensures { answer.new ≡ numbers_of (answer_of r) ++ drop 5 answer.old }
 {
     match r {
-        Answer::Accepted(day, a, n, o) => {
-            put_five(answer, 0, day, held(a), held(n), held(o));
+        Ok(a) => {
+            put_five(
+                answer,
+                0,
+                a.finish_day,
+                held(a.activities),
+                held(a.ignored),
+                held(a.open_ends),
+            );
         }
-        Answer::Refused(number, id) => {
-            put_five(answer, 1, held(number), held(id), 0, 0);
+        Err(refusal) => {
+            put_five(answer, 1, held(refusal.number()), held(refusal.id()), 0, 0);
         }
     }
 }

@@ -1,7 +1,7 @@
 // The scheduling call: a plan sheet in; dates, floats and flags out; all memory lent; every byte string answered.
 #![tactic(auto)]
 
-ghost use Rattle.std.specs.Prelude.{◌≡◌, Bool, ◌&&◌, List, ℕ, ◌+◌, ◌*◌, ◌≤◌, max, leb, length, replicate};
+ghost use Rattle.std.specs.Prelude.{◌≡◌, Bool, ◌&&◌, Result, Ok, Err, List, ℕ, ◌+◌, ◌*◌, ◌^◌, ◌≤◌, ◌<◌, max, leb, length, replicate};
 ghost use Rattle.memory.specs.State.{Room, state_of};
 ghost use Rattle.sheet.specs.Known.{SheetRead};
 ghost use Rattle.order.specs.Plan.{plan_of};
@@ -12,18 +12,86 @@ ghost use Rattle.run.specs.Stages.{RanTo};
 ghost use Rattle.results.specs.View.{ran_in, shown_in};
 ghost use Rattle.rows.specs.Writing.{ToWrite};
 ghost use Rattle.checks.specs.Names.{then_zeros};
+ghost use Rattle.sched.specs.declared.Refusal.TheVariants.{Sheet, Plan, Clock};
+ghost use Rattle.sched.specs.Answers.{refusal_number, refusal_id};
 ghost use Rattle.sched.specs.Outcome.{Lent, planned, outcome};
 ghost use Rattle.sched.specs.CallLaws.{ended_with, zeros, LentAs, AcceptedAs};
 
+use judges::SheetError;
+use order::PlanError;
 use sheet::Contents;
+use worktime::ClockError;
 
 pub mod c;
 
-// What a call answers: the finish day, and how many activities, ignored links and open ends there are; or the number and the id of a refusal.
+// What an accepted plan answers: its finish day, and how many activities, ignored links and open ends it has.
 #[derive(Clone, Copy)]
-pub enum Answer {
-    Accepted(i64, u64, u64, u64),
-    Refused(u64, u64),
+pub struct Accepted {
+    pub finish_day: i64,
+    pub activities: u64,
+    pub ignored: u64,
+    pub open_ends: u64,
+}
+
+// Why a call is refused.
+#[derive(Clone, Copy, Debug, PartialEq, Eq)]
+pub enum Refusal {
+    // A lent slice is too short.
+    NoRoom,
+    // The sheet cannot be read.
+    Sheet(SheetError),
+    // A check of the plan fails.
+    Plan(PlanError),
+    // A walk of the passes or of the results leads too far.
+    Clock(ClockError),
+}
+
+impl Refusal {
+    // Its row in 01's table.
+    pub fn number(self) -> u64
+        ensures { (result ≡ refusal_number self) × (result ≤ 15) }
+    {
+        match self {
+            Refusal::NoRoom => 1,
+            Refusal::Sheet(e) => e.number(),
+            Refusal::Plan(e) => e.number(),
+            Refusal::Clock(e) => e.number(),
+        }
+    }
+
+    // The id that the row hands back: 0 where it has none.
+    pub fn id(self) -> u64
+        ensures { (result ≡ refusal_id self) × (result < 2 ^ 64) }
+    {
+        match self {
+            Refusal::NoRoom | Refusal::Sheet(_) | Refusal::Clock(_) => 0,
+            Refusal::Plan(e) => e.id(),
+        }
+    }
+}
+
+impl From<SheetError> for Refusal {
+    ghost from_gives = { λ error r. r ≡ Sheet error };
+
+    fn from(error: SheetError) -> Refusal {
+        Refusal::Sheet(error)
+    }
+}
+
+impl From<PlanError> for Refusal {
+    ghost from_gives = { λ error r. r ≡ Plan error };
+
+    fn from(error: PlanError) -> Refusal {
+        Refusal::Plan(error)
+    }
+}
+
+impl From<ClockError> for Refusal {
+    ghost from_gives = { λ error r. r ≡ Clock error };
+
+    fn from(error: ClockError) -> Refusal {
+        Refusal::Clock(error)
+    }
 }
 
 // Row 1: whether slices of these lengths are long enough.
@@ -49,12 +117,12 @@ fn has_room(contents: Contents, results: usize, names: usize, work: usize) -> bo
 }
 
 // Refuses without names: names and memory are cleared.
-fn refuse(names: &mut [u32], work: &mut [i64], number: u64) -> Answer
-    ensures { (result ≡ Answer.Refused number 0) × (names.new ≡ replicate (length names.old) 0) × (work.new ≡ zeros work.old) }
+fn refuse(names: &mut [u32], work: &mut [i64], error: ClockError) -> Result<Accepted, Refusal>
+    ensures { (result ≡ Err (Clock error)) × (names.new ≡ replicate (length names.old) 0) × (work.new ≡ zeros work.old) }
 {
     cells::clear_u32(names);
     cells::clear(work);
-    Answer::Refused(number, 0)
+    Err(Refusal::from(error))
 }
 
 // Nothing can refuse any more: the rows are written and the memory is cleared.
@@ -66,14 +134,19 @@ fn accept(
     work: &mut [i64],
     ignored: usize,
     ends: u64,
-) -> Answer
+) -> Accepted
     requires { ToWrite sheet.now contents lengths.now work.old × (15 * contents.activities ≤ length results.old) }
     ensures { ((e : ℕ) (other : ℕ → Bool) → AcceptedAs (plan_of sheet.now contents) (ran_in (plan_of sheet.now contents) (state_of contents.activities contents.links work.old) e other) (shown_in (plan_of sheet.now contents) (state_of contents.activities contents.links work.old)) ignored ends results.old results.new result) × (work.new ≡ zeros work.old) }
 {
     let day = rows::finish_day(sheet, contents, work);
     rows::write_rows(sheet, contents, lengths, work, results);
     cells::clear(work);
-    Answer::Accepted(day, contents.activities as u64, ignored as u64, ends)
+    Accepted {
+        finish_day: day,
+        activities: contents.activities as u64,
+        ignored: ignored as u64,
+        open_ends: ends,
+    }
 }
 
 // The results of a plan that ran; `last` is its end.
@@ -89,13 +162,14 @@ fn show_plan(
     results: &mut [i64],
     names: &mut [u32],
     work: &mut [i64],
-) -> Answer
+) -> Result<Accepted, Refusal>
     requires { Ready sheet.now contents places.now t work.old × Recorded (plan_of sheet.now contents) (state_of contents.activities contents.links work.old) × Lengths (plan_of sheet.now contents) lengths.now × (15 * contents.activities ≤ length results.old) × (ignored ≡ length (ignored_links (plan_of sheet.now contents))) × (ends ≡ open_ends (plan_of sheet.now contents)) × RanTo (plan_of sheet.now contents) (state_of contents.activities contents.links work.old) last }
     ensures { (m : Lent) → LentAs m (plan_of sheet.now contents) results.old names.old work.old → ended_with result results.new names.new work.new ≡ planned m (plan_of sheet.now contents) }
 {
+    // No `?`: names and memory are cleared before the refusal goes on.
     match rollup::results(sheet, contents, places, lengths, t, work) {
-        Ok(()) => accept(sheet, contents, lengths, results, work, ignored, ends),
-        Err(e) => refuse(names, work, e.number()),
+        Ok(()) => Ok(accept(sheet, contents, lengths, results, work, ignored, ends)),
+        Err(e) => refuse(names, work, e),
     }
 }
 
@@ -111,15 +185,16 @@ fn run_plan(
     results: &mut [i64],
     names: &mut [u32],
     work: &mut [i64],
-) -> Answer
+) -> Result<Accepted, Refusal>
     requires { Ready sheet.now contents places.now t work.old × Lengths (plan_of sheet.now contents) lengths.now × (15 * contents.activities ≤ length results.old) × (ignored ≡ length (ignored_links (plan_of sheet.now contents))) × (ends ≡ open_ends (plan_of sheet.now contents)) }
     ensures { (m : Lent) → LentAs m (plan_of sheet.now contents) results.old names.old work.old → ended_with result results.new names.new work.new ≡ planned m (plan_of sheet.now contents) }
 {
+    // No `?`: names and memory are cleared before the refusal goes on.
     match run::run(sheet, contents, places, t, work) {
         Ok(last) => show_plan(
             sheet, contents, places, lengths, t, last, ignored, ends, results, names, work,
         ),
-        Err(error) => refuse(names, work, error.number()),
+        Err(error) => refuse(names, work, error),
     }
 }
 
@@ -132,25 +207,23 @@ fn plan_at(
     results: &mut [i64],
     names: &mut [u32],
     work: &mut [i64],
-) -> Answer
+) -> Result<Accepted, Refusal>
     requires { SheetRead sheet.now contents × Places sheet.now contents places.now × Lengths (plan_of sheet.now contents) lengths.now × (15 * contents.activities ≤ length results.old) × (max (contents.activities + 1) contents.links ≤ length names.old) × Room contents.activities contents.links work.old }
     ensures { ended_with result results.new names.new work.new ≡ planned (record { results = results.old; names = names.old; work = work.old }) (plan_of sheet.now contents) }
 {
-    match checks::check_plan(sheet, contents, places, lengths, names, work) {
-        Err(error) => Answer::Refused(error.number(), error.id()),
-        Ok(counts) => run_plan(
-            sheet,
-            contents,
-            places,
-            lengths,
-            counts.kept,
-            counts.ignored,
-            counts.open_ends,
-            results,
-            names,
-            work,
-        ),
-    }
+    let counts = checks::check_plan(sheet, contents, places, lengths, names, work)?;
+    run_plan(
+        sheet,
+        contents,
+        places,
+        lengths,
+        counts.kept,
+        counts.ignored,
+        counts.open_ends,
+        results,
+        names,
+        work,
+    )
 }
 
 // A plan that was read and has room: where its calendars stand is found first.
@@ -160,7 +233,7 @@ fn plan_sheet(
     results: &mut [i64],
     names: &mut [u32],
     work: &mut [i64],
-) -> Answer
+) -> Result<Accepted, Refusal>
     requires { SheetRead sheet.now contents × (15 * contents.activities ≤ length results.old) × (max (contents.activities + 1) contents.links ≤ length names.old) × Room contents.activities contents.links work.old }
     ensures { ended_with result results.new names.new work.new ≡ planned (record { results = results.old; names = names.old; work = work.old }) (plan_of sheet.now contents) }
 {
@@ -171,18 +244,17 @@ fn plan_sheet(
 }
 
 // The scheduling call.
-pub fn schedule(sheet: &[u8], results: &mut [i64], names: &mut [u32], work: &mut [i64]) -> Answer
+pub fn schedule(
+    sheet: &[u8],
+    results: &mut [i64],
+    names: &mut [u32],
+    work: &mut [i64],
+) -> Result<Accepted, Refusal>
     ensures { ended_with result results.new names.new work.new ≡ outcome sheet.now (record { results = results.old; names = names.old; work = work.old }) }
 {
-    match sheet::read(sheet) {
-        Err(e) => {
-            return Answer::Refused(e.number(), 0);
-        }
-        Ok(contents) => {
-            if has_room(contents, results.len(), names.len(), work.len()) {
-                return plan_sheet(sheet, contents, results, names, work);
-            }
-            return Answer::Refused(1, 0);
-        }
+    let contents = sheet::read(sheet)?;
+    if !has_room(contents, results.len(), names.len(), work.len()) {
+        return Err(Refusal::NoRoom);
     }
+    plan_sheet(sheet, contents, results, names, work)
 }

@@ -1,25 +1,25 @@
 -- `sched::plan_at` meets its contract.
-use mathlib.Core.Path.{refl, ◌∙◌}
-use native.Mathlib.Omega.{arith}
+use mathlib.Core.Path.{refl}
+use Rattle.number.specs.Exits.{handed_on}
 use Rattle.order.specs.Plan.{plan_of}
 use Rattle.sched.proofs.CallLaws.{planned_checked, names_kept}
 use Rattle.sched.proofs.plan_at.Goals as goal
 
-pub returns-in-Err : goal.returns-in-Err
-returns-in-Err c =
+pub returns-in_err-counts : goal.returns-in_err-counts
+returns-in_err-counts c =
     let x = c.args in
     let new = c.check_plan.new in
-    let h = c.in-Err.ensures in
-    planned_checked (record { results = x.results.now; names = x.names.now; work = x.work.now }) (plan_of x.sheet.now x.contents) c.number.result c.id.result new.names new.work
-    (c.number.ensures.0 ∙ h.number_is) (c.id.ensures.0 ∙ h.id_is) (omega (arith, c.number.ensures.1)) h.named h.cleared
+    let h = c.in_err-counts.ensures in
+    rw (handed_on _ _ c.from_residual.ensures.1)
+    (planned_checked (record { results = x.results.now; names = x.names.now; work = x.work.now }) (plan_of x.sheet.now x.contents) _ new.names new.work h.number_is h.id_is h.named h.cleared)
 
 pub run_plan-requires : goal.run_plan-requires
-run_plan-requires c = let h = c.in-Ok.ensures in (h.ready, c.requires.2, c.requires.3, h.ignored, h.ends)
+run_plan-requires c = let h = c.in_ok-counts.ensures in (h.ready, c.requires.2, c.requires.3, h.ignored, h.ends)
 
-pub returns-in-Ok : goal.returns-in-Ok
-returns-in-Ok c =
+pub returns : goal.returns
+returns c =
     let x = c.args in
-    let h = c.in-Ok.ensures in
+    let h = c.in_ok-counts.ensures in
     c.run_plan.ensures (record { results = x.results.now; names = x.names.now; work = x.work.now })
     (record {
       results_is = refl;

@@ -1,13 +1,11 @@
 -- `sched::run_plan` meets its contract.
-use Rattle.std.specs.Prelude.{ℕ}
-use mathlib.Core.Path.{ap, subst, ◌∙◌}
+use mathlib.Core.Path.{subst, ◌∙◌}
 use native.Mathlib.Omega.{arith}
 use Rattle.memory.specs.State.{state_of}
 use Rattle.order.specs.Plan.{plan_of}
 use Rattle.run.specs.Stages.{RunIn}
 use Rattle.dates.specs.KeptLaws.{ready_kept}
 use Rattle.sched.proofs.CallLaws.{run_refuses}
-use Rattle.sched.specs.declared.Answer.{Answer}
 use Rattle.sched.proofs.run_plan.Goals as goal
 
 pub returns-in-Err : goal.returns-in-Err
@@ -17,7 +15,7 @@ returns-in-Err c =
     let ran = c.run in
     let call = c.refuse in
     λ m L.
-    run_refuses m p L c.requires.0.fine call.result c.in-Err.error call.new.names ran.new.work call.new.work (subst (RunIn p (state_of x.contents.activities x.contents.links ran.new.work)) c.in-Err.is ran.ensures.0) (call.ensures.0 ∙ ap (λ (n : ℕ). Answer.Refused n 0) c.number.ensures.0) call.ensures.1
+    run_refuses m p L c.requires.0.fine call.result c.in-Err.error call.new.names ran.new.work call.new.work (subst (RunIn p (state_of x.contents.activities x.contents.links ran.new.work)) c.in-Err.is ran.ensures.0) call.ensures.0 call.ensures.1
     ran.ensures.3 call.ensures.2
 
 pub show_plan-requires : goal.show_plan-requires

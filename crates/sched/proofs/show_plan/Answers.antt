@@ -1,5 +1,4 @@
 -- `sched::show_plan` meets its contract.
-use Rattle.std.specs.Prelude.{ℕ}
 use mathlib.Core.Path.{refl, sym, ap, subst, ◌∙◌}
 use native.Mathlib.Omega.{arith}
 use Rattle.memory.specs.State.{state_of}
@@ -12,7 +11,6 @@ use Rattle.rows.specs.WritingLaws.{to_write}
 use Rattle.dates.specs.KeptLaws.{ready_kept, recorded_kept}
 use Rattle.sched.specs.CallLaws.{AcceptedAs}
 use Rattle.sched.proofs.CallLaws.{show_refuses, show_accepts}
-use Rattle.sched.specs.declared.Answer.{Answer}
 use Rattle.sched.proofs.show_plan.Goals as goal
 
 pub returns-in-Err : goal.returns-in-Err
@@ -26,7 +24,7 @@ returns-in-Err c =
     let T = state_of x.contents.activities x.contents.links shown.new.work in
     λ m L.
     show_refuses m p L c.requires.0.fine (ran_in p S x.last other) c.requires.6.is call.result c.in-Err.e call.new.names shown.new.work call.new.work
-    (sym (shown.ensures.0 x.last other) ∙ ap (ended (shown_in p T)) c.in-Err.is) (call.ensures.0 ∙ ap (λ (n : ℕ). Answer.Refused n 0) c.number.ensures.0) call.ensures.1 shown.ensures.2 call.ensures.2
+    (sym (shown.ensures.0 x.last other) ∙ ap (ended (shown_in p T)) c.in-Err.is) call.ensures.0 call.ensures.1 shown.ensures.2 call.ensures.2
 
 pub accept-requires : goal.accept-requires
 accept-requires c =
@@ -51,5 +49,4 @@ returns-in-Ok c =
     let f = shown_in p T in
     let A = subst (λ (q : Ran). AcceptedAs p q f x.ignored x.ends x.results.now call.new.results call.result) (ran_kept shown.ensures.1 p x.last other (omega arith)) (call.ensures.0 x.last other) in
     λ m L.
-    show_accepts m p L c.requires.0.fine ran c.requires.6.is f (sym (shown.ensures.0 x.last other) ∙ ap (ended f) c.in-Ok.is) call.result A.day p.activities x.ignored x.ends call.new.results
-    shown.new.work call.new.work A.is A.day_is refl c.requires.4 c.requires.5 A.rows_is shown.ensures.2 call.ensures.1
+    show_accepts m p L c.requires.0.fine ran c.requires.6.is f (sym (shown.ensures.0 x.last other) ∙ ap (ended f) c.in-Ok.is) A c.requires.4 c.requires.5 shown.new.work call.new.work shown.ensures.2 call.ensures.1
