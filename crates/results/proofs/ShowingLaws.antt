@@ -5,7 +5,7 @@ use Rattle.worktime.specs.declared.ClockError.TheVariants.{TooLong}
 use Rattle.std.proofs.Math.Path.{sym}
 use Rattle.std.proofs.Common.{ap, ◌∙◌, arith, mul-le-mul, to_z-of_z, SFits, to_z, of_z}
 use Rattle.std.proofs.Math.Bool.{true, false}
-use Prim.Native.Nat.{ℕ, ◌/◌, ◌^◌, ◌≤◌, ◌<◌}
+use Prim.Native.Nat.{ℕ, zero, suc, ◌-◌, ◌/◌, ◌^◌, ◌≤◌, ◌<◌}
 use Rattle.std.proofs.Math.IntN.{ℤ}
 use Rattle.std.proofs.Math.Facts.{sfits_widen}
 use Rattle.std.specs.Int.{w32, w64}
@@ -15,6 +15,7 @@ use Rattle.number.specs.Tests.{and_both}
 use Rattle.date.specs.Years.{in_years, years_in}
 use Rattle.worktime.specs.Walks.{reads, between}
 use Rattle.project.specs.declared.ActivityKind.{ActivityKind}
+use Rattle.project.specs.declared.ActivityKind.TheVariants.{Task, StartMilestone, FinishMilestone}
 use Rattle.project.specs.declared.FloatKind.{FloatKind}
 use Rattle.project.specs.declared.CriticalBy.{CriticalBy}
 use Rattle.project.specs.declared.CriticalBy.TheVariants.{TotalFloat, LongestPath}
@@ -79,6 +80,37 @@ module _ (p : Plan) (r : Ran) (i : ℕ) where
       ((λ y. readable (all_in_years d) (leaves (shown_of p d (total a b) (not (is_completed p (recorded p i)) && sym (critical_in_lem p i by (total a b) t.path) y) t)))
       ∙ four_days (finish_minute (kind_of p i) t.left t.ef) (start_minute (kind_of p i) (begun p (recorded p i) t.es))
       (start_minute (kind_of p i) (begun p (recorded p i) t.ls)) (finish_minute (kind_of p i) t.left t.lf) (go (total a b))) x)))
+
+-- ---- the ways of `finish_minute` and of the four days
+module _ (kind : ActivityKind) (left t : ℕ) where
+  pub finish_none : kind ≡ Task → left ≡ 0 → t ≡ finish_minute kind left t
+  finish_none e z = rw (e, z)
+
+  pub finish_some : kind ≡ Task → 0 < left → t - 1 ≡ finish_minute kind left t
+  finish_some e z = rw e (some left z)
+    where
+      some : (m : ℕ) → 0 < m → t - 1 ≡ finish_minute Task m t
+      some zero l = absurd (omega arith)
+      some (suc m) l = refl
+
+  pub finish_start : kind ≡ StartMilestone → t ≡ finish_minute kind left t
+  finish_start e = rw e
+
+  pub finish_finish : kind ≡ FinishMilestone → t - 1 ≡ finish_minute kind left t
+  finish_finish e = rw e
+
+module _ (d : Days) where
+  pub in_four : in_years d.ef ≡ true → in_years d.es ≡ true → in_years d.ls ≡ true → in_years d.lf ≡ all_in_years d
+  in_four a b c = rw (a, b, c)
+
+  pub out_four : in_years d.ef ≡ true → in_years d.es ≡ true → in_years d.ls ≡ false → false ≡ all_in_years d
+  out_four a b c = rw (a, b, c)
+
+  pub out_three : in_years d.ef ≡ true → in_years d.es ≡ false → false ≡ all_in_years d
+  out_three a b = rw (a, b)
+
+  pub out_two : in_years d.ef ≡ false → false ≡ all_in_years d
+  out_two a = rw a
 
 -- ---- the ways of the total float
 module _ (p : Plan) (w : ℕ → Bool) (kind : FloatKind) (a : Actual) (t : Times) where
