@@ -1,6 +1,6 @@
 -- What a store leaves: the stored cell, the others, and the length.
-use Rattle.std.specs.Prelude.{◌≡◌, refl, ◌≢◌, List, [], ℕ, zero, suc, ◌+◌, ◌≤◌, ◌<◌, ℤ, pos, length, set, replicate}
-use Rattle.std.proofs.Common.{ap, ◌∙◌, ⊎_elim, add-one, arith, length-set, get_or-set_same, get_or-set_other}
+use Rattle.std.specs.Prelude.{◌≡◌, refl, ◌≢◌, List, [], ◌∷◌, ◌++◌, ℕ, zero, suc, ◌+◌, ◌≤◌, ◌<◌, ℤ, pos, length, set, drop, replicate}
+use Rattle.std.proofs.Common.{ap, ◌∙◌, ⊎_elim, append-nil, not-suc-le-zero, le_of_suc-le-suc, add-one, arith, length-set, drop_of_length-le, get_or-set_same, get_or-set_other}
 use Rattle.std.proofs.lemmas.List.Edits.{paste_none, fill_from_more}
 use lib.Seq.{paste}
 use Rattle.number.specs.Order.{eq_or_ne}
@@ -79,3 +79,16 @@ unfolding filled
 filled_after xs base v zero at h = refl
 filled_after xs base v (suc n) at h =
     cell_other (filled xs base v n) (base + n) at v (λ e. omega arith) ∙ filled_after xs base v n at (omega arith)
+
+-- ---- a run of stores from the front, at any type of element
+module _ {A : Type 0} where
+  pub front_more : (n : ℕ) (v : A) (d : List A) → n < length d → set (replicate n v ++ drop n d) n v ≡ replicate (n + 1) v ++ drop (n + 1) d
+  front_more n v d h = rw (add-one n) (go n d h)
+    where
+      go : (n : ℕ) (d : List A) → n < length d → set (replicate n v ++ drop n d) n v ≡ replicate (suc n) v ++ drop (suc n) d
+      go n [] l = absurd (not-suc-le-zero l)
+      go zero (x ∷ d) l = refl
+      go (suc n) (x ∷ d) l = ap (λ (t : List A). v ∷ t) (go n d (le_of_suc-le-suc l))
+
+  pub front_all : (n : ℕ) (v : A) (d : List A) → length d ≤ n → n ≤ length d → replicate n v ++ drop n d ≡ replicate (length d) v
+  front_all n v d h k = let e : n ≡ length d = omega arith in rw (drop_of_length-le d h, append-nil, e)

@@ -1,9 +1,14 @@
 -- Every refusal of a walk, of a count and of recorded work is row 8, "too long": the clock has no other error.
-use Rattle.std.specs.Prelude.{◌≡◌, Result, Ok, Err}
+use Rattle.std.specs.Prelude.{◌≡◌, Bool, ℤ, Result, Ok, Err, Option}
 use Rattle.std.proofs.Math.Path.{refl}
 use Rattle.worktime.specs.declared.ClockError.{ClockError}
 use Rattle.worktime.specs.declared.ClockError.TheVariants.{TooLong}
 use Rattle.worktime.specs.Number.{clock_number}
+use Rattle.worktime.specs.Walks.{next_start, previous_finish, next_finish, previous_start, start_by, advance, retreat, shift, between}
+use Rattle.date.specs.declared.Date.{Date}
+use Rattle.project.specs.declared.ActivityKind.{ActivityKind}
+use Rattle.project.specs.declared.End.{End}
+use Rattle.placing.specs.Placing.{bounded, place_start, start_for_finish, place_finish, finish_for_start, finish_for_start_by, constraint_time, actual}
 use Rattle.placing.specs.declared.Actual.{Actual}
 use Rattle.placing.specs.declared.Actual.TheVariants.{Unstarted, Begun, Completed}
 
@@ -32,3 +37,65 @@ actual_eight Unstarted = tt
 actual_eight (Begun s) = tt
 actual_eight (Completed s f) = tt
 actual_eight (Actual.Refused k) = error_eight k
+
+-- ---- by name: the clock's walks, where work is placed, what is recorded
+abbrev pub WalkEight : Result ℕ ClockError → Type 0
+WalkEight x = Eight x
+
+abbrev pub WorkEight : Result ℤ ClockError → Type 0
+WorkEight x = Eight x
+
+abbrev pub MomentEight : Result (Option ℕ) ClockError → Type 0
+MomentEight x = Eight x
+
+module _ (w : ℕ → Bool) where
+  pub next_start_eight : (t : ℕ) → WalkEight (next_start w t)
+  next_start_eight t = always_eight (next_start w t)
+
+  pub previous_finish_eight : (t : ℕ) → WalkEight (previous_finish w t)
+  previous_finish_eight t = always_eight (previous_finish w t)
+
+  pub next_finish_eight : (t : ℕ) → WalkEight (next_finish w t)
+  next_finish_eight t = always_eight (next_finish w t)
+
+  pub previous_start_eight : (t : ℕ) → WalkEight (previous_start w t)
+  previous_start_eight t = always_eight (previous_start w t)
+
+  pub start_by_eight : (t : ℕ) → WalkEight (start_by w t)
+  start_by_eight t = always_eight (start_by w t)
+
+  pub advance_eight : (t n : ℕ) → WalkEight (advance w t n)
+  advance_eight t n = always_eight (advance w t n)
+
+  pub retreat_eight : (t n : ℕ) → WalkEight (retreat w t n)
+  retreat_eight t n = always_eight (retreat w t n)
+
+  pub shift_eight : (t : ℕ) (lag : ℤ) → WalkEight (shift w t lag)
+  shift_eight t lag = always_eight (shift w t lag)
+
+  pub between_eight : (a b : ℕ) → WorkEight (between w a b)
+  between_eight a b = always_eight (between w a b)
+
+  pub place_start_eight : (kind : ActivityKind) (t : ℕ) → WalkEight (place_start w kind t)
+  place_start_eight kind t = always_eight (place_start w kind t)
+
+  pub start_for_finish_eight : (left t : ℕ) → WalkEight (start_for_finish w left t)
+  start_for_finish_eight left t = always_eight (start_for_finish w left t)
+
+  pub place_finish_eight : (kind : ActivityKind) (left t : ℕ) → WalkEight (place_finish w kind left t)
+  place_finish_eight kind left t = always_eight (place_finish w kind left t)
+
+  pub finish_for_start_eight : (left t : ℕ) → WalkEight (finish_for_start w left t)
+  finish_for_start_eight left t = always_eight (finish_for_start w left t)
+
+  pub finish_for_start_by_eight : (left t : ℕ) → WalkEight (finish_for_start_by w left t)
+  finish_for_start_by_eight left t = always_eight (finish_for_start_by w left t)
+
+  pub constraint_eight : (e : End) → MomentEight (constraint_time w e)
+  constraint_eight e = always_eight (constraint_time w e)
+
+  pub actual_eight_lem : (first last : Option Date) → ActualEight (actual w first last)
+  actual_eight_lem first last = actual_eight (actual w first last)
+
+pub bounded_eight : (origin t : ℕ) → WalkEight (bounded origin t)
+bounded_eight origin t = always_eight (bounded origin t)

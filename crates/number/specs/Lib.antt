@@ -9,6 +9,7 @@ pub mod BytesLaws
 pub mod Zed
 pub mod ZedLaws
 pub mod QuotLaws
+pub mod CastLaws
 pub mod Sign
 pub mod SignLaws
 pub mod Instances

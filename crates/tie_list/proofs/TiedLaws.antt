@@ -3,6 +3,7 @@ use Rattle.std.specs.Prelude.{◌≡◌, List, ℕ, ◌+◌, ◌^◌, ◌<◌, l
 use Rattle.std.proofs.Common.{sym, ◌∙◌, ap, subst, ⊎_elim, arith, length-set, get_or-set_same, get_or-set_other}
 use Rattle.std.proofs.lemmas.List.{length-map, length-replicate, get_or-replicate}
 use Rattle.std.proofs.Math.ListN.{get_or-eq_default, get_or-map}
+use Rattle.std.proofs.Math.Seq.{take-length}
 use Rattle.number.specs.Order.{lt_or_le}
 use Rattle.network.specs.Links.{Link}
 use Rattle.network.specs.Kahn.{into}
@@ -37,3 +38,7 @@ module _ (ts : List Tie) where
     pub counted_fits : (to : ℕ) → length ts < 2 ^ 64 → get_or cs to 0 + 1 < 2 ^ 64
     counted_fits to r =
         ⊎_elim (λ b. omega (arith, h to b, into_take_le (links_of ts) k to)) (λ b. omega (arith, get_or-eq_default cs 0 b)) (lt_or_le to (length cs))
+
+  pub counted_all : (cs : List ℕ) → Counted ts (length ts) cs → (i : ℕ) → i < length cs → get_or cs i 0 ≡ into (links_of ts) i
+  counted_all cs h i l =
+      h i l ∙ ap (λ (m : ℕ). into (take m (links_of ts)) i) (sym (length-map ts link_of)) ∙ ap (λ (ls : List Link). into ls i) (take-length (links_of ts))
