@@ -1,5 +1,5 @@
 -- Every refusal of a walk, of a count and of recorded work is row 8, "too long": the clock has no other error.
-use Rattle.std.specs.Prelude.{◌≡◌, Bool, ℤ, Result, Ok, Err, Option}
+use Rattle.std.specs.Prelude.{◌≡◌, Bool, ℕ, ℤ, Result, Ok, Err, Option}
 use Rattle.std.proofs.Math.Path.{refl}
 use Rattle.worktime.specs.declared.ClockError.{ClockError}
 use Rattle.worktime.specs.declared.ClockError.TheVariants.{TooLong}
