@@ -6,3 +6,6 @@ pub mod Steps
 pub mod WeekLaws
 pub mod DayLaws
 pub mod ValidLaws
+pub mod Props
+pub mod Exceptions
+pub mod Value

@@ -3,7 +3,14 @@
 
 ghost use Rattle.std.specs.Prelude.{◌≡◌, List, ℕ, ◌+◌, ◌-◌, ◌*◌, ◌^◌, min, max, ◌≤◌, ◌<◌, length, get_or};
 ghost use Rattle.calendar.specs.Hours.{none, rank, select, next_in, works, Ordered};
-ghost use Rattle.calendar.specs.Records.{week_periods, week_period_at, pad, week_of, round_the_clock, weekly_hours, exception_day, exception_period, hours_on, Valid, record_periods, periods_of, Within, FirstFrom, Listed, InHand};
+ghost use Rattle.calendar.specs.Records.{week_periods, week_period_at, pad, week_of, round_the_clock, weekly_hours, exception_day, exception_period, record_periods, periods_of, Within};
+ghost use Rattle.calendar.specs.Value.{hours_of};
+
+mod exceptions;
+mod value;
+
+pub use exceptions::Exceptions;
+pub use value::Calendar;
 
 // A work period within a day: from and to, in minutes after midnight.
 #[derive(Clone, Copy, PartialEq, Eq, Debug)]
@@ -14,12 +21,6 @@ pub struct Period {
 
 // How many periods a row holds.
 const PERIODS: usize = 8;
-
-// So many E records that the search among them starts in the middle: with fewer the product in `guess` stays within its type.
-const MANY_RECORDS: usize = 65536;
-
-// How many E records beside the guess are looked at one by one.
-const NEAR: usize = 8;
 
 // The hours of a day: its weekday's row, or where its `n` E records stand if it has any.
 // An enum of the two was tried, and it was slower: the row shares its bytes with `at` and `n` and is put together again from parts,
@@ -96,158 +97,14 @@ pub fn exception_period(sheet: &[u8], at: usize, i: usize) -> Period
     }
 }
 
-// Where to start the search for day `d` among the `n` E records: where it would stand if their days were spread evenly, as they mostly are.
-// Its value concerns speed alone: from any record the search finds the same place.
-fn guess(sheet: &[u8], at: usize, n: usize, d: u64) -> usize
-    requires { (at + 9 * n ≤ length sheet.now) × (0 < n) }
-    ensures { result < n }
-{
-    let first = exception_day(sheet, at, 0);
-    let last = exception_day(sheet, at, n - 1);
-    if d <= first {
-        return 0;
-    }
-    if last < d {
-        return n - 1;
-    }
-    if MANY_RECORDS <= n {
-        return n / 2;
-    }
-    ((d - first) * n as u64 / (last - first + 1)) as usize
-}
-
-// The first of the `n` E records from `at` on whose day is `d` or later, where it is one of those from `low` up to `high`, or `high`.
-// Halved by hand: std's `partition_point` searches a slice, and the records are bytes of the sheet, which the C interface lends.
-fn first_between(sheet: &[u8], at: usize, n: usize, d: u64, low: usize, high: usize) -> usize
-    requires { Listed sheet.now at n × (low ≤ high) × (high ≤ n) × ((j : ℕ) → j < low → exception_day sheet.now at j < d) × ((j : ℕ) → high ≤ j → j < n → d ≤ exception_day sheet.now at j) }
-    ensures { FirstFrom sheet.now at n d result }
-{
-    let mut lo = low;
-    let mut hi = high;
-    while lo < hi {
-        let mid = lo + (hi - lo) / 2;
-        if exception_day(sheet, at, mid) < d {
-            lo = mid + 1;
-        } else {
-            hi = mid;
-        }
-    }
-    lo
-}
-
-// The same where the day of record `start` is before `d`: one of the next, or else searched for.
-fn first_past(sheet: &[u8], at: usize, n: usize, d: u64, start: usize) -> usize
-    requires { Listed sheet.now at n × (start < n) × (exception_day sheet.now at start < d) }
-    ensures { FirstFrom sheet.now at n d result }
-{
-    let end = n.min(start + NEAR);
-    for i in start + 1..end {
-        if d <= exception_day(sheet, at, i) {
-            return i;
-        }
-    }
-    first_between(sheet, at, n, d, end, n)
-}
-
-// The same where the day of record `start` is `d` or later: it or one of the last before it, or else searched for.
-fn first_up_to(sheet: &[u8], at: usize, n: usize, d: u64, start: usize) -> usize
-    requires { Listed sheet.now at n × (start < n) × (d ≤ exception_day sheet.now at start) }
-    ensures { FirstFrom sheet.now at n d result }
-{
-    let end = start.saturating_sub(NEAR);
-    for i in (end..start).rev() {
-        if exception_day(sheet, at, i) < d {
-            return i + 1;
-        }
-    }
-    first_between(sheet, at, n, d, 0, end)
-}
-
-// The first of the `n` E records from `at` on whose day is `d` or later. It is mostly near the guess, where a look at each costs less than halving.
-pub fn first_from(sheet: &[u8], at: usize, n: usize, d: u64) -> usize
-    requires { (at + 9 * n ≤ length sheet.now) × ((i j : ℕ) → i ≤ j → j < n → exception_day sheet.now at i ≤ exception_day sheet.now at j) }
-    ensures { FirstFrom sheet.now at n d result }
-{
-    if n == 0 {
-        return 0;
-    }
-    let start = guess(sheet, at, n, d);
-    if exception_day(sheet, at, start) < d {
-        return first_past(sheet, at, n, d, start);
-    }
-    first_up_to(sheet, at, n, d, start)
-}
-
-// The first of the `n` E records from `at` on whose day is after `d`, where `from` is the first whose day is `d` or later.
-fn first_after(sheet: &[u8], at: usize, n: usize, d: u64, from: usize) -> usize
-    requires { (at + 9 * n ≤ length sheet.now) × ((i j : ℕ) → i ≤ j → j < n → exception_day sheet.now at i ≤ exception_day sheet.now at j) × FirstFrom sheet.now at n d from }
-    ensures { FirstFrom sheet.now at n (d + 1) result }
-{
-    for i in from..n {
-        if d < exception_day(sheet, at, i) {
-            return i;
-        }
-    }
-    n
-}
-
-// The first of the `n` E records from `at` on whose day is `d` or later, where `to` is the first whose day is after `d`.
-// It mirrors `first_after`: one function with the direction as an argument would be no plainer.
-fn first_back(sheet: &[u8], at: usize, n: usize, d: u64, to: usize) -> usize
-    requires { Listed sheet.now at n × FirstFrom sheet.now at n (d + 1) to }
-    ensures { FirstFrom sheet.now at n d result }
-{
-    for i in (0..to).rev() {
-        if exception_day(sheet, at, i) < d {
-            return i + 1;
-        }
-    }
-    0
-}
-
-// The hours of day `d`, whose weekday's row is in hand, and the first E record whose day is `d` or later; so a walk forward searches no day anew.
-pub fn hours_from(row: [Period; 8], sheet: &[u8], at: usize, n: usize, d: u64, from: usize) -> Hours
-    requires { Listed sheet.now at n × FirstFrom sheet.now at n d from }
-    ensures { InHand row sheet.now at n d result × FirstFrom sheet.now at n (d + 1) (from + result.n) }
-{
-    let to = first_after(sheet, at, n, d, from);
-    Hours {
-        row,
-        at: at + 9 * from,
-        n: to - from,
-    }
-}
-
-// The hours of day `d`, whose weekday's row is in hand, and the first E record whose day is after `d`; so a walk back searches no day anew.
-pub fn hours_to(row: [Period; 8], sheet: &[u8], at: usize, n: usize, d: u64, to: usize) -> Hours
-    requires { Listed sheet.now at n × FirstFrom sheet.now at n (d + 1) to }
-    ensures { InHand row sheet.now at n d result × (result.n ≤ to) × FirstFrom sheet.now at n d (to - result.n) }
-{
-    let from = first_back(sheet, at, n, d, to);
-    Hours {
-        row,
-        at: at + 9 * from,
-        n: to - from,
-    }
-}
-
-// The hours of day `d`, whose weekday's row is in hand.
-pub fn hours_on(row: [Period; 8], sheet: &[u8], at: usize, n: usize, d: u64) -> Hours
-    requires { Listed sheet.now at n }
-    ensures { InHand row sheet.now at n d result }
-{
-    let from = first_from(sheet, at, n, d);
-    hours_from(row, sheet, at, n, d, from)
-}
-
 // The hours of day `d`.
-pub fn periods_on(week: [[Period; 8]; 7], sheet: &[u8], at: usize, n: usize, d: u64) -> Hours
-    requires { (d < 4294967296) × Valid week sheet.now at n }
-    ensures { (periods_of result sheet.now ≡ hours_on week sheet.now at n d) × Within result sheet.now }
+pub fn periods_on(calendar: &Calendar, d: u64) -> Hours
+    requires { d < 4294967296 }
+    ensures { (periods_of result calendar.now.exceptions.sheet.now ≡ hours_of calendar.now d) × Within result calendar.now.exceptions.sheet.now }
 {
     let k = ((d + 1) % 7) as usize;
-    let row = week[k];
-    hours_on(row, sheet, at, n, d)
+    let row = calendar.week[k];
+    calendar.exceptions.hours_on(row, d)
 }
 
 // Periods in their order: a row, or the E records of a day. What is asked of either is one loop over their places, compiled for each.
@@ -322,12 +179,12 @@ fn day_works(hours: Hours, sheet: &[u8]) -> bool
 }
 
 // Whether some minute of day `d` is worked.
-pub fn is_working(week: [[Period; 8]; 7], sheet: &[u8], at: usize, n: usize, d: u64) -> bool
-    requires { (d < 4294967296) × Valid week sheet.now at n }
-    ensures { result ≡ works (hours_on week sheet.now at n d) }
+pub fn is_working(calendar: &Calendar, d: u64) -> bool
+    requires { d < 4294967296 }
+    ensures { result ≡ works (hours_of calendar.now d) }
 {
-    let hours = periods_on(week, sheet, at, n, d);
-    day_works(hours, sheet)
+    let hours = periods_on(calendar, d);
+    day_works(hours, calendar.exceptions.sheet)
 }
 
 // How many minutes of the period stand before minute `m` of the day.

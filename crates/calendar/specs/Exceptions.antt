@@ -1,0 +1,18 @@
+-- What is said of the E records of a calendar in hand.
+use Rattle.std.specs.Prelude.{List, ℕ}
+use Rattle.calendar.specs.declared.Period.{Period}
+use Rattle.calendar.specs.declared.Hours.{Hours}
+use Rattle.calendar.specs.declared.exceptions.Exceptions.{Exceptions}
+use Rattle.calendar.specs.Records.{exception_day, FirstFrom, InHand}
+
+-- the day of record i
+abbrev pub day_in : Exceptions → ℕ → ℕ
+day_in e i = exception_day e.sheet.now e.at i
+
+-- r is the first record whose day is d or later, or their number
+abbrev pub FirstOf : Exceptions → ℕ → ℕ → Type 0
+FirstOf e d r = FirstFrom e.sheet.now e.at e.n d r
+
+-- hours of day d in hand, by the row of its weekday
+abbrev pub InHandOf : List Period → Exceptions → ℕ → Hours → Type 0
+InHandOf row e d h = InHand row e.sheet.now e.at e.n d h

@@ -1,0 +1,177 @@
+// The E records of a calendar as a value: where they stand in the sheet, and the search for those of a day.
+#![tactic(auto)]
+
+ghost use Rattle.calendar.specs.Records.{Listed};
+
+use super::{exception_day, Hours, Period};
+
+// So many E records that the search among them starts in the middle: with fewer the product in `guess` stays within its type.
+const MANY_RECORDS: usize = 65536;
+
+// How many E records beside the guess are looked at one by one.
+const NEAR: usize = 8;
+
+// `n` E records from the byte `at` of the sheet on; they lie within it, and their days do not fall.
+#[derive(Clone, Copy)]
+pub struct Exceptions<'a> {
+    pub sheet: &'a [u8],
+    pub at: usize,
+    pub n: usize,
+    ghost listed: { Listed sheet.now at n },
+}
+
+impl<'a> Exceptions<'a> {
+    ghost use Rattle.std.specs.Prelude.{◌≡◌, ℕ, ◌+◌, ◌-◌, ◌^◌, ◌≤◌, ◌<◌};
+    ghost use Rattle.calendar.specs.Exceptions.{day_in, FirstOf, InHandOf};
+
+    // The day of record `i`.
+    pub fn day(&self, i: usize) -> u64
+        requires { i < self.now.n }
+        ensures { (result ≡ day_in self.now i) × (result < 2 ^ 32) }
+    {
+        exception_day(self.sheet, self.at, i)
+    }
+
+    // Where to start the search for day `d`: where it would stand if the records' days were spread evenly, as they mostly are.
+    // Its value concerns speed alone: from any record the search finds the same place.
+    fn guess(&self, d: u64) -> usize
+        requires { 0 < self.now.n }
+        ensures { result < self.now.n }
+    {
+        let n = self.n;
+        let first = self.day(0);
+        let last = self.day(n - 1);
+        if d <= first {
+            return 0;
+        }
+        if last < d {
+            return n - 1;
+        }
+        if MANY_RECORDS <= n {
+            return n / 2;
+        }
+        ((d - first) * n as u64 / (last - first + 1)) as usize
+    }
+
+    // The first record whose day is `d` or later, where it is one of those from `low` up to `high`, or `high`.
+    // Halved by hand: std's `partition_point` searches a slice, and the records are bytes of the sheet, which the C interface lends.
+    fn first_between(&self, d: u64, low: usize, high: usize) -> usize
+        requires { (low ≤ high) × (high ≤ self.now.n) × ((j : ℕ) → j < low → day_in self.now j < d) × ((j : ℕ) → high ≤ j → j < self.now.n → d ≤ day_in self.now j) }
+        ensures { FirstOf self.now d result }
+    {
+        let mut lo = low;
+        let mut hi = high;
+        while lo < hi {
+            let mid = lo + (hi - lo) / 2;
+            if self.day(mid) < d {
+                lo = mid + 1;
+            } else {
+                hi = mid;
+            }
+        }
+        lo
+    }
+
+    // The same where the day of record `start` is before `d`: one of the next, or else searched for.
+    fn first_past(&self, d: u64, start: usize) -> usize
+        requires { (start < self.now.n) × (day_in self.now start < d) }
+        ensures { FirstOf self.now d result }
+    {
+        let end = self.n.min(start + NEAR);
+        for i in start + 1..end {
+            if d <= self.day(i) {
+                return i;
+            }
+        }
+        self.first_between(d, end, self.n)
+    }
+
+    // The same where the day of record `start` is `d` or later: it or one of the last before it, or else searched for.
+    fn first_up_to(&self, d: u64, start: usize) -> usize
+        requires { (start < self.now.n) × (d ≤ day_in self.now start) }
+        ensures { FirstOf self.now d result }
+    {
+        let end = start.saturating_sub(NEAR);
+        for i in (end..start).rev() {
+            if self.day(i) < d {
+                return i + 1;
+            }
+        }
+        self.first_between(d, 0, end)
+    }
+
+    // The first record whose day is `d` or later. It is mostly near the guess, where a look at each costs less than halving.
+    pub fn first_from(&self, d: u64) -> usize
+        ensures { FirstOf self.now d result }
+    {
+        if self.n == 0 {
+            return 0;
+        }
+        let start = self.guess(d);
+        if self.day(start) < d {
+            return self.first_past(d, start);
+        }
+        self.first_up_to(d, start)
+    }
+
+    // The first record whose day is after `d`, where `from` is the first whose day is `d` or later.
+    fn first_after(&self, d: u64, from: usize) -> usize
+        requires { FirstOf self.now d from }
+        ensures { FirstOf self.now (d + 1) result }
+    {
+        for i in from..self.n {
+            if d < self.day(i) {
+                return i;
+            }
+        }
+        self.n
+    }
+
+    // The first record whose day is `d` or later, where `to` is the first whose day is after `d`.
+    // It mirrors `first_after`: one function with the direction as an argument would be no plainer.
+    fn first_back(&self, d: u64, to: usize) -> usize
+        requires { FirstOf self.now (d + 1) to }
+        ensures { FirstOf self.now d result }
+    {
+        for i in (0..to).rev() {
+            if self.day(i) < d {
+                return i + 1;
+            }
+        }
+        0
+    }
+
+    // The hours of day `d`, whose weekday's row is in hand, and the first record whose day is `d` or later; so a walk forward searches no day anew.
+    pub fn hours_from(&self, row: [Period; 8], d: u64, from: usize) -> Hours
+        requires { FirstOf self.now d from }
+        ensures { InHandOf row self.now d result × FirstOf self.now (d + 1) (from + result.n) }
+    {
+        let to = self.first_after(d, from);
+        Hours {
+            row,
+            at: self.at + 9 * from,
+            n: to - from,
+        }
+    }
+
+    // The hours of day `d`, whose weekday's row is in hand, and the first record whose day is after `d`; so a walk back searches no day anew.
+    pub fn hours_to(&self, row: [Period; 8], d: u64, to: usize) -> Hours
+        requires { FirstOf self.now (d + 1) to }
+        ensures { InHandOf row self.now d result × (result.n ≤ to) × FirstOf self.now d (to - result.n) }
+    {
+        let from = self.first_back(d, to);
+        Hours {
+            row,
+            at: self.at + 9 * from,
+            n: to - from,
+        }
+    }
+
+    // The hours of day `d`, whose weekday's row is in hand.
+    pub fn hours_on(&self, row: [Period; 8], d: u64) -> Hours
+        ensures { InHandOf row self.now d result }
+    {
+        let from = self.first_from(d);
+        self.hours_from(row, d, from)
+    }
+}
