@@ -3,7 +3,7 @@
 
 ghost use Rattle.calendar.specs.Records.{Listed};
 
-use super::{exception_day, Hours, Period};
+use super::{Hours, Period, exception_day, exception_period, exception_work};
 
 // So many E records that the search among them starts in the middle: with fewer the product in `guess` stays within its type.
 const MANY_RECORDS: usize = 65536;
@@ -22,7 +22,8 @@ pub struct Exceptions<'a> {
 
 impl<'a> Exceptions<'a> {
     ghost use Rattle.std.specs.Prelude.{◌≡◌, ℕ, ◌+◌, ◌-◌, ◌^◌, ◌≤◌, ◌<◌};
-    ghost use Rattle.calendar.specs.Exceptions.{day_in, FirstOf, InHandOf};
+    ghost use Rattle.calendar.specs.Exceptions.{day_in, work_in, FirstOf, InHandOf};
+    ghost use Rattle.calendar.specs.Records.{exception_period};
 
     // The day of record `i`.
     pub fn day(&self, i: usize) -> u64
@@ -30,6 +31,22 @@ impl<'a> Exceptions<'a> {
         ensures { (result ≡ day_in self.now i) × (result < 2 ^ 32) }
     {
         exception_day(self.sheet, self.at, i)
+    }
+
+    // The period of record `i`.
+    pub fn period(&self, i: usize) -> Period
+        requires { i < self.now.n }
+        ensures { result ≡ exception_period self.now.sheet.now self.now.at i }
+    {
+        exception_period(self.sheet, self.at, i)
+    }
+
+    // How many minutes record `i` gives its day.
+    pub fn work(&self, i: usize) -> u64
+        requires { i < self.now.n }
+        ensures { (result ≡ work_in self.now i) × (result ≤ 1440) }
+    {
+        exception_work(self.sheet, self.at, i)
     }
 
     // Where to start the search for day `d`: where it would stand if the records' days were spread evenly, as they mostly are.

@@ -2,8 +2,8 @@
 ghost use Rattle.calendar.specs.Records.{Valid};
 ghost use Rattle.calendar.specs.Props.{props};
 
-use super::exceptions::Exceptions;
 use super::Period;
+use super::exceptions::Exceptions;
 
 // A week of seven rows of eight periods, and the E records of days that have hours of their own; every day's hours are in order.
 #[derive(Clone, Copy)]

@@ -2,11 +2,11 @@
 use mathlib.Core.Path.{◌≡◌, refl, sym, ◌∙◌}
 use Prim.Native.Nat.{◌*◌, ◌/◌}
 use native.Mathlib.Omega.{arith}
-use Rattle.calendar.specs.Records.{hours_on}
+use Rattle.calendar.specs.Value.{hours_of}
 use Rattle.calendar.specs.ValidLaws.{hand_ordered}
 use Rattle.date.specs.Years.{years_before, years_after}
 use Rattle.worktime.proofs.Shift.{advance_zero, advance_out}
-use Rattle.clock.specs.On.{worked_on}
+use Rattle.clock.specs.On.{worked_by}
 use Rattle.clock.specs.Days.{hand_time}
 use Rattle.clock.specs.SameLaws.{advance_same, advance_many}
 use Rattle.clock.proofs.advance.Goals as goal
@@ -29,15 +29,15 @@ returns-then-work-gt-MANY c = sym (advance_many _ _ (omega arith))
 pub day_rank-done-requires : goal.day_rank-done-requires
 day_rank-done-requires c =
     let f = c.hours_from-hours.ensures.0 in
-    (f.within, hand_ordered c.requires _ _ (f.is _ refl))
+    (f.within, hand_ordered c.args.calendar.now.valid _ _ (f.is _ refl))
 
 pub returns : goal.returns
 returns c =
     let s = c.before.before.before.before.before.before.before.before.before.before in
     let a = s.args in
-    let h = hours_on a.week a.sheet.now a.at a.n in
+    let h = hours_of a.calendar.now in
     let d = a.t / 1440 in
-    let p = c.hours_from-hours.ensures.0.is a.week refl in
-    let q = hand_time h a.t (s.requires.ordered d) _ p _ c.day_rank-done.ensures.0 in
+    let p = c.hours_from-hours.ensures.0.is a.calendar.now.week refl in
+    let q = hand_time h a.t (s.args.calendar.now.valid.ordered d) _ p _ c.day_rank-done.ensures.0 in
     c.advance_from.ensures
-    ∙ sym (advance_same (worked_on a.week a.sheet.now a.at a.n) {u = d * 1440} (omega arith) (omega arith) (omega arith) (omega arith) (omega (arith, q)))
+    ∙ sym (advance_same (worked_by a.calendar.now) {u = d * 1440} (omega arith) (omega arith) (omega arith) (omega arith) (omega (arith, q)))

@@ -13,7 +13,7 @@ use Rattle.date.specs.Years.{end_day}
 use Rattle.worktime.specs.Count.{count_mono}
 use Rattle.worktime.specs.Walks.{end_minute}
 use Rattle.worktime.proofs.Shift.{advance_at, advance_none}
-use Rattle.clock.specs.On.{worked_on}
+use Rattle.clock.specs.On.{worked_by}
 use Rattle.clock.specs.Days.{hand_select}
 use Rattle.clock.specs.Weeks.{row_ordered}
 use Rattle.clock.specs.Regular.{Sums, regular}
@@ -21,51 +21,52 @@ use Rattle.clock.specs.Stands.{Ahead}
 use Rattle.clock.specs.StandLaws.{record_minute}
 use Rattle.clock.specs.RegularOrder.{regular_some}
 use Rattle.clock.specs.WeekdayLaws.{OnWeekday, sums_before, sums_with, ahead_weekday}
+use Rattle.calendar.specs.Value.{hours_of}
 use Rattle.clock.proofs.advance_from.Goals as goal
-use Rattle.clock.proofs.advance_from.Goals.{then-j-n+else-stand-work, else-j-n}
+use Rattle.clock.proofs.advance_from.Goals.{then-j-calendar+else-stand-work, else-j-calendar}
 
 pub sums_of-sums-requires : goal.sums_of-sums-requires
-sums_of-sums-requires c = row_ordered c.requires.0
+sums_of-sums-requires c = row_ordered c.args.calendar.now.valid
 
 pub ahead-stand-requires : goal.ahead-stand-requires
-ahead-stand-requires c = let p = c.requires in (c.sums_of-sums.ensures.rising, c.sums_of-sums.ensures.none, (p.0.long, p.0.sorted), p.1, omega (arith, p.3), p.4, p.5)
+ahead-stand-requires c = let p = c.requires in (c.sums_of-sums.ensures.rising, c.sums_of-sums.ensures.none, p.0, omega (arith, p.2), p.3, p.4)
 
 pub returns-then-day-gt-LAST_DAY : goal.returns-then-day-gt-LAST_DAY
 returns-then-day-gt-LAST_DAY c =
     let a = c.args in
-    let w = worked_on a.week a.sheet.now a.at a.n in
-    let day = exception_day a.sheet.now a.at c.ahead-stand.result.at in
-    let stand = c.ahead-stand.ensures.0 a.week c.requires.0 c.sums_of-sums.ensures in
+    let w = worked_by a.calendar.now in
+    let day = exception_day a.calendar.now.exceptions.sheet.now a.calendar.now.exceptions.at c.ahead-stand.result.at in
+    let stand = c.ahead-stand.ensures.0 a.calendar.now.week c.args.calendar.now.valid c.sums_of-sums.ensures in
     sym
     (advance_none w (a.d * 1440) a.work (omega arith)
-    (omega (arith, stand.record_next (omega arith), (c.ahead-stand.ensures.2 (omega arith)).0, c.exception_day-day.ensures.0, count_mono w {s = end_minute} {t = day * 1440} (omega (arith, c.exception_day-day.ensures.0)))))
+    (omega (arith, stand.record_next (omega arith), (c.ahead-stand.ensures.2 (omega arith)).0, c.day-day.ensures.0, count_mono w {s = end_minute} {t = day * 1440} (omega (arith, c.day-day.ensures.0)))))
 
 pub returns-then-stand-work : goal.returns-then-stand-work
 returns-then-stand-work c =
     let a = c.args in
-    let w = worked_on a.week a.sheet.now a.at a.n in
+    let w = worked_by a.calendar.now in
     let j = c.ahead-stand.result.at in
     let x = a.work - c.ahead-stand.result.start in
     let f = c.ahead-stand.ensures.2 (omega arith) in
-    let m = record_minute c.requires.0 j x (omega arith) (omega arith) (omega (arith, f.1)) in
-    let day = c.exception_day-day.ensures.0 in
-    let from = ap (λ q. q.from) c.exception_period-period.ensures in
-    let stand = c.ahead-stand.ensures.0 a.week c.requires.0 c.sums_of-sums.ensures in
+    let m = record_minute c.args.calendar.now.valid j x (omega arith) (omega arith) (omega (arith, f.1)) in
+    let day = c.day-day.ensures.0 in
+    let from = ap (λ q. q.from) c.period-period.ensures in
+    let stand = c.ahead-stand.ensures.0 a.calendar.now.week c.args.calendar.now.valid c.sums_of-sums.ensures in
     ap Ok (omega (arith, day, from))
-    ∙ sym (advance_at w (omega arith) (omega (arith, c.requires.2)) (omega (arith, m.high, day)) m.closes (omega (arith, m.full, stand.record_next (omega arith), f.0)))
+    ∙ sym (advance_at w (omega arith) (omega (arith, c.requires.1)) (omega (arith, m.high, day)) m.closes (omega (arith, m.full, stand.record_next (omega arith), f.0)))
 
 pub returns-then-sums-eq0 : goal.returns-then-sums-eq0
 returns-then-sums-eq0 c =
     let a = c.args in
     let r = c.ahead-stand.result in
-    let w = worked_on a.week a.sheet.now a.at a.n in
+    let w = worked_by a.calendar.now in
     let ss = c.sums_of-sums.result in
     let zero : (x : ℕ) → regular ss x ≡ 0 =
     λ x. ⊎_elim (λ z. z) (λ l. absurd (omega (arith, c.if-sums-eq0.true, regular_some ss c.sums_of-sums.ensures.rising x l))) (zero_or_pos (regular ss x)) in
-    let stand = c.ahead-stand.ensures.0 a.week c.requires.0 c.sums_of-sums.ensures in
-    let before : r.at < a.n → a.work ≤ r.start =
-    λ l. elim c.if-j-n.branch [ then-j-n+else-stand-work w ↦ omega (arith, w.if-stand-work.false) | else-j-n w ↦ absurd (omega (arith, w.if-j-n.false)) ] in
-    let last : r.at < a.n → ⊥ = λ l. omega (arith, before l, (c.ahead-stand.ensures.2 l).0, c.ahead-stand.ensures.1, zero (exception_day a.sheet.now a.at r.at)) in
+    let stand = c.ahead-stand.ensures.0 a.calendar.now.week c.args.calendar.now.valid c.sums_of-sums.ensures in
+    let before : r.at < a.calendar.now.exceptions.n → a.work ≤ r.start =
+    λ l. elim c.if-j-calendar.branch [ then-j-calendar+else-stand-work w ↦ omega (arith, w.if-stand-work.false) | else-j-calendar w ↦ absurd (omega (arith, w.if-j-calendar.false)) ] in
+    let last : r.at < a.calendar.now.exceptions.n → ⊥ = λ l. omega (arith, before l, (c.ahead-stand.ensures.2 l).0, c.ahead-stand.ensures.1, zero (exception_day a.calendar.now.exceptions.sheet.now a.calendar.now.exceptions.at r.at)) in
     let x = stand.next + end_day in
     sym
     (advance_none w (a.d * 1440) a.work (omega arith)
@@ -82,12 +83,12 @@ pub returns-then-next : goal.returns-then-next
 returns-then-next c =
     let a = c.args in
     let r = c.ahead-stand.result in
-    let w = worked_on a.week a.sheet.now a.at a.n in
-    let before : r.at < a.n → a.work ≤ r.start =
-    λ l. elim c.if-j-n.branch [ then-j-n+else-stand-work w ↦ omega (arith, w.if-stand-work.false) | else-j-n w ↦ absurd (omega (arith, w.if-j-n.false)) ] in
+    let w = worked_by a.calendar.now in
+    let before : r.at < a.calendar.now.exceptions.n → a.work ≤ r.start =
+    λ l. elim c.if-j-calendar.branch [ then-j-calendar+else-stand-work w ↦ omega (arith, w.if-stand-work.false) | else-j-calendar w ↦ absurd (omega (arith, w.if-j-calendar.false)) ] in
     let f = c.day_after-next.ensures in
     let o =
-    on-weekday c.sums_of-sums.ensures r.at _ r.passed r.over r.start a.work c.day_after-next.result (c.ahead-stand.ensures.0 a.week c.requires.0 c.sums_of-sums.ensures) c.ahead-stand.ensures.1
+    on-weekday c.sums_of-sums.ensures r.at _ r.passed r.over r.start a.work c.day_after-next.result (c.ahead-stand.ensures.0 a.calendar.now.week c.args.calendar.now.valid c.sums_of-sums.ensures) c.ahead-stand.ensures.1
     (λ l. (c.ahead-stand.ensures.2 l).0) before f.0 f.1 in
     sym
     (advance_none w (a.d * 1440) a.work (omega arith)
@@ -97,11 +98,11 @@ pub overflow_sub-result-2 : goal.overflow_sub-result-2
 overflow_sub-result-2 c =
     let a = c.args in
     let r = c.ahead-stand.result in
-    let before : r.at < a.n → a.work ≤ r.start =
-    λ l. elim c.if-j-n.branch [ then-j-n+else-stand-work w ↦ omega (arith, w.if-stand-work.false) | else-j-n w ↦ absurd (omega (arith, w.if-j-n.false)) ] in
+    let before : r.at < a.calendar.now.exceptions.n → a.work ≤ r.start =
+    λ l. elim c.if-j-calendar.branch [ then-j-calendar+else-stand-work w ↦ omega (arith, w.if-stand-work.false) | else-j-calendar w ↦ absurd (omega (arith, w.if-j-calendar.false)) ] in
     let f = c.day_after-next.ensures in
     let o =
-    on-weekday c.sums_of-sums.ensures r.at _ r.passed r.over r.start a.work c.day_after-next.result (c.ahead-stand.ensures.0 a.week c.requires.0 c.sums_of-sums.ensures) c.ahead-stand.ensures.1
+    on-weekday c.sums_of-sums.ensures r.at _ r.passed r.over r.start a.work c.day_after-next.result (c.ahead-stand.ensures.0 a.calendar.now.week c.args.calendar.now.valid c.sums_of-sums.ensures) c.ahead-stand.ensures.1
     (λ l. (c.ahead-stand.ensures.2 l).0) before f.0 f.1 in
     o.low
 
@@ -109,20 +110,20 @@ pub row_select-requires : goal.row_select-requires
 row_select-requires c =
     let k = c.day_after-next.result % 7 in
     let f = c.day_after-next.ensures in
-    (row_ordered c.requires.0 k (omega arith), omega arith, omega (arith, f.0, f.1, c.sums_of-sums.ensures.each k (omega arith)))
+    (row_ordered c.args.calendar.now.valid k (omega arith), omega arith, omega (arith, f.0, f.1, c.sums_of-sums.ensures.each k (omega arith)))
 
 pub returns : goal.returns
 returns c =
     let a = c.args in
     let r = c.ahead-stand.result in
-    let w = worked_on a.week a.sheet.now a.at a.n in
+    let w = worked_by a.calendar.now in
     let x = c.day_after-next.result in
-    let before : r.at < a.n → a.work ≤ r.start =
-    λ l. elim c.if-j-n.branch [ then-j-n+else-stand-work w ↦ omega (arith, w.if-stand-work.false) | else-j-n w ↦ absurd (omega (arith, w.if-j-n.false)) ] in
+    let before : r.at < a.calendar.now.exceptions.n → a.work ≤ r.start =
+    λ l. elim c.if-j-calendar.branch [ then-j-calendar+else-stand-work w ↦ omega (arith, w.if-stand-work.false) | else-j-calendar w ↦ absurd (omega (arith, w.if-j-calendar.false)) ] in
     let f = c.day_after-next.ensures in
     let o =
-    on-weekday c.sums_of-sums.ensures r.at _ r.passed r.over r.start a.work c.day_after-next.result (c.ahead-stand.ensures.0 a.week c.requires.0 c.sums_of-sums.ensures) c.ahead-stand.ensures.1
+    on-weekday c.sums_of-sums.ensures r.at _ r.passed r.over r.start a.work c.day_after-next.result (c.ahead-stand.ensures.0 a.calendar.now.week c.args.calendar.now.valid c.sums_of-sums.ensures) c.ahead-stand.ensures.1
     (λ l. (c.ahead-stand.ensures.2 l).0) before f.0 f.1 in
-    let m = hand_select (hours_on a.week a.sheet.now a.at a.n) (x - 1) (c.requires.0.ordered (x - 1)) (get_or a.week (x % 7) []) (sym o.hours) _ _ (omega arith)
+    let m = hand_select (hours_of a.calendar.now) (x - 1) (c.args.calendar.now.valid.ordered (x - 1)) (get_or a.calendar.now.week (x % 7) []) (sym o.hours) _ _ (omega arith)
     (omega (arith, f.0, f.1, c.sums_of-sums.ensures.each (x % 7) (omega arith))) c.row_select.ensures.0 in
-    sym (advance_at w (omega arith) (omega (arith, c.requires.2)) (omega (arith, m.high)) m.closes (omega (arith, m.full, o.counted, f.0, c.ahead-stand.ensures.1)))
+    sym (advance_at w (omega arith) (omega (arith, c.requires.1)) (omega (arith, m.high)) m.closes (omega (arith, m.full, o.counted, f.0, c.ahead-stand.ensures.1)))

@@ -20,35 +20,35 @@ use Rattle.clock.proofs.days_work.Goals as goal
 use Rattle.clock.proofs.days_work.Goals.{then-next-day, else-next-day}
 
 pub sums_of-sums-requires : goal.sums_of-sums-requires
-sums_of-sums-requires c = row_ordered c.requires.0
+sums_of-sums-requires c = row_ordered c.args.calendar.now.valid
 
 pub regular_work-sum-requires : goal.regular_work-sum-requires
-regular_work-sum-requires c = let p = c.requires in (c.sums_of-sums.ensures.rising, p.1, p.2)
+regular_work-sum-requires c = let p = c.requires in (c.sums_of-sums.ensures.rising, p.0, p.1)
 
 pub loop-j-init : goal.loop-j-init
 loop-j-init c =
     let a = c.args in
     let p = c.requires in
-    let f = p.3 in
-    let g : a.d + (a.e - a.d) ≡ a.e = omega (arith, p.1) in (
+    let f = p.2 in
+    let g : a.d + (a.e - a.d) ≡ a.e = omega (arith, p.0) in (
       omega arith,
       f.within,
       omega arith,
-      p.1,
+      p.0,
       λ week sums.
           omega (
             arith,
             c.regular_work-sum.ensures,
             rw g at
-                (days_regular sums (hours_on week a.sheet.now a.at a.from) a.d (a.e - a.d)
-                (λ x l k. hours_week week a.sheet.now a.at a.from x (none_first week a.sheet.now a.at x a.from (λ i h z. omega (arith, f.below i h))))),
+                (days_regular sums (hours_on week a.calendar.now.exceptions.sheet.now a.calendar.now.exceptions.at a.from) a.d (a.e - a.d)
+                (λ x l k. hours_week week a.calendar.now.exceptions.sheet.now a.calendar.now.exceptions.at a.from x (none_first week a.calendar.now.exceptions.sheet.now a.calendar.now.exceptions.at x a.from (λ i h z. omega (arith, f.below i h))))),
           ),
       f.below,
       inl refl,
     )
 
-pub exception_day-day-requires : goal.exception_day-day-requires
-exception_day-day-requires c = omega (arith, c.requires.0.long)
+pub day-day-requires : goal.day-day-requires
+day-day-requires c = omega (arith, c.args.calendar.now.valid.long)
 
 -- the records before record j are those of the days before e
 ended : (week : List (List Period)) (s : List ℕ) (at n d e j sum next : ℕ) → Valid week s at n → d ≤ e → e < 4294967296 → j ≤ n → next ≤ e
@@ -64,17 +64,17 @@ pub returns-then-e-day : goal.returns-then-e-day
 returns-then-e-day c =
     let p = c.requires in
     let i = c.loop-j.invariant in
-    ended _ _ _ _ _ _ _ _ _ p.0 p.1 p.2 i.1 i.3 i.5 (λ k h l. omega (arith, c.if-e-day.true, c.exception_day-day.ensures.0, p.0.sorted c.loop-j.j k h l)) (i.4 c.args.week c.sums_of-sums.ensures)
+    ended _ _ _ _ _ _ _ _ _ c.args.calendar.now.valid p.0 p.1 i.1 i.3 i.5 (λ k h l. omega (arith, c.if-e-day.true, c.day-day.ensures.0, c.args.calendar.now.valid.sorted c.loop-j.j k h l)) (i.4 c.args.calendar.now.week c.sums_of-sums.ensures)
 
 pub overflow_sub-regular : goal.overflow_sub-regular
-overflow_sub-regular c = let k = weekday c.exception_day-day.result in c.sums_of-sums.ensures.rising.0 k (k + 1) (omega arith) (omega arith)
+overflow_sub-regular c = let k = weekday c.day-day.result in c.sums_of-sums.ensures.rising.0 k (k + 1) (omega arith) (omega arith)
 
-pub exception_work-requires : goal.exception_work-requires
-exception_work-requires c = omega (arith, c.requires.0.long)
+pub work-requires : goal.work-requires
+work-requires c = omega (arith, c.args.calendar.now.valid.long)
 
 -- record j comes from day d on, before day e
-within : (c : goal.After-row_known-1) → (c.args.d ≤ c.exception_day-day.result) × (c.exception_day-day.result < c.args.e)
-within c = (omega (arith, c.requires.3.above c.loop-j.j c.loop-j.invariant.0 (omega arith), c.exception_day-day.ensures.0), omega (arith, c.if-e-day.false))
+within : (c : goal.After-row_known-1) → (c.args.d ≤ c.day-day.result) × (c.day-day.result < c.args.e)
+within c = (omega (arith, c.requires.2.above c.loop-j.j c.loop-j.invariant.0 (omega arith), c.day-day.ensures.0), omega (arith, c.if-e-day.false))
 
 -- what day x has by its weekday
 abbrev regularOf : List ℕ → ℕ → ℕ
@@ -83,32 +83,32 @@ regularOf ss x = get_or ss (weekday x + 1) 0 - get_or ss (weekday x) 0
 -- one record more: its day's minutes by the weekday are taken out with the first of its records
 stepped : (c : goal.After-row_known-1) →
     let a = c.args in
-    let x = c.exception_day-day.result in
+    let x = c.day-day.result in
     (week : List (List Period)) → Sums week c.sums_of-sums.result
-    → days_work (hours_on week a.sheet.now a.at (c.loop-j.j + 1)) a.d (a.e - a.d) + regularOf c.sums_of-sums.result x ≡ c.loop-j.sum + c.exception_work.result + c.if-next-day.out
+    → days_work (hours_on week a.calendar.now.exceptions.sheet.now a.calendar.now.exceptions.at (c.loop-j.j + 1)) a.d (a.e - a.d) + regularOf c.sums_of-sums.result x ≡ c.loop-j.sum + c.work.result + c.if-next-day.out
 stepped c week sums =
     let a = c.args in
     let i = c.loop-j.invariant in
     let j = c.loop-j.j in
-    let day = c.exception_day-day in
+    let day = c.day-day in
     let x = day.result in
     let r = within c in
-    let is : exception_day a.sheet.now a.at j ≡ x = sym day.ensures.0 in
+    let is : exception_day a.calendar.now.exceptions.sheet.now a.calendar.now.exceptions.at j ≡ x = sym day.ensures.0 in
     let k : x < a.d + (a.e - a.d) = omega (arith, r) in
     elim c.if-next-day.branch [
       | then-next-day w ↦
-          let none = none_first week a.sheet.now a.at x j (λ y h z. omega (arith, i.5 y h, w.if-next-day.true)) in
+          let none = none_first week a.calendar.now.exceptions.sheet.now a.calendar.now.exceptions.at x j (λ y h z. omega (arith, i.5 y h, w.if-next-day.true)) in
           let rise = c.sums_of-sums.ensures.rising.0 (weekday x) (weekday x + 1) (omega arith) (omega arith) in
           omega (
             arith,
             i.4 week sums,
-            first_own week a.sheet.now a.at j x is _ c.exception_work.ensures.0 a.d (a.e - a.d) r.0 k sums none (regularOf c.sums_of-sums.result x) (omega (arith, rise)),
+            first_own week a.calendar.now.exceptions.sheet.now a.calendar.now.exceptions.at j x is _ c.work.ensures.0 a.d (a.e - a.d) r.0 k sums none (regularOf c.sums_of-sums.result x) (omega (arith, rise)),
             w.out-is,
           )
       | else-next-day w ↦
           let some = ⊎_elim (λ v. absurd (omega (arith, v, r, w.if-next-day.false)))
-          (λ v. some_own week a.sheet.now a.at j x v.0 (omega (arith, v, w.if-next-day.false, is, c.requires.0.sorted (j - 1) j (omega arith) (omega arith)))) i.6 in
-          omega (arith, w.out-is, i.4 week sums, further_own week a.sheet.now a.at j x is _ c.exception_work.ensures.0 a.d (a.e - a.d) r.0 k some)
+          (λ v. some_own week a.calendar.now.exceptions.sheet.now a.calendar.now.exceptions.at j x v.0 (omega (arith, v, w.if-next-day.false, is, c.args.calendar.now.valid.sorted (j - 1) j (omega arith) (omega arith)))) i.6 in
+          omega (arith, w.out-is, i.4 week sums, further_own week a.calendar.now.exceptions.sheet.now a.calendar.now.exceptions.at j x is _ c.work.ensures.0 a.d (a.e - a.d) r.0 k some)
     ]
 
 -- the sum stays small
@@ -119,32 +119,32 @@ pub overflow_add-sum : goal.overflow_add-sum
 overflow_add-sum c =
     let p = c.requires in
     let i = c.loop-j.invariant in
-    omega (arith, small _ _ _ _ _ _ _ _ _ p.0 p.1 p.2 i.1 (i.4 c.args.week c.sums_of-sums.ensures) c.exception_work.ensures.1)
+    omega (arith, small _ _ _ _ _ _ _ _ _ c.args.calendar.now.valid p.0 p.1 i.1 (i.4 c.args.calendar.now.week c.sums_of-sums.ensures) c.work.ensures.1)
 
 pub overflow_add-sum-in-loop-j : goal.overflow_add-sum-in-loop-j
 overflow_add-sum-in-loop-j c =
     let p = c.requires in
     let i = c.loop-j.invariant in
-    let x = c.exception_day-day.result in
+    let x = c.day-day.result in
     let u = c.sums_of-sums.ensures.rising in
-    let f = small _ _ _ _ _ _ _ _ _ p.0 p.1 p.2 i.1 (i.4 c.args.week c.sums_of-sums.ensures) c.exception_work.ensures.1 in
+    let f = small _ _ _ _ _ _ _ _ _ c.args.calendar.now.valid p.0 p.1 i.1 (i.4 c.args.calendar.now.week c.sums_of-sums.ensures) c.work.ensures.1 in
     elim c.if-next-day.branch [
       | then-next-day w ↦ omega (arith, w.out-is, f)
       | else-next-day w ↦ omega (arith, w.out-is, f, u.0 (weekday x + 1) 7 (omega arith) (omega arith), u.1)
     ]
 
 pub overflow_sub-sum : goal.overflow_sub-sum
-overflow_sub-sum c = omega (arith, stepped c c.args.week c.sums_of-sums.ensures)
+overflow_sub-sum c = omega (arith, stepped c c.args.calendar.now.week c.sums_of-sums.ensures)
 
 pub overflow_add-next : goal.overflow_add-next
-overflow_add-next c = omega (arith, c.exception_day-day.ensures.1)
+overflow_add-next c = omega (arith, c.day-day.ensures.1)
 
 pub loop-j-preserved : goal.loop-j-preserved
 loop-j-preserved c =
     let i = c.loop-j.invariant in
     let r = within c in
-    let day = c.exception_day-day.ensures.0 in
-    let sorted = c.requires.0.sorted in
+    let day = c.day-day.ensures.0 in
+    let sorted = c.args.calendar.now.valid.sorted in
     let same : c.loop-j.j + 1 - 1 ≡ c.loop-j.j = omega arith in (
       omega (arith, i.0),
       omega arith,
@@ -152,12 +152,12 @@ loop-j-preserved c =
       omega (arith, r),
       λ week sums. omega (arith, stepped c week sums),
       below_more _ c.loop-j.j (λ y h. omega (arith, day, sorted y c.loop-j.j (omega arith) (omega arith))) (omega (arith, day)),
-      inr (omega arith, omega (arith, day, ap (exception_day c.args.sheet.now c.args.at) same)),
+      inr (omega arith, omega (arith, day, ap (exception_day c.args.calendar.now.exceptions.sheet.now c.args.calendar.now.exceptions.at) same)),
     )
 
 pub returns : goal.returns
 returns c =
     let p = c.requires in
     let i = c.loop-j.invariant in
-    let e : c.loop-j.j ≡ c.args.n = omega (arith, i.1, c.loop-j-test.false) in
-    rw e at (ended _ _ _ _ _ _ _ _ _ p.0 p.1 p.2 i.1 i.3 i.5 (λ k h l. absurd (omega arith)) (i.4 c.args.week c.sums_of-sums.ensures))
+    let e : c.loop-j.j ≡ c.args.calendar.now.exceptions.n = omega (arith, i.1, c.loop-j-test.false) in
+    rw e at (ended _ _ _ _ _ _ _ _ _ c.args.calendar.now.valid p.0 p.1 i.1 i.3 i.5 (λ k h l. absurd (omega arith)) (i.4 c.args.calendar.now.week c.sums_of-sums.ensures))

@@ -4,27 +4,24 @@ use mathlib.Core.Path.{◌≡◌, refl, sym, ◌∙◌}
 use Prim.Native.Nat.{◌≤◌, ◌<◌, ◌+◌, ◌*◌}
 use native.Mathlib.Omega.{arith}
 use Rattle.calendar.specs.Hours.{worked}
-use Rattle.calendar.specs.Records.{hours_on}
+use Rattle.calendar.specs.Value.{hours_of}
 use Rattle.date.specs.Years.{years_before}
 use Rattle.worktime.specs.Worked.{count}
 use Rattle.worktime.specs.Count.{count_mono}
 use Rattle.worktime.specs.Walks.{end_minute}
 use Rattle.worktime.proofs.Answers.{next_start_out, next_start_at, next_start_none}
-use Rattle.clock.specs.On.{worked_on}
+use Rattle.clock.specs.On.{worked_by}
 use Rattle.clock.specs.Days.{day_next_at, day_next_none, hand_next, count_time, count_next_day}
 use Rattle.clock.proofs.next_start.Goals as goal
 
 pub returns-then-first-lt-FIRST_DAY : goal.returns-then-first-lt-FIRST_DAY
 returns-then-first-lt-FIRST_DAY c = sym (next_start_out _ _ (years_before _ (omega arith)))
 
-pub first_from-from-requires : goal.first_from-from-requires
-first_from-from-requires c = let v = c.requires in (v.long, v.sorted)
-
 pub loop-d-init : goal.loop-d-init
 loop-d-init c = let a = c.args in (omega arith, omega arith, omega arith, count_time _ a.t, c.first_from-from.ensures)
 
 pub hours_from-hours-requires : goal.hours_from-hours-requires
-hours_from-hours-requires c = let v = c.requires in ((v.long, v.sorted), c.loop-d.invariant.4)
+hours_from-hours-requires c = c.loop-d.invariant.4
 
 pub day_next-requires : goal.day_next-requires
 day_next-requires c = c.hours_from-hours.ensures.0.within
@@ -32,17 +29,17 @@ day_next-requires c = c.hours_from-hours.ensures.0.within
 -- what the day's answer says of the calendar
 found : (c : goal.In-Some) →
     let a = c.args in
-    let w = worked_on a.week a.sheet.now a.at a.n in
+    let w = worked_by a.calendar.now in
     let d = c.loop-d.d in
     let x = c.in-Some.x in
     (c.loop-d.m ≤ x) × (x < 1440) × (w (d * 1440 + x) ≡ true) × (count w (d * 1440 + x) ≡ count w (d * 1440 + c.loop-d.m))
 found c =
     let a = c.args in
-    let h = hours_on a.week a.sheet.now a.at a.n in
+    let h = hours_of a.calendar.now in
     let d = c.loop-d.d in
-    let o = c.requires.ordered d in
+    let o = c.args.calendar.now.valid.ordered d in
     day_next_at h d o c.loop-d.m _
-    (hand_next h d o _ (c.hours_from-hours.ensures.0.is a.week refl) c.loop-d.m _ _ c.day_next.ensures c.in-Some.is)
+    (hand_next h d o _ (c.hours_from-hours.ensures.0.is a.calendar.now.week refl) c.loop-d.m _ _ c.day_next.ensures c.in-Some.is)
 
 pub overflow_add-result : goal.overflow_add-result
 overflow_add-result c = omega (arith, (found c).1)
@@ -56,17 +53,17 @@ overflow_add-from c = omega (arith, c.hours_from-hours.ensures.1.within)
 pub loop-d-preserved : goal.loop-d-preserved
 loop-d-preserved c =
     let a = c.args in
-    let h = hours_on a.week a.sheet.now a.at a.n in
+    let h = hours_of a.calendar.now in
     let d = c.loop-d.d in
-    let o = c.requires.ordered d in
+    let o = c.args.calendar.now.valid.ordered d in
     let f = c.hours_from-hours.ensures in
     let none =
     day_next_none h d o c.loop-d.m (omega arith)
-    (hand_next h d o _ (f.0.is a.week refl) c.loop-d.m _ _ c.day_next.ensures c.in-None.is) in
+    (hand_next h d o _ (f.0.is a.calendar.now.week refl) c.loop-d.m _ _ c.day_next.ensures c.in-None.is) in
     (omega arith, omega arith, omega arith, sym (count_next_day (worked h) d) ∙ none ∙ c.loop-d.invariant.3, f.1)
 
 pub returns : goal.returns
 returns c =
     let a = c.args in
-    let w = worked_on a.week a.sheet.now a.at a.n in
+    let w = worked_by a.calendar.now in
     sym (next_start_none w a.t (omega (arith, count_mono w {s = end_minute} {t = c.loop-d.d * 1440 + c.loop-d.m} (omega arith))))

@@ -1,14 +1,14 @@
 -- `clock::previous_finish` meets its contract. The loop has passed no worked minute: as many stand before its day and minute as before `t`.
 use mathlib.Core.Path.{◌≡◌}
 use Prim.Native.Nat.{◌≤◌, ◌<◌, ◌+◌, ◌*◌}
-use Rattle.calendar.specs.Records.{FirstFrom}
+use Rattle.calendar.specs.Exceptions.{FirstOf}
 use Rattle.date.specs.Years.{end_day}
 use Rattle.worktime.specs.Worked.{count}
 use Rattle.worktime.specs.Walks.{end_minute}
-use Rattle.clock.specs.On.{worked_on}
+use Rattle.clock.specs.On.{worked_by}
 use Rattle.clock.proofs.previous_finish.Given as goal
 
 abbrev pub invariant-loop-d : goal.invariant-loop-d
 invariant-loop-d l =
-    (l.d < end_day) × (l.t < end_minute) × (l.m ≤ 1440) × (count (worked_on l.week l.sheet l.at l.n) (l.d * 1440 + l.m) ≡ count (worked_on l.week l.sheet l.at l.n) l.t)
-    × FirstFrom l.sheet l.at l.n (l.d + 1) l.to
+    (l.d < end_day) × (l.t < end_minute) × (l.m ≤ 1440) × (count (worked_by l.calendar) (l.d * 1440 + l.m) ≡ count (worked_by l.calendar) l.t)
+    × FirstOf l.calendar.exceptions (l.d + 1) l.to

@@ -16,40 +16,40 @@ use Rattle.clock.proofs.records.ahead.Goals as goal
 use Rattle.clock.proofs.records.ahead.Goals.{then-next-day, else-next-day}
 
 pub overflow_mul-over : goal.overflow_mul-over
-overflow_mul-over c = let f = sum_small c.args.sums c.requires.0 c.args.d 0 c.requires.4 (omega arith) in omega (arith, f)
+overflow_mul-over c = let f = sum_small c.args.sums c.requires.0 c.args.d 0 c.requires.3 (omega arith) in omega (arith, f)
 
 pub overflow_add-over-3 : goal.overflow_add-over-3
-overflow_add-over-3 c = let f = sum_small c.args.sums c.requires.0 c.args.d (weekday c.args.d) c.requires.4 (omega arith) in omega (arith, f)
+overflow_add-over-3 c = let f = sum_small c.args.sums c.requires.0 c.args.d (weekday c.args.d) c.requires.3 (omega arith) in omega (arith, f)
 
 pub loop-j-init : goal.loop-j-init
 loop-j-init c =
     let a = c.args in
     let p = c.requires in (
-      p.3.within,
-      p.5,
-      (sum_small a.sums p.0 a.d (weekday a.d) p.4 (omega arith)).1,
+      p.2.within,
+      p.4,
+      (sum_small a.sums p.0 a.d (weekday a.d) p.3 (omega arith)).1,
       sym (regular_is a.sums a.d),
-      λ i l m. omega (arith, p.3.above i l m),
+      λ i l m. omega (arith, p.2.above i l m),
       λ week valid sums.
-          let e : count (worked_on week a.sheet.now a.at a.n) (a.d * 1440) + 0 ≡ count (worked_on week a.sheet.now a.at a.n) (a.d * 1440) = omega arith in
-          rw e (rw (regular_is a.sums a.d) at (ahead_day valid sums p.3)),
+          let e : count (worked_on week a.exceptions.now.sheet.now a.exceptions.now.at a.exceptions.now.n) (a.d * 1440) + 0 ≡ count (worked_on week a.exceptions.now.sheet.now a.exceptions.now.at a.exceptions.now.n) (a.d * 1440) = omega arith in
+          rw e (rw (regular_is a.sums a.d) at (ahead_day valid sums p.2)),
     )
 
-pub exception_day-day-requires : goal.exception_day-day-requires
-exception_day-day-requires c = omega (arith, c.requires.2.0)
+pub day-day-requires : goal.day-day-requires
+day-day-requires c = omega (arith, c.args.exceptions.now.listed.0)
 
 pub overflow_mul-before : goal.overflow_mul-before
 overflow_mul-before c =
-    let x = c.exception_day-day in
+    let x = c.day-day in
     let f = sum_small c.args.sums c.requires.0 x.result 0 x.ensures.1 (omega arith) in omega (arith, f)
 
 pub overflow_add-before-in-loop-j : goal.overflow_add-before-in-loop-j
 overflow_add-before-in-loop-j c =
-    let x = c.exception_day-day in
+    let x = c.day-day in
     let f = sum_small c.args.sums c.requires.0 x.result (weekday x.result) x.ensures.1 (omega arith) in omega (arith, f)
 
 pub overflow_sub-regular : goal.overflow_sub-regular
-overflow_sub-regular c = let k = weekday c.exception_day-day.result in c.requires.0.0 k (k + 1) (omega arith) (omega arith)
+overflow_sub-regular c = let k = weekday c.day-day.result in c.requires.0.0 k (k + 1) (omega arith) (omega arith)
 
 -- what the days up to day x have by their weekdays
 started : (ss : List ℕ) (over next x out : ℕ) → Rising ss → get_or ss 0 0 ≡ 0 → x < 4294967296 → next ≤ x + 1 → over ≡ regular ss next
@@ -66,53 +66,53 @@ started ss over next x out up z l m from way =
 
 pub overflow_add-start : goal.overflow_add-start
 overflow_add-start c =
-    let x = c.exception_day-day in
-    let f = sum_small c.args.sums c.requires.0 x.result (weekday x.result) x.ensures.1 (omega arith) in omega (arith, f, c.loop-j.invariant.1, c.requires.6)
+    let x = c.day-day in
+    let f = sum_small c.args.sums c.requires.0 x.result (weekday x.result) x.ensures.1 (omega arith) in omega (arith, f, c.loop-j.invariant.1, c.requires.5)
 
 pub overflow_add-start-in-loop-j : goal.overflow_add-start-in-loop-j
 overflow_add-start-in-loop-j c =
-    let day = c.exception_day-day in
+    let day = c.day-day in
     let f =
     started c.args.sums c.loop-j.over c.loop-j.next day.result c.if-next-day.out c.requires.0 c.requires.1 day.ensures.1
     (omega (arith, day.ensures.0, c.loop-j.invariant.4 c.loop-j.j (omega arith) (omega arith))) c.loop-j.invariant.3
     (elim c.if-next-day.branch [ then-next-day w ↦ inl (w.if-next-day.true, w.out-is) | else-next-day w ↦ inr (w.if-next-day.false, w.out-is) ]) in
-    omega (arith, f.2, c.loop-j.invariant.1, c.requires.6)
+    omega (arith, f.2, c.loop-j.invariant.1, c.requires.5)
 
 pub overflow_sub-start : goal.overflow_sub-start
 overflow_sub-start c =
-    let day = c.exception_day-day in
+    let day = c.day-day in
     let f =
     started c.args.sums c.loop-j.over c.loop-j.next day.result c.if-next-day.out c.requires.0 c.requires.1 day.ensures.1
     (omega (arith, day.ensures.0, c.loop-j.invariant.4 c.loop-j.j (omega arith) (omega arith))) c.loop-j.invariant.3
     (elim c.if-next-day.branch [ then-next-day w ↦ inl (w.if-next-day.true, w.out-is) | else-next-day w ↦ inr (w.if-next-day.false, w.out-is) ]) in
     omega (arith, f.0)
 
-pub exception_work-requires : goal.exception_work-requires
-exception_work-requires c = omega (arith, c.requires.2.0)
+pub work-requires : goal.work-requires
+work-requires c = omega (arith, c.args.exceptions.now.listed.0)
 
 pub overflow_add-done : goal.overflow_add-done
 overflow_add-done c =
-    let day = c.exception_day-day in
+    let day = c.day-day in
     let f =
     started c.args.sums c.loop-j.over c.loop-j.next day.result c.if-next-day.out c.requires.0 c.requires.1 day.ensures.1
     (omega (arith, day.ensures.0, c.loop-j.invariant.4 c.loop-j.j (omega arith) (omega arith))) c.loop-j.invariant.3
     (elim c.if-next-day.branch [ then-next-day w ↦ inl (w.if-next-day.true, w.out-is) | else-next-day w ↦ inr (w.if-next-day.false, w.out-is) ]) in
-    omega (arith, f, c.loop-j.invariant.1, c.requires.6, c.exception_work.ensures.1)
+    omega (arith, f, c.loop-j.invariant.1, c.requires.5, c.work.ensures.1)
 
 pub returns-then-work-done : goal.returns-then-work-done
 returns-then-work-done c =
     let i = c.loop-j.invariant in
-    let day = c.exception_day-day in
+    let day = c.day-day in
     let f =
     started c.args.sums c.loop-j.over c.loop-j.next day.result c.if-next-day.out c.requires.0 c.requires.1 day.ensures.1
     (omega (arith, day.ensures.0, c.loop-j.invariant.4 c.loop-j.j (omega arith) (omega arith))) c.loop-j.invariant.3
     (elim c.if-next-day.branch [ then-next-day w ↦ inl (w.if-next-day.true, w.out-is) | else-next-day w ↦ inr (w.if-next-day.false, w.out-is) ]) in
     let own = ap (regular c.args.sums) day.ensures.0 in
-    (i.5, i.1, λ _. (omega (arith, f.0, f.1, own), omega (arith, c.if-work-done.true, c.exception_work.ensures.0)), i.2)
+    (i.5, i.1, λ _. (omega (arith, f.0, f.1, own), omega (arith, c.if-work-done.true, c.work.ensures.0)), i.2)
 
 pub overflow_add-over-in-loop-j : goal.overflow_add-over-in-loop-j
 overflow_add-over-in-loop-j c =
-    let x = c.exception_day-day in
+    let x = c.day-day in
     let k = weekday x.result in
     let f = sum_small c.args.sums c.requires.0 x.result (k + 1) x.ensures.1 (omega arith) in
     omega (arith, f, c.requires.0.0 k (k + 1) (omega arith) (omega arith))
@@ -122,7 +122,7 @@ loop-j-preserved c =
     let a = c.args in
     let p = c.requires in
     let i = c.loop-j.invariant in
-    let day = c.exception_day-day in
+    let day = c.day-day in
     let f =
     started c.args.sums c.loop-j.over c.loop-j.next day.result c.if-next-day.out c.requires.0 c.requires.1 day.ensures.1
     (omega (arith, day.ensures.0, c.loop-j.invariant.4 c.loop-j.j (omega arith) (omega arith))) c.loop-j.invariant.3
@@ -137,18 +137,18 @@ loop-j-preserved c =
       omega (arith, c.if-work-done.false),
       omega (arith, small, rise),
       g,
-      λ k m q. omega (arith, day.ensures.0, p.2.1 c.loop-j.j k (omega arith) q),
+      λ k m q. omega (arith, day.ensures.0, c.args.exceptions.now.listed.1 c.loop-j.j k (omega arith) q),
       λ week valid sums.
           let r = ahead_record valid sums c.loop-j.j (omega arith) in
-          let h : record_count week a.sheet.now a.at a.n c.loop-j.j + record_work a.sheet.now a.at c.loop-j.j
-          ≡ count (worked_on week a.sheet.now a.at a.n) (a.d * 1440)
-          + (c.loop-j.passed + (get_or a.sums 7 0 * ((x + 1) / 7) + get_or a.sums (weekday x) 0) + c.if-next-day.out - c.loop-j.over + c.exception_work.result) =
-          omega (arith, (i.5 week valid sums).record_next (omega arith), f.0, f.1, own, c.exception_work.ensures.0) in
+          let h : record_count week a.exceptions.now.sheet.now a.exceptions.now.at a.exceptions.now.n c.loop-j.j + record_work a.exceptions.now.sheet.now a.exceptions.now.at c.loop-j.j
+          ≡ count (worked_on week a.exceptions.now.sheet.now a.exceptions.now.at a.exceptions.now.n) (a.d * 1440)
+          + (c.loop-j.passed + (get_or a.sums 7 0 * ((x + 1) / 7) + get_or a.sums (weekday x) 0) + c.if-next-day.out - c.loop-j.over + c.work.result) =
+          omega (arith, (i.5 week valid sums).record_next (omega arith), f.0, f.1, own, c.work.ensures.0) in
           rw (h, ap (λ y. regular a.sums (y + 1)) (sym day.ensures.0) ∙ sym g) at r,
     )
 
 pub returns : goal.returns
 returns c =
     let i = c.loop-j.invariant in
-    let e : c.loop-j.j ≡ c.args.n = omega (arith, i.0, c.loop-j-test.false) in
+    let e : c.loop-j.j ≡ c.args.exceptions.now.n = omega (arith, i.0, c.loop-j-test.false) in
     (rw e at i.5, i.1, λ h. absurd (omega arith), i.2)
