@@ -6,4 +6,4 @@ use Rattle.calendar.specs.Records.{hours_on}
 
 -- the hours of day d
 abbrev pub hours_of : Calendar → ℕ → List Period
-hours_of c = hours_on c.week c.exceptions.sheet.now c.exceptions.at c.exceptions.n
+hours_of c = hours_on c.week.now c.exceptions.sheet.now c.exceptions.at c.exceptions.n

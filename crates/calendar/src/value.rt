@@ -8,7 +8,7 @@ use super::exceptions::Exceptions;
 // A week of seven rows of eight periods, and the E records of days that have hours of their own; every day's hours are in order.
 #[derive(Clone, Copy)]
 pub struct Calendar<'a> {
-    pub week: [[Period; 8]; 7],
+    pub week: &'a [[Period; 8]; 7],
     pub exceptions: Exceptions<'a>,
-    ghost valid: { Valid week exceptions.sheet.now exceptions.at exceptions.n } by { Prim.hlevel props },
+    ghost valid: { Valid week.now exceptions.sheet.now exceptions.at exceptions.n } by { Prim.hlevel props },
 }

@@ -10,4 +10,4 @@ worked_on week s at n = worked (hours_on week s at n)
 
 -- the same of a calendar in hand
 abbrev pub worked_by : Calendar → ℕ → Bool
-worked_by c = worked_on c.week c.exceptions.sheet.now c.exceptions.at c.exceptions.n
+worked_by c = worked_on c.week.now c.exceptions.sheet.now c.exceptions.at c.exceptions.n

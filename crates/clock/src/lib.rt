@@ -141,7 +141,7 @@ fn advance_from(calendar: &Calendar, d: u64, from: usize, work: u64) -> Result<u
     requires { FirstOf calendar.now.exceptions d from × (first_day ≤ d) × (d < end_day) × (0 < work) × (work < 2 ^ 47) }
     ensures { result ≡ advance (worked_by calendar.now) (d * 1440) work }
 {
-    let sums = weeks::sums_of(calendar.week);
+    let sums = weeks::sums_of(*calendar.week);
     let stand = records::ahead(sums, &calendar.exceptions, d, from, work);
     let j = stand.at;
     if j < calendar.exceptions.n {
@@ -197,7 +197,7 @@ fn retreat_from(calendar: &Calendar, d: u64, from: usize, work: u64) -> Result<u
     requires { FirstOf calendar.now.exceptions d from × (first_day ≤ d) × (d < end_day) × (0 < work) × (work < 2 ^ 47) }
     ensures { result ≡ retreat (worked_by calendar.now) (d * 1440) work }
 {
-    let sums = weeks::sums_of(calendar.week);
+    let sums = weeks::sums_of(*calendar.week);
     let stand = records::back(sums, &calendar.exceptions, d, from, work);
     let j = stand.at;
     if 0 < j {
@@ -311,7 +311,7 @@ fn days_work(calendar: &Calendar, d: u64, e: u64, from: usize) -> Days
     requires { (d ≤ e) × (e < 4294967296) × FirstOf calendar.now.exceptions d from }
     ensures { (count (worked_by calendar.now) (d * 1440) + result.minutes ≡ count (worked_by calendar.now) (e * 1440)) × (result.minutes ≤ 6184752906240) × FirstOf calendar.now.exceptions e result.to }
 {
-    let sums = weeks::sums_of(calendar.week);
+    let sums = weeks::sums_of(*calendar.week);
     let mut sum = weeks::regular_work(sums, d, e);
     let mut next = d;
     for j in from..calendar.exceptions.n {

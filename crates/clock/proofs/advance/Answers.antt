@@ -37,7 +37,7 @@ returns c =
     let a = s.args in
     let h = hours_of a.calendar.now in
     let d = a.t / 1440 in
-    let p = c.hours_from-hours.ensures.0.is a.calendar.now.week refl in
+    let p = c.hours_from-hours.ensures.0.is a.calendar.now.week.now refl in
     let q = hand_time h a.t (s.args.calendar.now.valid.ordered d) _ p _ c.day_rank-done.ensures.0 in
     c.advance_from.ensures
     ∙ sym (advance_same (worked_by a.calendar.now) {u = d * 1440} (omega arith) (omega arith) (omega arith) (omega arith) (omega (arith, q)))

@@ -36,7 +36,7 @@ returns-then-day-gt-LAST_DAY c =
     let a = c.args in
     let w = worked_by a.calendar.now in
     let day = exception_day a.calendar.now.exceptions.sheet.now a.calendar.now.exceptions.at c.ahead-stand.result.at in
-    let stand = c.ahead-stand.ensures.0 a.calendar.now.week c.args.calendar.now.valid c.sums_of-sums.ensures in
+    let stand = c.ahead-stand.ensures.0 a.calendar.now.week.now c.args.calendar.now.valid c.sums_of-sums.ensures in
     sym
     (advance_none w (a.d * 1440) a.work (omega arith)
     (omega (arith, stand.record_next (omega arith), (c.ahead-stand.ensures.2 (omega arith)).0, c.day-day.ensures.0, count_mono w {s = end_minute} {t = day * 1440} (omega (arith, c.day-day.ensures.0)))))
@@ -51,7 +51,7 @@ returns-then-stand-work c =
     let m = record_minute c.args.calendar.now.valid j x (omega arith) (omega arith) (omega (arith, f.1)) in
     let day = c.day-day.ensures.0 in
     let from = ap (λ q. q.from) c.period-period.ensures in
-    let stand = c.ahead-stand.ensures.0 a.calendar.now.week c.args.calendar.now.valid c.sums_of-sums.ensures in
+    let stand = c.ahead-stand.ensures.0 a.calendar.now.week.now c.args.calendar.now.valid c.sums_of-sums.ensures in
     ap Ok (omega (arith, day, from))
     ∙ sym (advance_at w (omega arith) (omega (arith, c.requires.1)) (omega (arith, m.high, day)) m.closes (omega (arith, m.full, stand.record_next (omega arith), f.0)))
 
@@ -63,7 +63,7 @@ returns-then-sums-eq0 c =
     let ss = c.sums_of-sums.result in
     let zero : (x : ℕ) → regular ss x ≡ 0 =
     λ x. ⊎_elim (λ z. z) (λ l. absurd (omega (arith, c.if-sums-eq0.true, regular_some ss c.sums_of-sums.ensures.rising x l))) (zero_or_pos (regular ss x)) in
-    let stand = c.ahead-stand.ensures.0 a.calendar.now.week c.args.calendar.now.valid c.sums_of-sums.ensures in
+    let stand = c.ahead-stand.ensures.0 a.calendar.now.week.now c.args.calendar.now.valid c.sums_of-sums.ensures in
     let before : r.at < a.calendar.now.exceptions.n → a.work ≤ r.start =
     λ l. elim c.if-j-calendar.branch [ then-j-calendar+else-stand-work w ↦ omega (arith, w.if-stand-work.false) | else-j-calendar w ↦ absurd (omega (arith, w.if-j-calendar.false)) ] in
     let last : r.at < a.calendar.now.exceptions.n → ⊥ = λ l. omega (arith, before l, (c.ahead-stand.ensures.2 l).0, c.ahead-stand.ensures.1, zero (exception_day a.calendar.now.exceptions.sheet.now a.calendar.now.exceptions.at r.at)) in
@@ -88,7 +88,7 @@ returns-then-next c =
     λ l. elim c.if-j-calendar.branch [ then-j-calendar+else-stand-work w ↦ omega (arith, w.if-stand-work.false) | else-j-calendar w ↦ absurd (omega (arith, w.if-j-calendar.false)) ] in
     let f = c.day_after-next.ensures in
     let o =
-    on-weekday c.sums_of-sums.ensures r.at _ r.passed r.over r.start a.work c.day_after-next.result (c.ahead-stand.ensures.0 a.calendar.now.week c.args.calendar.now.valid c.sums_of-sums.ensures) c.ahead-stand.ensures.1
+    on-weekday c.sums_of-sums.ensures r.at _ r.passed r.over r.start a.work c.day_after-next.result (c.ahead-stand.ensures.0 a.calendar.now.week.now c.args.calendar.now.valid c.sums_of-sums.ensures) c.ahead-stand.ensures.1
     (λ l. (c.ahead-stand.ensures.2 l).0) before f.0 f.1 in
     sym
     (advance_none w (a.d * 1440) a.work (omega arith)
@@ -102,7 +102,7 @@ overflow_sub-result-2 c =
     λ l. elim c.if-j-calendar.branch [ then-j-calendar+else-stand-work w ↦ omega (arith, w.if-stand-work.false) | else-j-calendar w ↦ absurd (omega (arith, w.if-j-calendar.false)) ] in
     let f = c.day_after-next.ensures in
     let o =
-    on-weekday c.sums_of-sums.ensures r.at _ r.passed r.over r.start a.work c.day_after-next.result (c.ahead-stand.ensures.0 a.calendar.now.week c.args.calendar.now.valid c.sums_of-sums.ensures) c.ahead-stand.ensures.1
+    on-weekday c.sums_of-sums.ensures r.at _ r.passed r.over r.start a.work c.day_after-next.result (c.ahead-stand.ensures.0 a.calendar.now.week.now c.args.calendar.now.valid c.sums_of-sums.ensures) c.ahead-stand.ensures.1
     (λ l. (c.ahead-stand.ensures.2 l).0) before f.0 f.1 in
     o.low
 
@@ -122,8 +122,8 @@ returns c =
     λ l. elim c.if-j-calendar.branch [ then-j-calendar+else-stand-work w ↦ omega (arith, w.if-stand-work.false) | else-j-calendar w ↦ absurd (omega (arith, w.if-j-calendar.false)) ] in
     let f = c.day_after-next.ensures in
     let o =
-    on-weekday c.sums_of-sums.ensures r.at _ r.passed r.over r.start a.work c.day_after-next.result (c.ahead-stand.ensures.0 a.calendar.now.week c.args.calendar.now.valid c.sums_of-sums.ensures) c.ahead-stand.ensures.1
+    on-weekday c.sums_of-sums.ensures r.at _ r.passed r.over r.start a.work c.day_after-next.result (c.ahead-stand.ensures.0 a.calendar.now.week.now c.args.calendar.now.valid c.sums_of-sums.ensures) c.ahead-stand.ensures.1
     (λ l. (c.ahead-stand.ensures.2 l).0) before f.0 f.1 in
-    let m = hand_select (hours_of a.calendar.now) (x - 1) (c.args.calendar.now.valid.ordered (x - 1)) (get_or a.calendar.now.week (x % 7) []) (sym o.hours) _ _ (omega arith)
+    let m = hand_select (hours_of a.calendar.now) (x - 1) (c.args.calendar.now.valid.ordered (x - 1)) (get_or a.calendar.now.week.now (x % 7) []) (sym o.hours) _ _ (omega arith)
     (omega (arith, f.0, f.1, c.sums_of-sums.ensures.each (x % 7) (omega arith))) c.row_select.ensures.0 in
     sym (advance_at w (omega arith) (omega (arith, c.requires.1)) (omega (arith, m.high)) m.closes (omega (arith, m.full, o.counted, f.0, c.ahead-stand.ensures.1)))

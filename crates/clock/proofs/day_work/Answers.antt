@@ -27,6 +27,6 @@ returns c =
     let s = c.before.before.before.before.before.before in
     let a = s.args in
     let h = hours_of a.calendar.now in
-    let r = hand_rank h a.d (s.args.calendar.now.valid.ordered a.d) _ (c.hours_on-hours.ensures.is a.calendar.now.week refl) 1440 _ (omega arith) c.day_rank.ensures.0 in
+    let r = hand_rank h a.d (s.args.calendar.now.valid.ordered a.d) _ (c.hours_on-hours.ensures.is a.calendar.now.week.now refl) 1440 _ (omega arith) c.day_rank.ensures.0 in
     ap Ok (to_z_pos w64 {n = c.day_rank.result} (omega (arith, c.day_rank.ensures.1)))
     ∙ sym (day_work_at (worked h) a.d _ (years_within _ (omega arith) (omega arith)) (omega (arith, r)))

@@ -64,7 +64,7 @@ pub returns-then-e-day : goal.returns-then-e-day
 returns-then-e-day c =
     let p = c.requires in
     let i = c.loop-j.invariant in
-    ended _ _ _ _ _ _ _ _ _ c.args.calendar.now.valid p.0 p.1 i.1 i.3 i.5 (λ k h l. omega (arith, c.if-e-day.true, c.day-day.ensures.0, c.args.calendar.now.valid.sorted c.loop-j.j k h l)) (i.4 c.args.calendar.now.week c.sums_of-sums.ensures)
+    ended _ _ _ _ _ _ _ _ _ c.args.calendar.now.valid p.0 p.1 i.1 i.3 i.5 (λ k h l. omega (arith, c.if-e-day.true, c.day-day.ensures.0, c.args.calendar.now.valid.sorted c.loop-j.j k h l)) (i.4 c.args.calendar.now.week.now c.sums_of-sums.ensures)
 
 pub overflow_sub-regular : goal.overflow_sub-regular
 overflow_sub-regular c = let k = weekday c.day-day.result in c.sums_of-sums.ensures.rising.0 k (k + 1) (omega arith) (omega arith)
@@ -119,7 +119,7 @@ pub overflow_add-sum : goal.overflow_add-sum
 overflow_add-sum c =
     let p = c.requires in
     let i = c.loop-j.invariant in
-    omega (arith, small _ _ _ _ _ _ _ _ _ c.args.calendar.now.valid p.0 p.1 i.1 (i.4 c.args.calendar.now.week c.sums_of-sums.ensures) c.work.ensures.1)
+    omega (arith, small _ _ _ _ _ _ _ _ _ c.args.calendar.now.valid p.0 p.1 i.1 (i.4 c.args.calendar.now.week.now c.sums_of-sums.ensures) c.work.ensures.1)
 
 pub overflow_add-sum-in-loop-j : goal.overflow_add-sum-in-loop-j
 overflow_add-sum-in-loop-j c =
@@ -127,14 +127,14 @@ overflow_add-sum-in-loop-j c =
     let i = c.loop-j.invariant in
     let x = c.day-day.result in
     let u = c.sums_of-sums.ensures.rising in
-    let f = small _ _ _ _ _ _ _ _ _ c.args.calendar.now.valid p.0 p.1 i.1 (i.4 c.args.calendar.now.week c.sums_of-sums.ensures) c.work.ensures.1 in
+    let f = small _ _ _ _ _ _ _ _ _ c.args.calendar.now.valid p.0 p.1 i.1 (i.4 c.args.calendar.now.week.now c.sums_of-sums.ensures) c.work.ensures.1 in
     elim c.if-next-day.branch [
       | then-next-day w ↦ omega (arith, w.out-is, f)
       | else-next-day w ↦ omega (arith, w.out-is, f, u.0 (weekday x + 1) 7 (omega arith) (omega arith), u.1)
     ]
 
 pub overflow_sub-sum : goal.overflow_sub-sum
-overflow_sub-sum c = omega (arith, stepped c c.args.calendar.now.week c.sums_of-sums.ensures)
+overflow_sub-sum c = omega (arith, stepped c c.args.calendar.now.week.now c.sums_of-sums.ensures)
 
 pub overflow_add-next : goal.overflow_add-next
 overflow_add-next c = omega (arith, c.day-day.ensures.1)
@@ -160,4 +160,4 @@ returns c =
     let p = c.requires in
     let i = c.loop-j.invariant in
     let e : c.loop-j.j ≡ c.args.calendar.now.exceptions.n = omega (arith, i.1, c.loop-j-test.false) in
-    rw e at (ended _ _ _ _ _ _ _ _ _ c.args.calendar.now.valid p.0 p.1 i.1 i.3 i.5 (λ k h l. absurd (omega arith)) (i.4 c.args.calendar.now.week c.sums_of-sums.ensures))
+    rw e at (ended _ _ _ _ _ _ _ _ _ c.args.calendar.now.valid p.0 p.1 i.1 i.3 i.5 (λ k h l. absurd (omega arith)) (i.4 c.args.calendar.now.week.now c.sums_of-sums.ensures))

@@ -39,7 +39,7 @@ found c =
     let d = c.loop-d.d in
     let o = c.args.calendar.now.valid.ordered d in
     day_next_at h d o c.loop-d.m _
-    (hand_next h d o _ (c.hours_from-hours.ensures.0.is a.calendar.now.week refl) c.loop-d.m _ _ c.day_next.ensures c.in-Some.is)
+    (hand_next h d o _ (c.hours_from-hours.ensures.0.is a.calendar.now.week.now refl) c.loop-d.m _ _ c.day_next.ensures c.in-Some.is)
 
 pub overflow_add-result : goal.overflow_add-result
 overflow_add-result c = omega (arith, (found c).1)
@@ -59,7 +59,7 @@ loop-d-preserved c =
     let f = c.hours_from-hours.ensures in
     let none =
     day_next_none h d o c.loop-d.m (omega arith)
-    (hand_next h d o _ (f.0.is a.calendar.now.week refl) c.loop-d.m _ _ c.day_next.ensures c.in-None.is) in
+    (hand_next h d o _ (f.0.is a.calendar.now.week.now refl) c.loop-d.m _ _ c.day_next.ensures c.in-None.is) in
     (omega arith, omega arith, omega arith, sym (count_next_day (worked h) d) ∙ none ∙ c.loop-d.invariant.3, f.1)
 
 pub returns : goal.returns

@@ -42,7 +42,7 @@ returns-then-done-gt0 c =
     let h = hours_of a.calendar.now in
     let d = c.loop-d.d in
     let o = c.args.calendar.now.valid.ordered d in
-    let p = c.hours_to-hours.ensures.0.is a.calendar.now.week refl in
+    let p = c.hours_to-hours.ensures.0.is a.calendar.now.week.now refl in
     let ps = periods_of c.hours_to-hours.result a.calendar.now.exceptions.sheet.now in
     let r = c.day_rank-done.ensures.0 in
     let f = hand_select h d o ps p _ _ c.if-done-gt0.true (omega (arith, r, rank_mono ps c.loop-d.m 1440 (omega arith))) c.day_select.ensures.0 in
@@ -60,7 +60,7 @@ loop-d-preserved c =
     let d = c.loop-d.d in
     let o = c.args.calendar.now.valid.ordered d in
     let f = c.hours_to-hours.ensures in
-    let r = hand_rank h d o _ (f.0.is a.calendar.now.week refl) c.loop-d.m _ (omega arith) c.day_rank-done.ensures.0 in
+    let r = hand_rank h d o _ (f.0.is a.calendar.now.week.now refl) c.loop-d.m _ (omega arith) c.day_rank-done.ensures.0 in
     let e : d - 1 + 1 ≡ d = omega arith in
     (omega arith, omega arith, omega arith, omega (arith, r, count_day_before (worked h) d (omega arith), c.loop-d.invariant.3), rw e f.2)
 

@@ -51,8 +51,8 @@ returns-then-work-done c =
     let ps = periods_of c.hours_from-hours.result a.calendar.now.exceptions.sheet.now in
     let q = c.day_rank-done.ensures.0 in
     let some = c.if-work-eq0.false in
-    let counted = hand_time h a.t (c.args.calendar.now.valid.ordered _) ps (c.hours_from-hours.ensures.0.is a.calendar.now.week refl) _ q in
-    let f = hand_select h d (c.args.calendar.now.valid.ordered d) ps (c.hours_from-hours.ensures.0.is a.calendar.now.week refl) _ _ (omega arith) (omega (arith, q, some, c.if-work-done.true, rank_mono ps (a.t % 1440) 1440 (omega arith))) c.day_select.ensures.0 in
+    let counted = hand_time h a.t (c.args.calendar.now.valid.ordered _) ps (c.hours_from-hours.ensures.0.is a.calendar.now.week.now refl) _ q in
+    let f = hand_select h d (c.args.calendar.now.valid.ordered d) ps (c.hours_from-hours.ensures.0.is a.calendar.now.week.now refl) _ _ (omega arith) (omega (arith, q, some, c.if-work-done.true, rank_mono ps (a.t % 1440) 1440 (omega arith))) c.day_select.ensures.0 in
     sym (retreat_at _ (omega (arith, some)) (omega (arith, f.low)) (omega arith) f.opens (omega (arith, f.less, counted, c.if-work-done.true)))
 
 pub retreat_from-requires : goal.retreat_from-requires
@@ -61,6 +61,6 @@ retreat_from-requires c = (c.first_from-from.ensures, omega arith, omega arith, 
 pub returns : goal.returns
 returns c =
     let a = c.args in
-    let counted = hand_time (hours_of a.calendar.now) a.t (c.args.calendar.now.valid.ordered _) _ (c.hours_from-hours.ensures.0.is a.calendar.now.week refl) _ c.day_rank-done.ensures.0 in
+    let counted = hand_time (hours_of a.calendar.now) a.t (c.args.calendar.now.valid.ordered _) _ (c.hours_from-hours.ensures.0.is a.calendar.now.week.now refl) _ c.day_rank-done.ensures.0 in
     c.retreat_from.ensures
     ∙ sym (retreat_same (worked_by a.calendar.now) {u = a.t / 1440 * 1440} (omega arith) (omega (arith, c.if-work-done.false)) (omega arith) (omega arith) (omega (arith, counted, c.if-work-done.false)))

@@ -21,7 +21,7 @@ returns-then-day-lt-FIRST_DAY c =
     let r = c.back-stand.result in
     let j = c.if-j-gt0.true in
     let f = c.back-stand.ensures.2 j in
-    let v = c.back-stand.ensures.0 c.args.calendar.now.week c.args.calendar.now.valid c.sums_of-sums.ensures in
+    let v = c.back-stand.ensures.0 c.args.calendar.now.week.now c.args.calendar.now.valid c.sums_of-sums.ensures in
     record_refuses c.args.calendar.now.valid c.sums_of-sums.ensures c.args.d r.at r.passed r.over c.args.work v.0 c.back-stand.ensures.1 (omega (arith, c.requires.2)) v.1 j r.start f.0 c.if-stand-work.true f.1 _ c.day-day.ensures.0 (omega (arith, c.if-day-lt-FIRST_DAY.true))
 
 pub overflow_sub-left-then-stand-work : goal.overflow_sub-left-then-stand-work
@@ -32,7 +32,7 @@ returns-then-stand-work c =
     let r = c.back-stand.result in
     let j = c.if-j-gt0.true in
     let f = c.back-stand.ensures.2 j in
-    let v = c.back-stand.ensures.0 c.args.calendar.now.week c.args.calendar.now.valid c.sums_of-sums.ensures in
+    let v = c.back-stand.ensures.0 c.args.calendar.now.week.now c.args.calendar.now.valid c.sums_of-sums.ensures in
     record_answers c.args.calendar.now.valid c.sums_of-sums.ensures c.args.d r.at r.passed r.over c.args.work v.0 c.back-stand.ensures.1 (omega (arith, c.requires.2)) v.1 j r.start f.0 c.if-stand-work.true f.1 _ c.day-day.ensures.0
     _ _ (ap (λ (p : Period). p.from) c.period-period.ensures) c.work.ensures.0 (omega (arith, c.if-day-lt-FIRST_DAY.false))
 
@@ -42,7 +42,7 @@ overflow_sub-rest c = omega (arith, c.back-stand.ensures.1)
 pub returns-then-stand-rest : goal.returns-then-stand-rest
 returns-then-stand-rest c =
     let r = c.back-stand.result in
-    let v = c.back-stand.ensures.0 c.args.calendar.now.week c.args.calendar.now.valid c.sums_of-sums.ensures in
+    let v = c.back-stand.ensures.0 c.args.calendar.now.week.now c.args.calendar.now.valid c.sums_of-sums.ensures in
     let late : 0 < r.at → c.args.work ≤ r.start =
     λ j. elim c.if-j-gt0.branch [ then-j-gt0+else-stand-work w ↦ omega (arith, w.if-stand-work.false) | else-j-gt0 w ↦ absurd (omega (arith, w.if-j-gt0.false, j)) ] in
     over_refuses c.args.calendar.now.valid c.sums_of-sums.ensures c.args.d r.at r.passed r.over c.args.work v.0 c.back-stand.ensures.1 (omega (arith, c.requires.2)) v.1 r.start (λ j. (c.back-stand.ensures.2 j).0) late c.if-stand-rest.true
@@ -50,13 +50,13 @@ returns-then-stand-rest c =
 pub day_after-next-requires : goal.day_after-next-requires
 day_after-next-requires c =
     let u = c.sums_of-sums.ensures in
-    let v = c.back-stand.ensures.0 c.args.calendar.now.week c.args.calendar.now.valid c.sums_of-sums.ensures in
+    let v = c.back-stand.ensures.0 c.args.calendar.now.week.now c.args.calendar.now.valid c.sums_of-sums.ensures in
     (u.rising, u.none, regular_some c.sums_of-sums.result u.rising v.1.next (omega (arith, v.1.is, c.if-stand-rest.false, c.back-stand.ensures.1)), omega (arith, c.back-stand.ensures.4))
 
 pub returns-then-next-le-FIRST_DAY : goal.returns-then-next-le-FIRST_DAY
 returns-then-next-le-FIRST_DAY c =
     let r = c.back-stand.result in
-    let v = c.back-stand.ensures.0 c.args.calendar.now.week c.args.calendar.now.valid c.sums_of-sums.ensures in
+    let v = c.back-stand.ensures.0 c.args.calendar.now.week.now c.args.calendar.now.valid c.sums_of-sums.ensures in
     let late : 0 < r.at → c.args.work ≤ r.start =
     λ j. elim c.if-j-gt0.branch [ then-j-gt0+else-stand-work w ↦ omega (arith, w.if-stand-work.false) | else-j-gt0 w ↦ absurd (omega (arith, w.if-j-gt0.false, j)) ] in
     let y = c.day_after-next in
@@ -71,7 +71,7 @@ row_select-requires c =
 pub returns : goal.returns
 returns c =
     let r = c.back-stand.result in
-    let v = c.back-stand.ensures.0 c.args.calendar.now.week c.args.calendar.now.valid c.sums_of-sums.ensures in
+    let v = c.back-stand.ensures.0 c.args.calendar.now.week.now c.args.calendar.now.valid c.sums_of-sums.ensures in
     let late : 0 < r.at → c.args.work ≤ r.start =
     λ j. elim c.if-j-gt0.branch [ then-j-gt0+else-stand-work w ↦ omega (arith, w.if-stand-work.false) | else-j-gt0 w ↦ absurd (omega (arith, w.if-j-gt0.false, j)) ] in
     let y = c.day_after-next in

@@ -24,12 +24,12 @@ hours_from-first-requires c = c.first_from-from.ensures
 pub day_rank-before-requires : goal.day_rank-before-requires
 day_rank-before-requires c =
     let o = c.hours_from-first.ensures.0 in
-    (o.within, hand_ordered c.args.calendar.now.valid _ _ (o.is c.args.calendar.now.week refl))
+    (o.within, hand_ordered c.args.calendar.now.valid _ _ (o.is c.args.calendar.now.week.now refl))
 
 pub day_rank-requires : goal.day_rank-requires
 day_rank-requires c =
     let o = c.hours_from-first.ensures.0 in
-    (o.within, hand_ordered c.args.calendar.now.valid _ _ (o.is c.args.calendar.now.week refl))
+    (o.within, hand_ordered c.args.calendar.now.valid _ _ (o.is c.args.calendar.now.week.now refl))
 
 -- both on one day
 one-day : (c : goal.After-day_rank) →
@@ -40,8 +40,8 @@ one-day c =
     let a = c.args in
     let h = hours_of a.calendar.now in
     let g : a.a / 1440 ≡ a.b / 1440 = omega (arith, c.if-d-e.true) in
-    let p = hand_time h a.a (c.args.calendar.now.valid.ordered (a.a / 1440)) _ (c.hours_from-first.ensures.0.is a.calendar.now.week refl) _ c.day_rank-before.ensures.0 in
-    let q = hand_time h a.b (c.args.calendar.now.valid.ordered (a.b / 1440)) _ (c.hours_from-first.ensures.0.is a.calendar.now.week refl ∙ ap h g) _ c.day_rank.ensures.0 in
+    let p = hand_time h a.a (c.args.calendar.now.valid.ordered (a.a / 1440)) _ (c.hours_from-first.ensures.0.is a.calendar.now.week.now refl) _ c.day_rank-before.ensures.0 in
+    let q = hand_time h a.b (c.args.calendar.now.valid.ordered (a.b / 1440)) _ (c.hours_from-first.ensures.0.is a.calendar.now.week.now refl ∙ ap h g) _ c.day_rank.ensures.0 in
     let e : count (worked h) (a.a / 1440 * 1440) ≡ count (worked h) (a.b / 1440 * 1440) = ap (λ k. count (worked h) (k * 1440)) g in
     (omega (arith, p, q, e), omega (arith, p, q, e, count_mono (worked h) {s = a.a} {t = a.b} c.requires.0))
 
@@ -60,7 +60,7 @@ hours_from-last-requires c = c.days_work-days.ensures.2
 pub day_rank-requires-2 : goal.day_rank-requires-2
 day_rank-requires-2 c =
     let o = c.hours_from-last.ensures.0 in
-    (o.within, hand_ordered c.args.calendar.now.valid _ _ (o.is c.args.calendar.now.week refl))
+    (o.within, hand_ordered c.args.calendar.now.valid _ _ (o.is c.args.calendar.now.week.now refl))
 
 pub overflow_add-result : goal.overflow_add-result
 overflow_add-result c = omega (arith, c.days_work-days.ensures.1, c.day_rank-2.ensures.1)
@@ -74,8 +74,8 @@ summed : (c : goal.After-struct_known-1) →
 summed c =
     let a = c.args in
     let h = hours_of a.calendar.now in
-    let p = hand_time h a.a (c.args.calendar.now.valid.ordered (a.a / 1440)) _ (c.hours_from-first.ensures.0.is a.calendar.now.week refl) _ c.day_rank-before.ensures.0 in
-    let q = hand_time h a.b (c.args.calendar.now.valid.ordered (a.b / 1440)) _ (c.hours_from-last.ensures.0.is a.calendar.now.week refl) _ c.day_rank-2.ensures.0 in
+    let p = hand_time h a.a (c.args.calendar.now.valid.ordered (a.a / 1440)) _ (c.hours_from-first.ensures.0.is a.calendar.now.week.now refl) _ c.day_rank-before.ensures.0 in
+    let q = hand_time h a.b (c.args.calendar.now.valid.ordered (a.b / 1440)) _ (c.hours_from-last.ensures.0.is a.calendar.now.week.now refl) _ c.day_rank-2.ensures.0 in
     let g = c.days_work-days.ensures.0 in
     (omega (arith, p, q, g), omega (arith, p, q, g, count_mono (worked h) {s = a.a} {t = a.b} c.requires.0))
 

@@ -28,6 +28,6 @@ returns c =
     let s = c.before.before.before.before.before.before in
     let a = s.args in
     let h = hours_of a.calendar.now in
-    let r = hand_time h a.t (s.args.calendar.now.valid.ordered (a.t / 1440)) _ (c.hours_on-hours.ensures.is a.calendar.now.week refl) _ c.day_rank.ensures.0 in
+    let r = hand_time h a.t (s.args.calendar.now.valid.ordered (a.t / 1440)) _ (c.hours_on-hours.ensures.is a.calendar.now.week.now refl) _ c.day_rank.ensures.0 in
     ap Ok (to_z_pos w64 {n = c.day_rank.result} (omega (arith, c.day_rank.ensures.1)))
     ∙ sym (worked_before_at (worked h) a.t _ (years_within _ (omega arith) (omega arith)) (omega (arith, r)))

@@ -23,7 +23,7 @@ returns-then-x-m c =
     let a = c.args in
     let h = hours_of a.calendar.now in
     let o = c.args.calendar.now.valid.ordered (a.t / 1440) in
-    let e = hand_next h (a.t / 1440) o _ (c.hours_on-hours.ensures.is a.calendar.now.week refl) (a.t % 1440) _ _ c.day_next.ensures c.in-Some.is in
+    let e = hand_next h (a.t / 1440) o _ (c.hours_on-hours.ensures.is a.calendar.now.week.now refl) (a.t % 1440) _ _ c.day_next.ensures c.in-Some.is in
     let x : c.in-Some.x ≡ a.t % 1440 = c.if-x-m.true in
     let t = day_next_here h (a.t / 1440) o (a.t % 1440) (omega arith) (e ∙ ap Some x) in
     sym (working_at_in (worked h) a.t (years_within _ (omega arith) (omega arith)) ∙ ap Ok (sym (worked_time (worked h) a.t) ∙ t))
@@ -33,7 +33,7 @@ returns-else-x-m c =
     let a = c.args in
     let h = hours_of a.calendar.now in
     let o = c.args.calendar.now.valid.ordered (a.t / 1440) in
-    let e = hand_next h (a.t / 1440) o _ (c.hours_on-hours.ensures.is a.calendar.now.week refl) (a.t % 1440) _ _ c.day_next.ensures c.in-Some.is in
+    let e = hand_next h (a.t / 1440) o _ (c.hours_on-hours.ensures.is a.calendar.now.week.now refl) (a.t % 1440) _ _ c.day_next.ensures c.in-Some.is in
     let t = day_next_later h (a.t / 1440) o (a.t % 1440) _ (omega arith) e c.if-x-m.false in
     sym (working_at_in (worked h) a.t (years_within _ (omega arith) (omega arith)) ∙ ap Ok (sym (worked_time (worked h) a.t) ∙ t))
 
@@ -42,6 +42,6 @@ returns-in-None c =
     let a = c.args in
     let h = hours_of a.calendar.now in
     let o = c.args.calendar.now.valid.ordered (a.t / 1440) in
-    let e = hand_next h (a.t / 1440) o _ (c.hours_on-hours.ensures.is a.calendar.now.week refl) (a.t % 1440) _ _ c.day_next.ensures c.in-None.is in
+    let e = hand_next h (a.t / 1440) o _ (c.hours_on-hours.ensures.is a.calendar.now.week.now refl) (a.t % 1440) _ _ c.day_next.ensures c.in-None.is in
     let t = day_next_never h (a.t / 1440) o (a.t % 1440) (omega arith) e in
     sym (working_at_in (worked h) a.t (years_within _ (omega arith) (omega arith)) ∙ ap Ok (sym (worked_time (worked h) a.t) ∙ t))
