@@ -1,18 +1,20 @@
 -- Each calendar of a sheet that was read is valid, and works the minutes that the plan says.
-use Rattle.std.specs.Prelude.{◌≡◌, List, ℕ, ◌≤◌, ◌<◌, ltb}
-use Rattle.std.proofs.Common.{⊎_elim, arith, lt-ltb, le-ltb}
+use Rattle.std.specs.Prelude.{◌≡◌, List, ℕ, ◌+◌, ◌≤◌, ◌<◌, ltb, min, get_or}
+use Rattle.std.proofs.Common.{⊎_elim, arith, lt-ltb, le-ltb, sym, ◌∙◌}
 use Rattle.number.specs.Order.{lt_or_le}
 use Rattle.worktime.specs.Reads.{on_true, on_false}
 use Rattle.calendar.specs.declared.Period.{Period}
+use Rattle.calendar.specs.declared.value.Calendar.{Calendar}
 use Rattle.calendar.specs.Hours.{worked}
 use Rattle.calendar.specs.Records.{Valid, round_the_clock}
-use Rattle.clock.specs.On.{worked_on}
+use Rattle.clock.specs.On.{worked_on, worked_by}
 use Rattle.calendar.specs.ValidLaws.{clock_valid}
 use Rattle.sheet.specs.declared.Contents.{Contents}
 use Rattle.sheet.specs.Known.{SheetRead}
 use Rattle.sheet.specs.Places.{week_at, calendar_at, exceptions_at, exception_count}
 use Rattle.order.specs.Plan.{plan_of, week_of_calendar, exception_place, exception_number, hours_of_calendar}
-use Rattle.calendars.specs.Calendars.{IsCalendar}
+use Rattle.calendars.specs.declared.plan_calendar.PlanCalendar.{PlanCalendar}
+use Rattle.calendars.specs.Calendars.{IsCalendar, InPlan, Places}
 
 module _ (s : List ℕ) (c : Contents) where
   -- a calendar that the sheet names
@@ -57,3 +59,25 @@ module _ {s : List ℕ} {c : Contents} {k : ℕ} {week : List (List Period)} {at
   pub calendar_worked : worked_on week s at n ≡ worked ((plan_of s c).hours k)
   unfolding plan_of hours_of_calendar
   calendar_worked = rw (C.week_is, C.at_is, C.n_is)
+
+-- the table has calendar k in row k, and every calendar after the sheet's in the last row
+pub in_row : {s : List ℕ} {c : Contents} {calendars : List PlanCalendar} → Places s c calendars → (k : ℕ) (d : PlanCalendar) → let row = get_or calendars (min k c.calendars) d in IsCalendar s c k row.week row.at row.n
+in_row {s} {c} {calendars} P k d =
+    ⊎_elim (λ (l : k < c.calendars). let e : min k c.calendars ≡ k = omega (arith, l) in rw e (P.row k (omega (arith, l)) d))
+    (λ (l : c.calendars ≤ k).
+    let e : min k c.calendars ≡ c.calendars = omega (arith, l) in
+    let m : c.calendars ≤ c.calendars = omega arith in
+    let row = get_or calendars c.calendars d in
+    let C : IsCalendar s c c.calendars row.week row.at row.n = P.row c.calendars (omega arith) d in
+    let f : IsCalendar s c k row.week row.at row.n =
+    record {
+      week_is = C.week_is ∙ week_last s c c.calendars m ∙ sym (week_last s c k l);
+      at_is = C.at_is ∙ place_last s c c.calendars m ∙ sym (place_last s c k l);
+      n_is = C.n_is ∙ number_last s c c.calendars m ∙ sym (number_last s c k l);
+    } in
+    rw e f) (lt_or_le k c.calendars)
+
+module _ {s : List ℕ} {c : Contents} {k : ℕ} {calendar : Calendar} (C : InPlan s c k calendar) where
+  -- the same of a calendar as the clock takes it
+  pub in_plan_worked : worked_by calendar ≡ worked ((plan_of s c).hours k)
+  in_plan_worked = rw C.sheet_is (calendar_worked C.is)

@@ -1,9 +1,10 @@
 -- The tables of the calendars as they are filled: the places, the weeks and the day lengths of those found so far.
-use Rattle.std.specs.Prelude.{◌≡◌, refl, List, ℕ, ◌+◌, ◌*◌, ◌≤◌, ◌<◌, ltb, set}
+use Rattle.std.specs.Prelude.{◌≡◌, refl, List, ℕ, ◌+◌, ◌*◌, ◌≤◌, ◌<◌, ltb, set, replicate}
 use Rattle.std.proofs.Math.Path.{sym, ap}
-use Rattle.std.proofs.Common.{◌∙◌, add-one, lt-ltb, le-ltb, get_or-set_same}
+use Rattle.std.proofs.Common.{◌∙◌, add-one, lt-ltb, le-ltb, get_or-set_same, get_or-set_other}
 use native.Mathlib.Omega.{arith}
 use borrow.Author.Count.{below_more}
+use Rattle.std.proofs.lemmas.List.{length-replicate, get_or-replicate}
 use Rattle.std.proofs.Math.ListN.{length, get_or, length-set}
 use Rattle.std.proofs.Math.Logic.{⊎_elim}
 use Rattle.number.specs.Order.{lt_or_le}
@@ -12,15 +13,15 @@ use Rattle.project.specs.Records.{day_length_at}
 use Rattle.project.specs.RecordLaws.{day_length_in}
 use Rattle.sheet.specs.declared.Contents.{Contents}
 use Rattle.calendar.specs.declared.Period.{Period}
-use Rattle.calendar.specs.Records.{week_of}
-use Rattle.calendar.specs.WeekLaws.{week_length, week_row_length}
+use Rattle.calendar.specs.Records.{week_of, round_the_clock}
 use Rattle.sheet.specs.declared.Place.{Place}
-use Rattle.sheet.specs.Known.{CalendarRead, SheetRead}
+use Rattle.sheet.specs.Known.{SheetRead}
 use Rattle.sheet.specs.Places.{weeks_at, week_count, exceptions_at, exception_count, next_calendar, place_at, calendar_at, week_at}
 use Rattle.order.specs.Plan.{plan_of, day_length_of_calendar}
-use Rattle.calendars.specs.Packed.{week_in}
-use Rattle.calendars.specs.PackedLaws.{earlier, week_held, week_same}
-use Rattle.calendars.specs.Calendars.{Located, Lengths}
+use Rattle.calendars.specs.PackedLaws.{earlier}
+use Rattle.calendars.specs.declared.plan_calendar.PlanCalendar.{PlanCalendar}
+use Rattle.calendars.specs.Calendars.{IsCalendar, Located, Places, Lengths}
+use Rattle.calendars.specs.CalendarLaws.{week_named, place_named, number_named, week_last, place_last, number_last}
 use Rattle.calendars.specs.Tables.{WeekPut, CalendarPut}
 
 -- ---- where the next calendar stands
@@ -52,44 +53,43 @@ calendar_put xs k place week ys P l = record {
     one : List ℕ
     one = set xs (30 * k) place.at
 
-pub located_none : (s places : List ℕ) → Located s 0 places
-located_none s places =
-    record { size = omega arith; exceptions_at_lem = λ k l. absurd (omega arith); exceptions = λ k l. absurd (omega arith); week = λ k l. absurd (omega arith) }
+pub located_none : (s : List ℕ) (c : Contents) (calendars : List PlanCalendar) → Located s c 0 calendars
+located_none s c calendars = record { size = omega arith; row = λ k l. absurd (omega arith) }
 
-module _ {s : List ℕ} {n : ℕ} {xs ys : List ℕ} {place : Place} {week : List (List Period)} (L : Located s n xs) (P : CalendarPut xs n place week ys)
-    (at : ℕ) (here : at ≡ calendar_at s n) (is : place ≡ place_at s at) (week_is : week ≡ week_of s (weeks_at at) (week_count s at)) (read : CalendarRead s at) where
-  put_week : week_in ys (30 * n + 2) ≡ week_at s (calendar_at s n)
-  unfolding week_at
-  put_week =
-      week_held ys (30 * n + 2) week P.holds (ap length week_is ∙ week_length s (weeks_at at) (week_count s at))
-      (λ r l. rw week_is (week_row_length s (weeks_at at) (week_count s at) r l (read.weeks_few r)))
-      ∙ week_is
-      ∙ ap (week_at s) here
+-- what stands in other rows than the one that is set is as it was
+other : (xs : List PlanCalendar) (i j : ℕ) (a d : PlanCalendar) → (j ≡ i → ⊥) → get_or (set xs i a) j d ≡ get_or xs j d
+other xs i j a d e = get_or-set_other xs i j a d e
 
-  pub located_more : 30 * n + 30 ≤ length xs → Located s (n + 1) ys
-  unfolding place_at
-  located_more fits = record {
-    size = omega (arith, P.size);
-    exceptions_at_lem = below_more (λ k. get_or ys (30 * k) 0 ≡ exceptions_at s (calendar_at s k)) n
-        (λ k l. P.before (30 * k) (omega arith) ∙ L.exceptions_at_lem k l)
-        (P.at_is ∙ ap (λ (q : Place). q.at) is ∙ ap (exceptions_at s) here);
-    exceptions = below_more (λ k. get_or ys (30 * k + 1) 0 ≡ exception_count s (calendar_at s k)) n
-        (λ k l. P.before (30 * k + 1) (omega arith) ∙ L.exceptions k l)
-        (P.exceptions_is ∙ ap (λ (q : Place). q.exceptions) is ∙ ap (exception_count s) here);
-    week = below_more (λ k. week_in ys (30 * k + 2) ≡ week_at s (calendar_at s k)) n
-        (λ k l. week_same xs ys (30 * n) P.before (30 * k + 2) (omega arith) ∙ L.week k l)
-        put_week;
-  }
+-- one calendar more
+pub located_more : {s : List ℕ} {c : Contents} {n : ℕ} {xs : List PlanCalendar} → Located s c n xs → n < length xs → (row : PlanCalendar) → IsCalendar s c n row.week row.at row.n
+    → Located s c (n + 1) (set xs n row)
+located_more {s} {c} {n} {xs} L l row is = record {
+  size = simp length-set (omega (arith, l));
+  row = below_more (λ k. (d : PlanCalendar) → let r = get_or (set xs n row) k d in IsCalendar s c k r.week r.at r.n) n
+      (λ k m d. rw (other xs n k row d (λ e. omega arith)) (L.row k m d))
+      (λ d. rw (get_or-set_same xs n row d l) is);
+}
+
+-- the round-the-clock calendar stands in every row from n on
+abbrev pub Clocks : ℕ → List PlanCalendar → Type 0
+Clocks n xs = (k : ℕ) → n ≤ k → k < length xs → (d : PlanCalendar) → let r = get_or xs k d in (r.week ≡ round_the_clock) × (r.at ≡ 0) × (r.n ≡ 0) × (r.day_length ≡ 1440)
+
+pub clocks_first : (n : ℕ) (row : PlanCalendar) → row.week ≡ round_the_clock → row.at ≡ 0 → row.n ≡ 0 → row.day_length ≡ 1440 → Clocks 0 (replicate n row)
+clocks_first n row week at count day k l m d = rw (get_or-replicate n k row d (rw (length-replicate n row) at m)) (week, at, count, day)
+
+pub clocks_more : (n : ℕ) (xs : List PlanCalendar) (row : PlanCalendar) → Clocks n xs → Clocks (n + 1) (set xs n row)
+clocks_more n xs row C k l m d = rw (other xs n k row d (λ e. omega arith)) (C k (omega arith) (rw (length-set xs n row) at m) d)
 
 -- ---- the day lengths
-abbrev pub Measured : List ℕ → ℕ → List ℕ → Type 0
-Measured s n lengths = (k : ℕ) → k < n → get_or lengths k 0 ≡ day_length_at s (calendar_at s k)
+abbrev pub Measured : List ℕ → ℕ → List PlanCalendar → Type 0
+Measured s n calendars = (k : ℕ) → k < n → (d : PlanCalendar) → (get_or calendars k d).day_length ≡ day_length_at s (calendar_at s k)
 
-pub measured_more : (s : List ℕ) (n : ℕ) (xs : List ℕ) → Measured s n xs → n < length xs
-    → (at : ℕ) → at ≡ calendar_at s n → (v : ℕ) → v ≡ day_length_at s at → Measured s (n + 1) (set xs n v)
-measured_more s n xs M l at here v is =
-    below_more (λ k. get_or (set xs n v) k 0 ≡ day_length_at s (calendar_at s k)) n (λ k m. earlier xs n k v m ∙ M k m)
-    (get_or-set_same xs n v 0 l ∙ is ∙ ap (day_length_at s) here)
+pub measured_more : (s : List ℕ) (n : ℕ) (xs : List PlanCalendar) → Measured s n xs → n < length xs
+    → (at : ℕ) → at ≡ calendar_at s n → (row : PlanCalendar) → row.day_length ≡ day_length_at s at → Measured s (n + 1) (set xs n row)
+measured_more s n xs M l at here row is =
+    below_more (λ k. (d : PlanCalendar) → (get_or (set xs n row) k d).day_length ≡ day_length_at s (calendar_at s k)) n
+    (λ k m d. rw (other xs n k row d (λ e. omega arith)) (M k m d))
+    (λ d. rw (get_or-set_same xs n row d l) is ∙ ap (day_length_at s) here)
 
 module _ (s : List ℕ) (c : Contents) (read : SheetRead s c) where
   length_named : (k : ℕ) → k < c.calendars → day_length_of_calendar s c k ≡ day_length_at s (calendar_at s k)
@@ -100,14 +100,37 @@ module _ (s : List ℕ) (c : Contents) (read : SheetRead s c) where
   unfolding day_length_of_calendar
   length_last = on_false (ltb c.calendars c.calendars) (day_length_at s (calendar_at s c.calendars)) 1440 (le-ltb c.calendars c.calendars (omega arith))
 
-  pub measured_all : (xs : List ℕ) → Measured s c.calendars xs → c.calendars < length xs → Lengths (plan_of s c) (set xs c.calendars 1440)
+  pub measured_all : (xs : List PlanCalendar) → Measured s c.calendars xs → c.calendars < length xs → Clocks c.calendars xs → Lengths (plan_of s c) xs
   unfolding plan_of
-  measured_all xs M l = record {
-    size = simp length-set l;
-    is = λ j m.
-        ⊎_elim (λ b. earlier xs c.calendars j 1440 b ∙ M j b ∙ sym (length_named j b))
-        (λ b. let e : j ≡ c.calendars = omega arith in rw e (get_or-set_same xs c.calendars 1440 0 l ∙ sym length_last)) (lt_or_le j c.calendars);
+  measured_all xs M l C = record {
+    size = l;
+    is = λ j m d.
+        ⊎_elim (λ b. M j b d ∙ sym (length_named j b))
+        (λ b. let e : j ≡ c.calendars = omega arith in rw e ((C c.calendars (omega arith) l d).3 ∙ sym length_last)) (lt_or_le j c.calendars);
     low = λ j m.
         ⊎_elim (λ b. rw (length_named j b) (day_length_in s (calendar_at s j) (read.calendar j b).fields))
         (λ (b : c.calendars ≤ j). let e : j ≡ c.calendars = omega arith in rw (e, length_last) (omega arith)) (lt_or_le j c.calendars);
+  }
+
+  -- the round-the-clock calendar stands after the sheet's
+  pub located_all : (xs : List PlanCalendar) → Located s c c.calendars xs → c.calendars < length xs → Clocks c.calendars xs → Places s c xs
+  located_all xs L l C = record {
+    size = omega (arith, l);
+    row = below_more (λ k. (d : PlanCalendar) → let r = get_or xs k d in IsCalendar s c k r.week r.at r.n) c.calendars L.row
+        (λ d. let r = C c.calendars (omega arith) l d in
+        record {
+          week_is = r.0 ∙ sym (week_last s c c.calendars (omega arith));
+          at_is = r.1 ∙ sym (place_last s c c.calendars (omega arith));
+          n_is = r.2 ∙ sym (number_last s c c.calendars (omega arith));
+        });
+  }
+
+  -- a calendar of the sheet as it was read
+  pub read_calendar : (k at : ℕ) (place : Place) → k < c.calendars → at ≡ calendar_at s k → place ≡ place_at s at → (row : PlanCalendar)
+      → row.week ≡ week_of s (weeks_at at) (week_count s at) → row.at ≡ place.at → row.n ≡ place.exceptions → IsCalendar s c k row.week row.at row.n
+  unfolding place_at week_at
+  read_calendar k at place l here is row week at_is n_is = record {
+    week_is = week ∙ ap (week_at s) here ∙ sym (week_named s c k l);
+    at_is = at_is ∙ ap (λ (q : Place). q.at) is ∙ ap (exceptions_at s) here ∙ sym (place_named s c k l);
+    n_is = n_is ∙ ap (λ (q : Place). q.exceptions) is ∙ ap (exception_count s) here ∙ sym (number_named s c k l);
   }

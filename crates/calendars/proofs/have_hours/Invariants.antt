@@ -7,5 +7,5 @@ use Rattle.calendars.proofs.have_hours.Given as goal
 
 abbrev pub invariant-loop-k : goal.invariant-loop-k
 invariant-loop-k l =
-    (l.k ≤ l.contents.calendars)
-    × (first_of (judge_calendar (plan_of l.sheet l.contents)) (l.contents.calendars - l.k) l.k ≡ first_of (judge_calendar (plan_of l.sheet l.contents)) l.contents.calendars 0)
+    (l.k ≤ l.fn.contents.calendars)
+    × (first_of (judge_calendar (plan_of l.sheet l.fn.contents)) (l.fn.contents.calendars - l.k) l.k ≡ first_of (judge_calendar (plan_of l.sheet l.fn.contents)) l.fn.contents.calendars 0)
