@@ -1,33 +1,25 @@
 // Days as times on the activity's own calendar: a constraint's, and those that are recorded of its work.
 ghost use Rattle.std.specs.Prelude.{◌≡◌, ℕ, ◌+◌, ◌/◌, Ok, Err, Some, None};
-ghost use Rattle.calendar.specs.Records.{Valid};
-ghost use Rattle.clock.specs.On.{worked_on};
+ghost use Rattle.clock.specs.On.{worked_by};
 ghost use Rattle.worktime.specs.Walks.{reads, previous_finish};
 ghost use Rattle.project.specs.Status.{on_start};
 ghost use Rattle.placing.specs.Placing.{midnight_of, moment_of, day_start, constraint_time, actual};
 
 use crate::Actual;
-use calendar::Period;
+use calendar::Calendar;
 use date::Date;
 use project::{Activity, Constraint, End};
 use worktime::ClockError;
 
 // The start of a day's first work period, or its midnight where it has none.
-fn start_of_day(
-    week: [[Period; 8]; 7],
-    sheet: &[u8],
-    at: usize,
-    n: usize,
-    day: Date,
-) -> Result<u64, ClockError>
-    requires { Valid week sheet.now at n }
-    ensures { result ≡ reads Err (midnight_of day / 1440) (Ok (day_start (worked_on week sheet.now at n) (midnight_of day))) }
+fn start_of_day(calendar: &Calendar, day: Date) -> Result<u64, ClockError>
+    ensures { result ≡ reads Err (midnight_of day / 1440) (Ok (day_start (worked_by calendar.now) (midnight_of day))) }
 {
     let t = day.midnight();
     let d = t / 1440;
     if date::in_years(d) {
-        let hours = calendar::periods_on(week, sheet, at, n, d);
-        match calendar::day_next(hours, sheet, 0) {
+        let hours = calendar::periods_on(calendar, d);
+        match calendar::day_next(hours, calendar.exceptions.sheet, 0) {
             Some(m) => {
                 return Ok(t + m);
             },
@@ -40,17 +32,10 @@ fn start_of_day(
 }
 
 // The last finish by the end of a day.
-fn finish_by_day(
-    week: [[Period; 8]; 7],
-    sheet: &[u8],
-    at: usize,
-    n: usize,
-    day: Date,
-) -> Result<u64, ClockError>
-    requires { Valid week sheet.now at n }
-    ensures { result ≡ previous_finish (worked_on week sheet.now at n) (midnight_of day + 1440) }
+fn finish_by_day(calendar: &Calendar, day: Date) -> Result<u64, ClockError>
+    ensures { result ≡ previous_finish (worked_by calendar.now) (midnight_of day + 1440) }
 {
-    clock::previous_finish(week, sheet, at, n, day.midnight() + 1440)
+    clock::previous_finish(calendar, day.midnight() + 1440)
 }
 
 // A walk's answer as a constraint's time.
@@ -64,23 +49,19 @@ fn moment_of(walk: Result<u64, ClockError>) -> Result<Option<u64>, ClockError>
 // The time that a constraint holds its end to.
 pub fn constraint_time(
     activity: Activity,
-    week: [[Period; 8]; 7],
-    sheet: &[u8],
-    at: usize,
-    n: usize,
+    calendar: &Calendar,
     constraint: Constraint,
 ) -> Result<Option<u64>, ClockError>
-    requires { Valid week sheet.now at n }
-    ensures { result ≡ constraint_time (worked_on week sheet.now at n) (on_start constraint) }
+    ensures { result ≡ constraint_time (worked_by calendar.now) (on_start constraint) }
 {
     let end = project::on_start(constraint);
     match end {
         End::Start(day) => {
-            let walk = start_of_day(week, sheet, at, n, day);
+            let walk = start_of_day(calendar, day);
             moment_of(walk)
         }
         End::Finish(day) => {
-            let walk = finish_by_day(week, sheet, at, n, day);
+            let walk = finish_by_day(calendar, day);
             moment_of(walk)
         }
         End::Neither => Ok(None),
@@ -88,30 +69,21 @@ pub fn constraint_time(
 }
 
 // Work that began on a day and goes on.
-fn begun(week: [[Period; 8]; 7], sheet: &[u8], at: usize, n: usize, start: Date) -> Actual
-    requires { Valid week sheet.now at n }
-    ensures { result ≡ actual (worked_on week sheet.now at n) (Some start) None }
+fn begun(calendar: &Calendar, start: Date) -> Actual
+    ensures { result ≡ actual (worked_by calendar.now) (Some start) None }
 {
-    match clock::next_start(week, sheet, at, n, start.midnight()) {
+    match clock::next_start(calendar, start.midnight()) {
         Ok(s) => Actual::Begun(s),
         Err(k) => Actual::Refused(k),
     }
 }
 
 // Work that began on a day and ended on another: its finish is not before its start.
-fn completed(
-    week: [[Period; 8]; 7],
-    sheet: &[u8],
-    at: usize,
-    n: usize,
-    start: Date,
-    finish: Date,
-) -> Actual
-    requires { Valid week sheet.now at n }
-    ensures { result ≡ actual (worked_on week sheet.now at n) (Some start) (Some finish) }
+fn completed(calendar: &Calendar, start: Date, finish: Date) -> Actual
+    ensures { result ≡ actual (worked_by calendar.now) (Some start) (Some finish) }
 {
-    match clock::next_start(week, sheet, at, n, start.midnight()) {
-        Ok(s) => match finish_by_day(week, sheet, at, n, finish) {
+    match clock::next_start(calendar, start.midnight()) {
+        Ok(s) => match finish_by_day(calendar, finish) {
             Ok(f) => {
                 if f < s {
                     return Actual::Completed(s, s);
@@ -125,25 +97,18 @@ fn completed(
 }
 
 // What is recorded of the activity's work: with only a finish day, it began on that day.
-pub fn actual(
-    activity: Activity,
-    week: [[Period; 8]; 7],
-    sheet: &[u8],
-    at: usize,
-    n: usize,
-) -> Actual
-    requires { Valid week sheet.now at n }
-    ensures { result ≡ actual (worked_on week sheet.now at n) activity.actual_start activity.actual_finish }
+pub fn actual(activity: Activity, calendar: &Calendar) -> Actual
+    ensures { result ≡ actual (worked_by calendar.now) activity.actual_start activity.actual_finish }
 {
     let first = activity.actual_start;
     let last = activity.actual_finish;
     match last {
         Some(finish) => match first {
-            Some(start) => completed(week, sheet, at, n, start, finish),
-            None => completed(week, sheet, at, n, finish, finish),
+            Some(start) => completed(calendar, start, finish),
+            None => completed(calendar, finish, finish),
         },
         None => match first {
-            Some(start) => begun(week, sheet, at, n, start),
+            Some(start) => begun(calendar, start),
             None => Actual::Unstarted,
         },
     }

@@ -3,11 +3,10 @@
 #![tactic(auto)]
 
 ghost use Rattle.std.specs.Prelude.{◌≡◌};
-ghost use Rattle.calendar.specs.Records.{Valid};
-ghost use Rattle.clock.specs.On.{worked_on};
+ghost use Rattle.clock.specs.On.{worked_by};
 ghost use Rattle.placing.specs.Placing.{bounded, is_moment, place_start, finish_of, start_for_finish, place_finish, latest_same, start_of, finish_for_start, finish_for_start_by};
 
-use calendar::Period;
+use calendar::Calendar;
 use project::{Activity, ActivityKind};
 use worktime::ClockError;
 
@@ -44,59 +43,43 @@ pub fn bounded(origin: u64, t: u64) -> Result<u64, ClockError>
 // ---- early dates
 
 // Where the work may start from `t` on: a finish milestone at a finish.
-pub fn place_start(
-    activity: Activity,
-    week: [[Period; 8]; 7],
-    sheet: &[u8],
-    at: usize,
-    n: usize,
-    t: u64,
-) -> Result<u64, ClockError>
-    requires { Valid week sheet.now at n }
-    ensures { result ≡ place_start (worked_on week sheet.now at n) activity.kind t }
+pub fn place_start(activity: Activity, calendar: &Calendar, t: u64) -> Result<u64, ClockError>
+    ensures { result ≡ place_start (worked_by calendar.now) activity.kind t }
 {
     let kind = activity.kind;
     match kind {
-        ActivityKind::Task => clock::next_start(week, sheet, at, n, t),
-        ActivityKind::StartMilestone => clock::next_start(week, sheet, at, n, t),
-        ActivityKind::FinishMilestone => clock::next_finish(week, sheet, at, n, t),
+        ActivityKind::Task => clock::next_start(calendar, t),
+        ActivityKind::StartMilestone => clock::next_start(calendar, t),
+        ActivityKind::FinishMilestone => clock::next_finish(calendar, t),
     }
 }
 
 // The end of the work left from `start` on.
 pub fn finish_of(
     activity: Activity,
-    week: [[Period; 8]; 7],
-    sheet: &[u8],
-    at: usize,
-    n: usize,
+    calendar: &Calendar,
     left: u64,
     start: u64,
 ) -> Result<u64, ClockError>
-    requires { Valid week sheet.now at n }
-    ensures { result ≡ finish_of (worked_on week sheet.now at n) left start }
+    ensures { result ≡ finish_of (worked_by calendar.now) left start }
 {
-    clock::advance(week, sheet, at, n, start, left)
+    clock::advance(calendar, start, left)
 }
 
 // The earliest start that finishes no earlier than `t`.
 pub fn start_for_finish(
     activity: Activity,
-    week: [[Period; 8]; 7],
-    sheet: &[u8],
-    at: usize,
-    n: usize,
+    calendar: &Calendar,
     left: u64,
     t: u64,
 ) -> Result<u64, ClockError>
-    requires { Valid week sheet.now at n }
-    ensures { result ≡ start_for_finish (worked_on week sheet.now at n) left t }
+    ensures { result ≡ start_for_finish (worked_by calendar.now) left t }
 {
     if left == 0 {
         return Ok(t);
     }
-    let f = clock::next_finish(week, sheet, at, n, t)?;
-    clock::retreat(week, sheet, at, n, f, left)
+    let f = clock::next_finish(calendar, t)?;
+    clock::retreat(calendar, f, left)
 }
 
 // ---- late dates
@@ -115,21 +98,17 @@ fn is_moment(kind: ActivityKind, left: u64) -> bool
 // The latest finish at or before `t`; a moment at the next start after it, where that is not after `t`.
 pub fn place_finish(
     activity: Activity,
-    week: [[Period; 8]; 7],
-    sheet: &[u8],
-    at: usize,
-    n: usize,
+    calendar: &Calendar,
     left: u64,
     t: u64,
 ) -> Result<u64, ClockError>
-    requires { Valid week sheet.now at n }
-    ensures { result ≡ place_finish (worked_on week sheet.now at n) activity.kind left t }
+    ensures { result ≡ place_finish (worked_by calendar.now) activity.kind left t }
 {
     let kind = activity.kind;
     let moment = is_moment(kind, left);
-    let f = clock::previous_finish(week, sheet, at, n, t)?;
+    let f = clock::previous_finish(calendar, t)?;
     if moment {
-        let s = clock::next_start(week, sheet, at, n, f)?;
+        let s = clock::next_start(calendar, f)?;
         if s <= t {
             return Ok(s);
         }
@@ -139,72 +118,52 @@ pub fn place_finish(
 }
 
 // The latest moment that is the same as `t`, with no work between.
-pub fn latest_same(
-    activity: Activity,
-    week: [[Period; 8]; 7],
-    sheet: &[u8],
-    at: usize,
-    n: usize,
-    t: u64,
-) -> Result<u64, ClockError>
-    requires { Valid week sheet.now at n }
-    ensures { result ≡ latest_same (worked_on week sheet.now at n) t }
+pub fn latest_same(activity: Activity, calendar: &Calendar, t: u64) -> Result<u64, ClockError>
+    ensures { result ≡ latest_same (worked_by calendar.now) t }
 {
-    clock::next_start(week, sheet, at, n, t)
+    clock::next_start(calendar, t)
 }
 
 // The latest start that finishes by `finish`.
 pub fn start_of(
     activity: Activity,
-    week: [[Period; 8]; 7],
-    sheet: &[u8],
-    at: usize,
-    n: usize,
+    calendar: &Calendar,
     left: u64,
     finish: u64,
 ) -> Result<u64, ClockError>
-    requires { Valid week sheet.now at n }
-    ensures { result ≡ start_of (worked_on week sheet.now at n) left finish }
+    ensures { result ≡ start_of (worked_by calendar.now) left finish }
 {
-    clock::retreat(week, sheet, at, n, finish, left)
+    clock::retreat(calendar, finish, left)
 }
 
 // The latest finish that starts no later than `t`, moments with no work between counting as one.
 pub fn finish_for_start(
     activity: Activity,
-    week: [[Period; 8]; 7],
-    sheet: &[u8],
-    at: usize,
-    n: usize,
+    calendar: &Calendar,
     left: u64,
     t: u64,
 ) -> Result<u64, ClockError>
-    requires { Valid week sheet.now at n }
-    ensures { result ≡ finish_for_start (worked_on week sheet.now at n) left t }
+    ensures { result ≡ finish_for_start (worked_by calendar.now) left t }
 {
     if left == 0 {
         return Ok(t);
     }
-    let s = clock::previous_start(week, sheet, at, n, t)?;
-    clock::advance(week, sheet, at, n, s, left)
+    let s = clock::previous_start(calendar, t)?;
+    clock::advance(calendar, s, left)
 }
 
 // The same for a constraint's date, which a start must not pass.
 pub fn finish_for_start_by(
     activity: Activity,
-    week: [[Period; 8]; 7],
-    sheet: &[u8],
-    at: usize,
-    n: usize,
+    calendar: &Calendar,
     left: u64,
     t: u64,
 ) -> Result<u64, ClockError>
-    requires { Valid week sheet.now at n }
-    ensures { result ≡ finish_for_start_by (worked_on week sheet.now at n) left t }
+    ensures { result ≡ finish_for_start_by (worked_by calendar.now) left t }
 {
     if left == 0 {
         return Ok(t);
     }
-    let s = clock::start_by(week, sheet, at, n, t)?;
-    clock::advance(week, sheet, at, n, s, left)
+    let s = clock::start_by(calendar, t)?;
+    clock::advance(calendar, s, left)
 }

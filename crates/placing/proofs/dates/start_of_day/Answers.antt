@@ -4,7 +4,7 @@ use mathlib.Core.Path.{◌≡◌, sym, ap, ◌∙◌}
 use native.Mathlib.Omega.{arith}
 use Prim.Native.Nat.{ℕ, ◌+◌, ◌*◌, ◌/◌}
 use Rattle.calendar.specs.Hours.{worked}
-use Rattle.calendar.specs.Records.{hours_on}
+use Rattle.calendar.specs.Value.{hours_of}
 use Rattle.date.specs.Years.{in_years, years_in}
 use Rattle.worktime.specs.Reads.{reads_in, reads_out}
 use Rattle.clock.specs.Days.{hand_next}
@@ -13,15 +13,15 @@ use Rattle.placing.proofs.PlacingLaws.{day_start_found, day_start_free}
 use Rattle.placing.proofs.dates.start_of_day.Goals as goal
 
 pub periods_on-hours-requires : goal.periods_on-hours-requires
-periods_on-hours-requires c = let y = years_in _ (sym c.in_years.ensures ∙ c.if-in_years.true) in (omega arith, c.requires)
+periods_on-hours-requires c = let y = years_in _ (sym c.in_years.ensures ∙ c.if-in_years.true) in omega arith
 
 pub overflow_add-result : goal.overflow_add-result
 overflow_add-result c =
     let a = c.args in
-    let h = hours_on a.week a.sheet.now a.at a.n in
+    let h = hours_of a.calendar.now in
     let t = c.midnight-t.result in
     let e = c.midnight-t.ensures.0 in
-    let o = c.requires.ordered (t / 1440) in
+    let o = c.args.calendar.now.valid.ordered (t / 1440) in
     let q : t / 1440 * 1440 ≡ t = omega (arith, e) in
     let f = day_start_found h (t / 1440) o _ (hand_next h (t / 1440) o _ c.periods_on-hours.ensures.0 0 _ _ c.day_next.ensures c.in-Some.is) in
     omega (arith, f.1, c.midnight-t.ensures.1)
@@ -29,10 +29,10 @@ overflow_add-result c =
 pub returns-in-Some : goal.returns-in-Some
 returns-in-Some c =
     let a = c.args in
-    let h = hours_on a.week a.sheet.now a.at a.n in
+    let h = hours_of a.calendar.now in
     let t = c.midnight-t.result in
     let e = c.midnight-t.ensures.0 in
-    let o = c.requires.ordered (t / 1440) in
+    let o = c.args.calendar.now.valid.ordered (t / 1440) in
     let q : t / 1440 * 1440 ≡ t = omega (arith, e) in
     let f = day_start_found h (t / 1440) o _ (hand_next h (t / 1440) o _ c.periods_on-hours.ensures.0 0 _ _ c.day_next.ensures c.in-Some.is) in
     let g : day_start (worked h) t ≡ t + c.in-Some.m = rw q at f.0 in
@@ -43,10 +43,10 @@ returns-in-Some c =
 pub returns-in-None : goal.returns-in-None
 returns-in-None c =
     let a = c.args in
-    let h = hours_on a.week a.sheet.now a.at a.n in
+    let h = hours_of a.calendar.now in
     let t = c.midnight-t.result in
     let e = c.midnight-t.ensures.0 in
-    let o = c.requires.ordered (t / 1440) in
+    let o = c.args.calendar.now.valid.ordered (t / 1440) in
     let q : t / 1440 * 1440 ≡ t = omega (arith, e) in
     let f = day_start_free h (t / 1440) o (hand_next h (t / 1440) o _ c.periods_on-hours.ensures.0 0 _ _ c.day_next.ensures c.in-None.is) in
     let g : day_start (worked h) t ≡ t = rw q at f in
