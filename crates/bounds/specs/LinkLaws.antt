@@ -12,13 +12,14 @@ use Rattle.order.specs.Ties as ties
 use Rattle.passes.specs.Plan.{origin, tie, recorded, begun}
 use Rattle.passes.specs.Dates.{Early}
 use Rattle.passes.specs.Forward.{forward_bound, link_bound}
+use Rattle.calendars.specs.declared.plan_calendar.PlanCalendar.{PlanCalendar}
 use Rattle.dates.specs.declared.Tie.{Tie}
 use Rattle.dates.specs.Columns.{early_in}
 use Rattle.dates.specs.ColumnLaws.{column_at}
 use Rattle.dates.specs.Standing.{as_tie, tie_in, actual_in, Ready, Recorded}
 use Rattle.bounds.specs.ReadyLaws.{activities_are, tie_from_below, tie_to_below, tie_lag_fits}
 
-module _ {s : List ℕ} {c : Contents} {places : List ℕ} {t : ℕ} {xs : List ℤ} (R : Ready s c places t xs) (k : ℕ) (l : k < t) (τ : Tie)
+module _ {s : List ℕ} {c : Contents} {calendars : List PlanCalendar} {t : ℕ} {xs : List ℤ} (R : Ready s c calendars t xs) (k : ℕ) (l : k < t) (τ : Tie)
     (e : as_tie τ ≡ tie_in (state_of c.activities c.links xs) k) where
   -- the link in hand is the k-th kept one
   pub tie_is : as_tie τ ≡ tie (plan_of s c) k

@@ -6,6 +6,7 @@ use Rattle.sheet.specs.declared.Contents.{Contents}
 use Rattle.order.specs.Plan.{plan_of}
 use Rattle.order.specs.Ties.{kept_below}
 use Rattle.passes.specs.Plan.{tie}
+use Rattle.calendars.specs.declared.plan_calendar.PlanCalendar.{PlanCalendar}
 use Rattle.dates.specs.Standing.{Ready}
 use Rattle.dates.specs.FineLaws as fine
 
@@ -17,7 +18,7 @@ pub links_are : (s : List ℕ) (c : Contents) → (plan_of s c).links ≡ c.link
 unfolding plan_of
 links_are s c = refl
 
-module _ {s : List ℕ} {c : Contents} {places : List ℕ} {t : ℕ} {xs : List ℤ} (R : Ready s c places t xs) where
+module _ {s : List ℕ} {c : Contents} {calendars : List PlanCalendar} {t : ℕ} {xs : List ℤ} (R : Ready s c calendars t xs) where
   -- the number of link records that the kept ones are among
   pub kept_within : t ≤ c.links
   kept_within = omega (arith, R.standing.within, links_are s c)

@@ -3,8 +3,7 @@
 
 ghost use Rattle.std.specs.Prelude.{◌≡◌, ℕ, ◌^◌, ◌<◌};
 ghost use Rattle.number.specs.Zed.{dn};
-ghost use Rattle.calendar.specs.Records.{Valid};
-ghost use Rattle.clock.specs.On.{worked_on};
+ghost use Rattle.clock.specs.On.{worked_by};
 ghost use Rattle.memory.specs.State.{state_of};
 ghost use Rattle.sheet.specs.Known.{SheetRead};
 ghost use Rattle.order.specs.Plan.{Plan, plan_of};
@@ -14,7 +13,8 @@ ghost use Rattle.calendars.specs.Calendars.{Places};
 ghost use Rattle.dates.specs.Columns.{early_in};
 ghost use Rattle.dates.specs.Standing.{as_tie, Ready, Recorded};
 
-use calendar::Period;
+use calendar::Calendar;
+use calendars::PlanCalendar;
 use dates::Tie;
 use project::{Activity, RelationshipType};
 use sheet::Contents;
@@ -35,25 +35,21 @@ pub fn source_of(kind: RelationshipType, es: u64, ef: u64) -> u64
 // The earliest start that a link's bound `b` leaves the activity: a bound on the finish counts back on its own calendar.
 pub fn start_for(
     activity: Activity,
-    week: [[Period; 8]; 7],
-    sheet: &[u8],
-    at: usize,
-    n: usize,
+    calendar: &Calendar,
     left: u64,
     kind: RelationshipType,
     b: u64,
 ) -> Result<u64, ClockError>
-    requires { Valid week sheet.now at n }
-    ensures { (p : Plan) (i : ℕ) → own p i ≡ worked_on week sheet.now at n → result ≡ start_for p i left kind b }
+    ensures { (p : Plan) (i : ℕ) → own p i ≡ worked_by calendar.now → result ≡ start_for p i left kind b }
 {
     match kind {
         RelationshipType::FinishToStart => Ok(b),
         RelationshipType::StartToStart => Ok(b),
         RelationshipType::FinishToFinish => {
-            placing::start_for_finish(activity, week, sheet, at, n, left, b)
+            placing::start_for_finish(activity, calendar, left, b)
         }
         RelationshipType::StartToFinish => {
-            placing::start_for_finish(activity, week, sheet, at, n, left, b)
+            placing::start_for_finish(activity, calendar, left, b)
         }
     }
 }
@@ -62,17 +58,17 @@ pub fn start_for(
 pub fn forward_bound(
     sheet: &[u8],
     contents: Contents,
-    places: &[u64],
+    calendars: &[PlanCalendar],
     tie: Tie,
     es: u64,
     ef: u64,
 ) -> Result<u64, ClockError>
-    requires { SheetRead sheet.now contents × Places sheet.now contents places.now × (dn tie.lag < 2 ^ 63) }
+    requires { SheetRead sheet.now contents × Places sheet.now contents calendars.now × (dn tie.lag < 2 ^ 63) }
     ensures { result ≡ forward_bound (plan_of sheet.now contents) (as_tie tie) es ef }
 {
     let kind = tie.kind;
     let source = source_of(kind, es, ef);
-    let t = dates::shifted(sheet, contents, places, tie.calendar, source, tie.lag)?;
+    let t = dates::shifted(sheet, contents, calendars, tie.calendar, source, tie.lag)?;
     let origin = dates::origin_of(sheet, contents);
     placing::bounded(origin, t)
 }
@@ -81,12 +77,12 @@ pub fn forward_bound(
 pub fn link_bound(
     sheet: &[u8],
     contents: Contents,
-    places: &[u64],
+    calendars: &[PlanCalendar],
     t: usize,
     work: &[i64],
     k: usize,
 ) -> Result<u64, ClockError>
-    requires { Ready sheet.now contents places.now t work.now × Recorded (plan_of sheet.now contents) (state_of contents.activities contents.links work.now) × (k < t) }
+    requires { Ready sheet.now contents calendars.now t work.now × Recorded (plan_of sheet.now contents) (state_of contents.activities contents.links work.now) × (k < t) }
     ensures { result ≡ link_bound (plan_of sheet.now contents) (early_in (plan_of sheet.now contents) (state_of contents.activities contents.links work.now)) k }
 {
     let a = contents.activities;
@@ -97,5 +93,5 @@ pub fn link_bound(
     let early = memory::get_act(work, a, l, from, memory::fields::EARLY_START);
     let es = dates::begun_at(recorded, early);
     let ef = memory::get_act(work, a, l, from, memory::fields::EARLY_FINISH);
-    forward_bound(sheet, contents, places, tie, es, ef)
+    forward_bound(sheet, contents, calendars, tie, es, ef)
 }

@@ -7,14 +7,15 @@ use Rattle.topology.specs.Frame.{outside, Frame}
 use Rattle.sheet.specs.declared.Contents.{Contents}
 use Rattle.order.specs.Plan.{Plan, plan_of}
 use Rattle.passes.specs.Plan.{origin}
+use Rattle.calendars.specs.declared.plan_calendar.PlanCalendar.{PlanCalendar}
 use Rattle.dates.specs.Columns.{early_in, late_in, free_in}
 use Rattle.dates.specs.ColumnLaws.{column_same}
 use Rattle.dates.specs.Standing.{actual_of, Ready, Recorded}
 use Rattle.dates.specs.StandingLaws.{standing_kept}
 
-pub ready_kept : {lo hi : ℕ} {s : List ℕ} {c : Contents} {places : List ℕ} {t : ℕ} {xs ys : List ℤ} → Ready s c places t xs
+pub ready_kept : {lo hi : ℕ} {s : List ℕ} {c : Contents} {calendars : List PlanCalendar} {t : ℕ} {xs ys : List ℤ} → Ready s c calendars t xs
     → Frame lo hi 0 0 (state_of c.activities c.links xs) (state_of c.activities c.links ys) → length ys ≡ length xs → 10 ≤ lo
-    → Ready s c places t ys
+    → Ready s c calendars t ys
 ready_kept {lo} {hi} {s} {c} R F e l = record {
   read = R.read;
   room = omega (arith, R.room, e);

@@ -11,6 +11,7 @@ use Rattle.sheet.specs.declared.Contents.{Contents}
 use Rattle.order.specs.Plan.{Plan, plan_of}
 use Rattle.order.specs.Checks.{order, checked}
 use Rattle.order.proofs.LoopLaws.{fine_ordered}
+use Rattle.calendars.specs.declared.plan_calendar.PlanCalendar.{PlanCalendar}
 use Rattle.dates.specs.Standing.{Standing, Ready}
 
 -- ---- a list backward
@@ -45,7 +46,7 @@ module _ (p : Plan) (fine : (checked p).number ≡ 0) where
   back_below W q l = at_below W (p.activities - (q + 1)) (omega arith)
 
 -- ---- as it is lent
-module _ {s : List ℕ} {c : Contents} {places : List ℕ} {t : ℕ} {xs : List ℤ} (R : Ready s c places t xs) where
+module _ {s : List ℕ} {c : Contents} {calendars : List PlanCalendar} {t : ℕ} {xs : List ℤ} (R : Ready s c calendars t xs) where
   pub order_length : length (order (plan_of s c)) ≡ c.activities
   unfolding plan_of
   order_length = (fine_ordered (plan_of s c) R.fine).all

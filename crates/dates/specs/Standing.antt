@@ -15,6 +15,7 @@ use Rattle.order.specs.Ties as ties
 use Rattle.order.specs.Ties.{kept_below}
 use Rattle.order.specs.Checks.{order, checked}
 use Rattle.passes.specs.Plan.{tie, recorded}
+use Rattle.calendars.specs.declared.plan_calendar.PlanCalendar.{PlanCalendar}
 use Rattle.calendars.specs.Calendars.{Places}
 use Rattle.dates.specs.declared.Tie.{Tie}
 
@@ -52,10 +53,10 @@ pub record Standing (p : Plan) (t : ℕ) (S : State) : Type 0 where
   pub ordered : (q : ℕ) → q < p.activities → S.act order_at q ≡ get_or (order p) q 0
 
 -- what the passes are lent: a sheet that was read and whose plan the checks accept, its calendars' places, and memory as the checks leave it
-pub record Ready (s : List ℕ) (c : Contents) (places : List ℕ) (t : ℕ) (xs : List ℤ) : Type 0 where
+pub record Ready (s : List ℕ) (c : Contents) (calendars : List PlanCalendar) (t : ℕ) (xs : List ℤ) : Type 0 where
   pub read : SheetRead s c
   pub room : Room c.activities c.links xs
-  pub located : Places s c places
+  pub located : Places s c calendars
   pub fine : (checked (plan_of s c)).number ≡ 0
   pub standing : Standing (plan_of s c) t (state_of c.activities c.links xs)
 

@@ -12,6 +12,7 @@ ghost use Rattle.passes.specs.Plan.{origin, floor, begun};
 ghost use Rattle.calendars.specs.Calendars.{Places};
 ghost use Rattle.dates.specs.Standing.{as_tie, tie_in, actual_in};
 
+use calendars::PlanCalendar;
 use placing::Actual;
 use project::{Activity, RelationshipType};
 use sheet::Contents;
@@ -110,18 +111,17 @@ pub fn floor_of(sheet: &[u8], contents: Contents) -> u64
 pub fn shifted(
     sheet: &[u8],
     contents: Contents,
-    places: &[u64],
+    calendars: &[PlanCalendar],
     k: usize,
     t: u64,
     lag: i64,
 ) -> Result<u64, ClockError>
-    requires { SheetRead sheet.now contents × Places sheet.now contents places.now × (dn lag < 2 ^ 63) }
+    requires { SheetRead sheet.now contents × Places sheet.now contents calendars.now × (dn lag < 2 ^ 63) }
     ensures { result ≡ shift (worked ((plan_of sheet.now contents).hours k)) t lag }
 {
     if lag == 0 {
         return Ok(t);
     }
-    let week = calendars::week_of(sheet, contents, places, k);
-    let e = calendars::exceptions_of(sheet, contents, places, k);
-    clock::shift(week, sheet, e.at, e.n, t, lag)
+    let calendar = calendars::calendar_of(sheet, contents, calendars, k);
+    clock::shift(&calendar, t, lag)
 }

@@ -6,7 +6,7 @@ use mir.Val.{to_z}
 use mir.Facts.{to_z-of_z}
 use Rattle.worktime.specs.Walks.{shift}
 use Rattle.worktime.proofs.Shift.{shift_zero}
-use Rattle.calendars.specs.CalendarLaws.{calendar_valid, calendar_worked}
+use Rattle.calendars.specs.CalendarLaws.{in_plan_worked}
 use Rattle.dates.proofs.shifted.Goals as goal
 
 pub returns-then-lag-eq0 : goal.returns-then-lag-eq0
@@ -14,13 +14,9 @@ returns-then-lag-eq0 c =
     sym (ap (shift _ c.args.t) (sym (to_z-of_z c.ranges.lag) ∙ ap (to_z w64) c.if-lag-eq0.true) ∙ shift_zero _ _)
 
 pub shift-requires : goal.shift-requires
-shift-requires c = (
-  calendar_valid (record { week_is = c.week_of-week.ensures; at_is = c.exceptions_of-e.ensures.0; n_is = c.exceptions_of-e.ensures.1 }) c.requires.0,
-  rw (to_z-of_z c.ranges.lag) c.requires.2,
-)
+shift-requires c = rw (to_z-of_z c.ranges.lag) c.requires.2
 
 pub returns : goal.returns
 returns c =
-    let e = c.exceptions_of-e.ensures in
     c.shift.ensures
-    ∙ (λ z. shift (calendar_worked (record { week_is = c.week_of-week.ensures; at_is = e.0; n_is = e.1 }) z) c.args.t (to_z-of_z c.ranges.lag z))
+    ∙ (λ z. shift (in_plan_worked c.calendar_of-calendar.ensures z) c.args.t (to_z-of_z c.ranges.lag z))
