@@ -14,7 +14,7 @@ use Rattle.sheet.specs.Known.{SheetRead}
 use Rattle.sheet.specs.Places.{week_at, calendar_at, exceptions_at, exception_count}
 use Rattle.order.specs.Plan.{plan_of, week_of_calendar, exception_place, exception_number, hours_of_calendar}
 use Rattle.calendars.specs.declared.plan_calendar.PlanCalendar.{PlanCalendar}
-use Rattle.calendars.specs.Calendars.{IsCalendar, InPlan, Places}
+use Rattle.calendars.specs.Calendars.{IsCalendar, InPlan, Places, no_row}
 
 module _ (s : List ℕ) (c : Contents) where
   -- a calendar that the sheet names
@@ -61,14 +61,14 @@ module _ {s : List ℕ} {c : Contents} {k : ℕ} {week : List (List Period)} {at
   calendar_worked = rw (C.week_is, C.at_is, C.n_is)
 
 -- the table has calendar k in row k, and every calendar after the sheet's in the last row
-pub in_row : {s : List ℕ} {c : Contents} {calendars : List PlanCalendar} → Places s c calendars → (k : ℕ) (d : PlanCalendar) → let row = get_or calendars (min k c.calendars) d in IsCalendar s c k row.week row.at row.n
-in_row {s} {c} {calendars} P k d =
-    ⊎_elim (λ (l : k < c.calendars). let e : min k c.calendars ≡ k = omega (arith, l) in rw e (P.row k (omega (arith, l)) d))
+pub in_row : {s : List ℕ} {c : Contents} {calendars : List PlanCalendar} → Places s c calendars → (k : ℕ) → let row = get_or calendars (min k c.calendars) no_row in IsCalendar s c k row.week row.at row.n
+in_row {s} {c} {calendars} P k =
+    ⊎_elim (λ (l : k < c.calendars). let e : min k c.calendars ≡ k = omega (arith, l) in rw e (P.row k (omega (arith, l))))
     (λ (l : c.calendars ≤ k).
     let e : min k c.calendars ≡ c.calendars = omega (arith, l) in
     let m : c.calendars ≤ c.calendars = omega arith in
-    let row = get_or calendars c.calendars d in
-    let C : IsCalendar s c c.calendars row.week row.at row.n = P.row c.calendars (omega arith) d in
+    let row = get_or calendars c.calendars no_row in
+    let C : IsCalendar s c c.calendars row.week row.at row.n = P.row c.calendars (omega arith) in
     let f : IsCalendar s c k row.week row.at row.n =
     record {
       week_is = C.week_is ∙ week_last s c c.calendars m ∙ sym (week_last s c k l);

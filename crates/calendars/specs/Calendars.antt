@@ -1,5 +1,5 @@
 -- The plan's calendars as values, and the table of them.
-use Rattle.std.specs.Prelude.{◌≡◌, Bool, true, false, List, ℕ, ◌+◌, ◌≤◌, ◌<◌, length, get_or}
+use Rattle.std.specs.Prelude.{◌≡◌, Bool, true, false, List, [], ℕ, ◌+◌, ◌≤◌, ◌<◌, length, get_or}
 use Rattle.calendar.specs.declared.Period.{Period}
 use Rattle.calendar.specs.declared.value.Calendar.{Calendar}
 use Rattle.sheet.specs.declared.Contents.{Contents}
@@ -23,10 +23,14 @@ abbrev pub hours_verdict : Bool → Verdict
 hours_verdict true = fine
 hours_verdict false = refuse 5 0
 
+-- what is read of a row that the table does not have
+abbrev pub no_row : PlanCalendar
+no_row = record { week = []; at = 0; n = 0; day_length = 0 }
+
 -- the first n calendars of the plan stand in the table
 pub record Located (s : List ℕ) (c : Contents) (n : ℕ) (calendars : List PlanCalendar) : Type 0 where
   pub size : n ≤ length calendars
-  pub row : (k : ℕ) → k < n → (d : PlanCalendar) → let row = get_or calendars k d in IsCalendar s c k row.week row.at row.n
+  pub row : (k : ℕ) → k < n → let row = get_or calendars k no_row in IsCalendar s c k row.week row.at row.n
 
 -- all calendars of the sheet stand there, and then the round-the-clock one
 abbrev pub Places : List ℕ → Contents → List PlanCalendar → Type 0
@@ -35,5 +39,5 @@ Places s c calendars = Located s c (c.calendars + 1) calendars
 -- the day length of each calendar stands there, the round-the-clock one's last
 pub record Lengths (p : Plan) (calendars : List PlanCalendar) : Type 0 where
   pub size : p.calendars < length calendars
-  pub is : (j : ℕ) → j ≤ p.calendars → (d : PlanCalendar) → (get_or calendars j d).day_length ≡ p.day_length j
+  pub is : (j : ℕ) → j ≤ p.calendars → (get_or calendars j no_row).day_length ≡ p.day_length j
   pub low : (j : ℕ) → j ≤ p.calendars → p.day_length j ≤ 1440

@@ -20,7 +20,7 @@ use Rattle.sheet.specs.Places.{weeks_at, week_count, exceptions_at, exception_co
 use Rattle.order.specs.Plan.{plan_of, day_length_of_calendar}
 use Rattle.calendars.specs.PackedLaws.{earlier}
 use Rattle.calendars.specs.declared.plan_calendar.PlanCalendar.{PlanCalendar}
-use Rattle.calendars.specs.Calendars.{IsCalendar, Located, Places, Lengths}
+use Rattle.calendars.specs.Calendars.{IsCalendar, Located, Places, Lengths, no_row}
 use Rattle.calendars.specs.CalendarLaws.{week_named, place_named, number_named, week_last, place_last, number_last}
 use Rattle.calendars.specs.Tables.{WeekPut, CalendarPut}
 
@@ -57,39 +57,39 @@ pub located_none : (s : List ℕ) (c : Contents) (calendars : List PlanCalendar)
 located_none s c calendars = record { size = omega arith; row = λ k l. absurd (omega arith) }
 
 -- what stands in other rows than the one that is set is as it was
-other : (xs : List PlanCalendar) (i j : ℕ) (a d : PlanCalendar) → (j ≡ i → ⊥) → get_or (set xs i a) j d ≡ get_or xs j d
-other xs i j a d e = get_or-set_other xs i j a d e
+other : (xs : List PlanCalendar) (i j : ℕ) (a : PlanCalendar) → (j ≡ i → ⊥) → get_or (set xs i a) j no_row ≡ get_or xs j no_row
+other xs i j a e = get_or-set_other xs i j a no_row e
 
 -- one calendar more
 pub located_more : {s : List ℕ} {c : Contents} {n : ℕ} {xs : List PlanCalendar} → Located s c n xs → n < length xs → (row : PlanCalendar) → IsCalendar s c n row.week row.at row.n
     → Located s c (n + 1) (set xs n row)
 located_more {s} {c} {n} {xs} L l row is = record {
   size = simp length-set (omega (arith, l));
-  row = below_more (λ k. (d : PlanCalendar) → let r = get_or (set xs n row) k d in IsCalendar s c k r.week r.at r.n) n
-      (λ k m d. rw (other xs n k row d (λ e. omega arith)) (L.row k m d))
-      (λ d. rw (get_or-set_same xs n row d l) is);
+  row = below_more (λ k. let r = get_or (set xs n row) k no_row in IsCalendar s c k r.week r.at r.n) n
+      (λ k m. rw (other xs n k row (λ e. omega arith)) (L.row k m))
+      (rw (get_or-set_same xs n row no_row l) is);
 }
 
 -- the round-the-clock calendar stands in every row from n on
 abbrev pub Clocks : ℕ → List PlanCalendar → Type 0
-Clocks n xs = (k : ℕ) → n ≤ k → k < length xs → (d : PlanCalendar) → let r = get_or xs k d in (r.week ≡ round_the_clock) × (r.at ≡ 0) × (r.n ≡ 0) × (r.day_length ≡ 1440)
+Clocks n xs = (k : ℕ) → n ≤ k → k < length xs → let r = get_or xs k no_row in (r.week ≡ round_the_clock) × (r.at ≡ 0) × (r.n ≡ 0) × (r.day_length ≡ 1440)
 
 pub clocks_first : (n : ℕ) (row : PlanCalendar) → row.week ≡ round_the_clock → row.at ≡ 0 → row.n ≡ 0 → row.day_length ≡ 1440 → Clocks 0 (replicate n row)
-clocks_first n row week at count day k l m d = rw (get_or-replicate n k row d (rw (length-replicate n row) at m)) (week, at, count, day)
+clocks_first n row week at count day k l m = rw (get_or-replicate n k row no_row (rw (length-replicate n row) at m)) (week, at, count, day)
 
 pub clocks_more : (n : ℕ) (xs : List PlanCalendar) (row : PlanCalendar) → Clocks n xs → Clocks (n + 1) (set xs n row)
-clocks_more n xs row C k l m d = rw (other xs n k row d (λ e. omega arith)) (C k (omega arith) (rw (length-set xs n row) at m) d)
+clocks_more n xs row C k l m = rw (other xs n k row (λ e. omega arith)) (C k (omega arith) (rw (length-set xs n row) at m))
 
 -- ---- the day lengths
 abbrev pub Measured : List ℕ → ℕ → List PlanCalendar → Type 0
-Measured s n calendars = (k : ℕ) → k < n → (d : PlanCalendar) → (get_or calendars k d).day_length ≡ day_length_at s (calendar_at s k)
+Measured s n calendars = (k : ℕ) → k < n → (get_or calendars k no_row).day_length ≡ day_length_at s (calendar_at s k)
 
 pub measured_more : (s : List ℕ) (n : ℕ) (xs : List PlanCalendar) → Measured s n xs → n < length xs
     → (at : ℕ) → at ≡ calendar_at s n → (row : PlanCalendar) → row.day_length ≡ day_length_at s at → Measured s (n + 1) (set xs n row)
 measured_more s n xs M l at here row is =
-    below_more (λ k. (d : PlanCalendar) → (get_or (set xs n row) k d).day_length ≡ day_length_at s (calendar_at s k)) n
-    (λ k m d. rw (other xs n k row d (λ e. omega arith)) (M k m d))
-    (λ d. rw (get_or-set_same xs n row d l) is ∙ ap (day_length_at s) here)
+    below_more (λ k. (get_or (set xs n row) k no_row).day_length ≡ day_length_at s (calendar_at s k)) n
+    (λ k m. rw (other xs n k row (λ e. omega arith)) (M k m))
+    (rw (get_or-set_same xs n row no_row l) is ∙ ap (day_length_at s) here)
 
 module _ (s : List ℕ) (c : Contents) (read : SheetRead s c) where
   length_named : (k : ℕ) → k < c.calendars → day_length_of_calendar s c k ≡ day_length_at s (calendar_at s k)
@@ -104,9 +104,9 @@ module _ (s : List ℕ) (c : Contents) (read : SheetRead s c) where
   unfolding plan_of
   measured_all xs M l C = record {
     size = l;
-    is = λ j m d.
-        ⊎_elim (λ b. M j b d ∙ sym (length_named j b))
-        (λ b. let e : j ≡ c.calendars = omega arith in rw e ((C c.calendars (omega arith) l d).3 ∙ sym length_last)) (lt_or_le j c.calendars);
+    is = λ j m.
+        ⊎_elim (λ b. M j b ∙ sym (length_named j b))
+        (λ b. let e : j ≡ c.calendars = omega arith in rw e ((C c.calendars (omega arith) l).3 ∙ sym length_last)) (lt_or_le j c.calendars);
     low = λ j m.
         ⊎_elim (λ b. rw (length_named j b) (day_length_in s (calendar_at s j) (read.calendar j b).fields))
         (λ (b : c.calendars ≤ j). let e : j ≡ c.calendars = omega arith in rw (e, length_last) (omega arith)) (lt_or_le j c.calendars);
@@ -116,8 +116,8 @@ module _ (s : List ℕ) (c : Contents) (read : SheetRead s c) where
   pub located_all : (xs : List PlanCalendar) → Located s c c.calendars xs → c.calendars < length xs → Clocks c.calendars xs → Places s c xs
   located_all xs L l C = record {
     size = omega (arith, l);
-    row = below_more (λ k. (d : PlanCalendar) → let r = get_or xs k d in IsCalendar s c k r.week r.at r.n) c.calendars L.row
-        (λ d. let r = C c.calendars (omega arith) l d in
+    row = below_more (λ k. let r = get_or xs k no_row in IsCalendar s c k r.week r.at r.n) c.calendars L.row
+        (let r = C c.calendars (omega arith) l in
         record {
           week_is = r.0 ∙ sym (week_last s c c.calendars (omega arith));
           at_is = r.1 ∙ sym (place_last s c c.calendars (omega arith));

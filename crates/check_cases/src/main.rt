@@ -7,6 +7,7 @@ ghost use Rattle.sheet.specs.Known.{SheetRead};
 ghost use Rattle.order.specs.Plan.{plan_of};
 ghost use Rattle.calendars.specs.Calendars.{Places, Lengths};
 
+use calendars::PlanCalendar;
 use checks::PlanCounts;
 use order::PlanError;
 use sheet::Contents;
@@ -82,14 +83,13 @@ fn check_lent(
     rt: &impl Print,
     sheet: &[u8],
     contents: Contents,
-    places: &[u64],
-    lengths: &[u64],
+    calendars: &[PlanCalendar],
     names: &mut [u32],
     work: &mut [i64],
 ) -> io::Result<()>
-    requires { SheetRead sheet.now contents × Places sheet.now contents places.now × Lengths (plan_of sheet.now contents) lengths.now × (max (contents.activities + 1) contents.links ≤ length names.old) × (64 * contents.activities + 16 * contents.links ≤ length work.old) }
+    requires { SheetRead sheet.now contents × Places sheet.now contents calendars.now × Lengths (plan_of sheet.now contents) calendars.now × (max (contents.activities + 1) contents.links ≤ length names.old) × (64 * contents.activities + 16 * contents.links ≤ length work.old) }
 {
-    match checks::check_plan(sheet, contents, places, lengths, names, work) {
+    match checks::check_plan(sheet, contents, calendars, names, work) {
         Ok(counts) => print_fine(rt, names, counts),
         Err(error) => print_refused(rt, names, work, error),
     }
@@ -102,14 +102,10 @@ fn check_read(rt: &impl Print, sheet: &[u8], contents: Contents) -> io::Result<(
     if contents.activities > 64 || contents.links > 128 {
         return print!(rt; " no room");
     }
-    let mut places = [0u64; 450];
-    let mut lengths = [0u64; 16];
-    calendars::locate(sheet, contents, &mut places, &mut lengths);
+    let calendars = calendars::locate(sheet, contents);
     let mut names = [7u32; 128];
     let mut work = [7i64; 6144];
-    check_lent(
-        rt, sheet, contents, &places, &lengths, &mut names, &mut work,
-    )
+    check_lent(rt, sheet, contents, &calendars, &mut names, &mut work)
 }
 
 // The line of a sheet.

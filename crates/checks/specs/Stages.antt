@@ -13,6 +13,7 @@ use Rattle.order.specs.FineLaws.{ActivitiesFine, ParentsKnown}
 use Rattle.ids.specs.Index.{Indexed}
 use Rattle.ids.specs.Parented.{Parented}
 use Rattle.ids.specs.Answers.{Answered}
+use Rattle.calendars.specs.declared.plan_calendar.PlanCalendar.{PlanCalendar}
 use Rattle.dates.specs.Standing.{Standing, Ready}
 use Rattle.checks.specs.declared.PlanCounts.{PlanCounts}
 use Rattle.checks.specs.Names.{then_zeros}
@@ -66,10 +67,10 @@ module _ (p : Plan) (v : Verdict) (size room : ℕ) (names : List ℕ) (work : L
   Judged (Err e) = RefusedAs e
 
 -- ---- all of them: names and memory before and after
-module _ (s : List ℕ) (contents : Contents) (places names : List ℕ) (work : List ℤ) (names' : List ℕ) (work' : List ℤ) where
+module _ (s : List ℕ) (contents : Contents) (calendars : List PlanCalendar) (names : List ℕ) (work : List ℤ) (names' : List ℕ) (work' : List ℤ) where
   pub record PlanFine (c : PlanCounts) : Type 0 where
     pub fine : (checked (plan_of s contents)).number ≡ 0
-    pub ready : Ready s contents places c.kept work'
+    pub ready : Ready s contents calendars c.kept work'
     pub elsewhere : Elsewhere contents.activities contents.links c.kept work'
     pub named : names' ≡ then_zeros (ignored_links (plan_of s contents)) names
     pub ignored : c.ignored ≡ length (ignored_links (plan_of s contents))

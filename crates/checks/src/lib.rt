@@ -21,6 +21,7 @@ ghost use Rattle.checks.specs.Column.{LoopIn};
 ghost use Rattle.checks.specs.StoredLinks.{StoredLinks};
 ghost use Rattle.checks.specs.Stages.{links_verdict, summaries_verdict, Prepared, IdsChecked, Judged, PlanChecked};
 
+use calendars::PlanCalendar;
 use ids::SummaryError;
 use links::LinkCounts;
 use memory::fields;
@@ -157,13 +158,13 @@ fn refuse(names: &mut [u32], work: &mut [i64], error: PlanError) -> Result<PlanC
 fn check_ids(
     sheet: &[u8],
     contents: Contents,
-    places: &[u64],
+    calendars: &[PlanCalendar],
     work: &mut [i64],
 ) -> Result<(), PlanError>
-    requires { Lent sheet.now contents work.old × Places sheet.now contents places.now }
+    requires { Lent sheet.now contents work.old × Places sheet.now contents calendars.now }
     ensures { IdsChecked (plan_of sheet.now contents) result (state_in contents work.new) × (length work.new ≡ length work.old) }
 {
-    if !calendars::have_hours(sheet, contents, places) {
+    if !calendars::have_hours(sheet, contents, calendars) {
         return Err(PlanError::NoHours);
     }
     ids::index_all(sheet, contents, work)?;
@@ -174,15 +175,15 @@ fn check_ids(
 fn check_links(
     sheet: &[u8],
     contents: Contents,
-    lengths: &[u64],
+    calendars: &[PlanCalendar],
     names: &mut [u32],
     work: &mut [i64],
 ) -> Result<PlanCounts, PlanError>
-    requires { Lent sheet.now contents work.old × Prepared (plan_of sheet.now contents) (state_in contents work.old) × Lengths (plan_of sheet.now contents) lengths.now × (contents.activities < length names.old) × (contents.links ≤ length names.old) }
+    requires { Lent sheet.now contents work.old × Prepared (plan_of sheet.now contents) (state_in contents work.old) × Lengths (plan_of sheet.now contents) calendars.now × (contents.activities < length names.old) × (contents.links ≤ length names.old) }
     ensures { Judged (plan_of sheet.now contents) (links_verdict (plan_of sheet.now contents)) (length names.old) (length work.old) names.new work.new result }
 {
     cells::clear_u32(names);
-    match links::link_all(sheet, contents, lengths, names, work) {
+    match links::link_all(sheet, contents, calendars, names, work) {
         Ok(counts) => check_order(sheet, contents, names, work, counts),
         Err(error) => refuse(names, work, error),
     }
@@ -192,15 +193,15 @@ fn check_links(
 fn check_summaries(
     sheet: &[u8],
     contents: Contents,
-    lengths: &[u64],
+    calendars: &[PlanCalendar],
     names: &mut [u32],
     work: &mut [i64],
 ) -> Result<PlanCounts, PlanError>
-    requires { Lent sheet.now contents work.old × Prepared (plan_of sheet.now contents) (state_in contents work.old) × Lengths (plan_of sheet.now contents) lengths.now × (contents.activities < length names.old) × (contents.links ≤ length names.old) }
+    requires { Lent sheet.now contents work.old × Prepared (plan_of sheet.now contents) (state_in contents work.old) × Lengths (plan_of sheet.now contents) calendars.now × (contents.activities < length names.old) × (contents.links ≤ length names.old) }
     ensures { Judged (plan_of sheet.now contents) (summaries_verdict (plan_of sheet.now contents)) (length names.old) (length work.old) names.new work.new result }
 {
     match ids::summaries(sheet, contents, work) {
-        Ok(()) => check_links(sheet, contents, lengths, names, work),
+        Ok(()) => check_links(sheet, contents, calendars, names, work),
         Err(SummaryError::Milestone(id)) => refuse(names, work, PlanError::MilestoneParent(id)),
         Err(SummaryError::Loop { first, steps }) => {
             name_parents(sheet, contents, names, work, first, steps);
@@ -215,16 +216,15 @@ fn check_summaries(
 pub fn check_plan(
     sheet: &[u8],
     contents: Contents,
-    places: &[u64],
-    lengths: &[u64],
+    calendars: &[PlanCalendar],
     names: &mut [u32],
     work: &mut [i64],
 ) -> Result<PlanCounts, PlanError>
-    requires { SheetRead sheet.now contents × Room contents.activities contents.links work.old × Places sheet.now contents places.now × Lengths (plan_of sheet.now contents) lengths.now × (max (contents.activities + 1) contents.links ≤ length names.old) }
-    ensures { PlanChecked sheet.now contents places.now names.old work.old names.new work.new result }
+    requires { SheetRead sheet.now contents × Room contents.activities contents.links work.old × Places sheet.now contents calendars.now × Lengths (plan_of sheet.now contents) calendars.now × (max (contents.activities + 1) contents.links ≤ length names.old) }
+    ensures { PlanChecked sheet.now contents calendars.now names.old work.old names.new work.new result }
 {
-    match check_ids(sheet, contents, places, work) {
-        Ok(()) => check_summaries(sheet, contents, lengths, names, work),
+    match check_ids(sheet, contents, calendars, work) {
+        Ok(()) => check_summaries(sheet, contents, calendars, names, work),
         Err(error) => refuse(names, work, error),
     }
 }

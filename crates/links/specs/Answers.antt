@@ -12,18 +12,19 @@ use Rattle.order.specs.Refusals.{refused}
 use Rattle.ids.specs.Index.{Indexed}
 use Rattle.ids.specs.Parented.{Parented}
 use Rattle.ids.specs.Lent.{Lent, state_in}
+use Rattle.calendars.specs.declared.plan_calendar.PlanCalendar.{PlanCalendar}
 use Rattle.calendars.specs.Calendars.{Lengths}
 use Rattle.links.specs.declared.LinkCounts.{LinkCounts}
 use Rattle.links.specs.Stored.{tie_in, Stored}
 
 -- what a link's checks are lent: rows 6 to 12 are fine, and the memory has the index of ids, parents and summaries
-pub record Judging (s : List ℕ) (c : Contents) (lengths : List ℕ) (xs : List ℤ) : Type 0 where
+pub record Judging (s : List ℕ) (c : Contents) (calendars : List PlanCalendar) (xs : List ℤ) : Type 0 where
   pub lent : Lent s c xs
   pub distinct : DistinctIds (plan_of s c)
   pub indexed : Indexed (plan_of s c) (state_in c xs) c.activities
   pub parented : Parented (plan_of s c) (state_in c xs) c.activities
   pub activities : ActivitiesFine (plan_of s c)
-  pub lengths_are : Lengths (plan_of s c) lengths
+  pub lengths_are : Lengths (plan_of s c) calendars
 
 -- T has the activities of S
 pub record ActsKept (S T : State) : Type 0 where

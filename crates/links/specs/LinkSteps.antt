@@ -9,6 +9,7 @@ use Rattle.project.specs.Records.{relationship_type_of}
 use Rattle.memory.specs.State.{State}
 use Rattle.memory.specs.Fields.{from_field, to_field, kind_field, lag_field, lag_calendar_field}
 use Rattle.sheet.specs.declared.Contents.{Contents}
+use Rattle.calendars.specs.declared.plan_calendar.PlanCalendar.{PlanCalendar}
 use Rattle.order.specs.Plan.{Plan, plan_of}
 use Rattle.order.specs.Ties.{tie_of, kept_below, ignored_below}
 use Rattle.order.specs.TieLaws.{kept_none, ignored_none, kept_ignored, ignored_ignored, kept_kept, ignored_kept, kept_and_ignored}
@@ -34,8 +35,8 @@ module _ (p : Plan) {S T : State} (K : ActsKept S T) (n : ℕ) where
   pub parented_kept : Parented p S n → Parented p T n
   parented_kept P = record { parents = rw K.acts P.parents; marks = rw K.acts P.marks }
 
-pub judging_kept : {s : List ℕ} {c : Contents} {lengths : List ℕ} {xs ys : List ℤ} → Judging s c lengths xs → ActsKept (state_in c xs) (state_in c ys)
-    → length ys ≡ length xs → Judging s c lengths ys
+pub judging_kept : {s : List ℕ} {c : Contents} {calendars : List PlanCalendar} {xs ys : List ℤ} → Judging s c calendars xs → ActsKept (state_in c xs) (state_in c ys)
+    → length ys ≡ length xs → Judging s c calendars ys
 judging_kept {s} {c} J K e = record {
   lent = record { read = J.lent.read; room = omega (arith, J.lent.room) };
   distinct = J.distinct;

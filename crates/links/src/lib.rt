@@ -17,6 +17,7 @@ ghost use Rattle.calendars.specs.Calendars.{Lengths};
 ghost use Rattle.links.specs.Stored.{with_tie, Stored};
 ghost use Rattle.links.specs.Answers.{Judging, LinkedOne, LinkedAll, ActsKept};
 
+use calendars::PlanCalendar;
 use order::PlanError;
 use sheet::Contents;
 
@@ -39,18 +40,18 @@ fn kind_code(sheet: &[u8], contents: Contents, k: usize) -> u64
 fn tie_lag(
     sheet: &[u8],
     contents: Contents,
-    lengths: &[u64],
+    calendars: &[PlanCalendar],
     k: usize,
     from: usize,
     to: usize,
     calendar: u64,
 ) -> i64
-    requires { SheetRead sheet.now contents × (k < contents.links) × ActivitiesFine (plan_of sheet.now contents) × Lengths (plan_of sheet.now contents) lengths.now × Between (plan_of sheet.now contents) k from to × (tie_too_long (plan_of sheet.now contents) k ≡ false) × (calendar ≡ tie_calendar (plan_of sheet.now contents) k) × (calendar ≤ contents.calendars) }
+    requires { SheetRead sheet.now contents × (k < contents.links) × ActivitiesFine (plan_of sheet.now contents) × Lengths (plan_of sheet.now contents) calendars.now × Between (plan_of sheet.now contents) k from to × (tie_too_long (plan_of sheet.now contents) k ≡ false) × (calendar ≡ tie_calendar (plan_of sheet.now contents) k) × (calendar ≤ contents.calendars) }
     ensures { result ≡ (tie_of (plan_of sheet.now contents) k).lag }
 {
     let lag = ties::link_fields::lag_of(sheet, contents, k);
     let minutes = ids::activity_fields::minutes_of(sheet, contents, from);
-    ties::lags::lag_minutes(lag, lengths[calendar as usize], minutes as i64)
+    ties::lags::lag_minutes(lag, calendars[calendar as usize].day_length, minutes as i64)
 }
 
 // Puts a link into row `t` of the link table.
@@ -79,19 +80,19 @@ fn put_tie(
 fn store_tie(
     sheet: &[u8],
     contents: Contents,
-    lengths: &[u64],
+    calendars: &[PlanCalendar],
     work: &mut [i64],
     k: usize,
     from: usize,
     to: usize,
     t: usize,
 )
-    requires { Lent sheet.now contents work.old × (k < contents.links) × ActivitiesFine (plan_of sheet.now contents) × Lengths (plan_of sheet.now contents) lengths.now × Between (plan_of sheet.now contents) k from to × (tie_too_long (plan_of sheet.now contents) k ≡ false) × (t < contents.links) }
+    requires { Lent sheet.now contents work.old × (k < contents.links) × ActivitiesFine (plan_of sheet.now contents) × Lengths (plan_of sheet.now contents) calendars.now × Between (plan_of sheet.now contents) k from to × (tie_too_long (plan_of sheet.now contents) k ≡ false) × (t < contents.links) }
     ensures { Stored (plan_of sheet.now contents) k t (state_in contents work.old) (state_in contents work.new) × (length work.new ≡ length work.old) }
 {
     let kind = kind_code(sheet, contents, k);
     let calendar = ties::tie_calendar(sheet, contents, k, from, to);
-    let lag = tie_lag(sheet, contents, lengths, k, from, to, calendar);
+    let lag = tie_lag(sheet, contents, calendars, k, from, to, calendar);
     put_tie(
         work,
         contents.activities,
@@ -109,16 +110,16 @@ fn store_tie(
 fn link_one(
     sheet: &[u8],
     contents: Contents,
-    lengths: &[u64],
+    calendars: &[PlanCalendar],
     names: &mut [u32],
     work: &mut [i64],
     k: usize,
     counts: LinkCounts,
 ) -> Result<LinkCounts, PlanError>
-    requires { Judging sheet.now contents lengths.now work.old × (k < contents.links) × (counts.kept < contents.links) × (counts.ignored < length names.old) }
+    requires { Judging sheet.now contents calendars.now work.old × (k < contents.links) × (counts.kept < contents.links) × (counts.ignored < length names.old) }
     ensures { LinkedOne (plan_of sheet.now contents) k counts (state_in contents work.old) (state_in contents work.new) names.old names.new result × (length work.new ≡ length work.old) × (length names.new ≡ length names.old) }
 {
-    let Some(ends) = ties::link_check(sheet, contents, work, lengths, k)? else {
+    let Some(ends) = ties::link_check(sheet, contents, work, calendars, k)? else {
         names[counts.ignored] = k as u32;
         return Ok(LinkCounts {
             ignored: counts.ignored + 1,
@@ -128,7 +129,7 @@ fn link_one(
     store_tie(
         sheet,
         contents,
-        lengths,
+        calendars,
         work,
         k,
         ends.from,
@@ -145,11 +146,11 @@ fn link_one(
 pub fn link_all(
     sheet: &[u8],
     contents: Contents,
-    lengths: &[u64],
+    calendars: &[PlanCalendar],
     names: &mut [u32],
     work: &mut [i64],
 ) -> Result<LinkCounts, PlanError>
-    requires { Lent sheet.now contents work.old × DistinctIds (plan_of sheet.now contents) × Indexed (plan_of sheet.now contents) (state_in contents work.old) contents.activities × Parented (plan_of sheet.now contents) (state_in contents work.old) contents.activities × ActivitiesFine (plan_of sheet.now contents) × Lengths (plan_of sheet.now contents) lengths.now × (contents.links ≤ length names.old) }
+    requires { Lent sheet.now contents work.old × DistinctIds (plan_of sheet.now contents) × Indexed (plan_of sheet.now contents) (state_in contents work.old) contents.activities × Parented (plan_of sheet.now contents) (state_in contents work.old) contents.activities × ActivitiesFine (plan_of sheet.now contents) × Lengths (plan_of sheet.now contents) calendars.now × (contents.links ≤ length names.old) }
     ensures { LinkedAll (plan_of sheet.now contents) (state_in contents work.new) names.old names.new result × ActsKept (state_in contents work.old) (state_in contents work.new) × (length work.new ≡ length work.old) × (length names.new ≡ length names.old) }
 {
     let mut counts = LinkCounts {
@@ -157,7 +158,7 @@ pub fn link_all(
         ignored: 0,
     };
     for k in 0..contents.links {
-        counts = link_one(sheet, contents, lengths, names, work, k, counts)?;
+        counts = link_one(sheet, contents, calendars, names, work, k, counts)?;
     }
     Ok(counts)
 }

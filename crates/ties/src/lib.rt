@@ -16,6 +16,7 @@ ghost use Rattle.ties.specs.Ends.{Between, EndsOf};
 ghost use Rattle.calendars.specs.Calendars.{Lengths};
 ghost use Rattle.ties.specs.Checked.{LinkAnswered};
 
+use calendars::PlanCalendar;
 use order::PlanError;
 use sheet::Contents;
 
@@ -75,22 +76,22 @@ pub fn tie_calendar(sheet: &[u8], contents: Contents, k: usize, from: usize, to:
     lags::lag_calendar(lag, by, pred, succ, contents.calendars as u64)
 }
 
-// Row 8 for the lag of link `k`; `lengths` has the day length of each calendar, and of the round-the-clock one.
+// Row 8 for the lag of link `k`; `calendars` has the day length of each calendar, and of the round-the-clock one.
 pub fn is_tie_too_long(
     sheet: &[u8],
     contents: Contents,
-    lengths: &[u64],
+    calendars: &[PlanCalendar],
     k: usize,
     from: usize,
     to: usize,
 ) -> bool
-    requires { SheetRead sheet.now contents × (k < contents.links) × ActivitiesFine (plan_of sheet.now contents) × Between (plan_of sheet.now contents) k from to × Lengths (plan_of sheet.now contents) lengths.now }
+    requires { SheetRead sheet.now contents × (k < contents.links) × ActivitiesFine (plan_of sheet.now contents) × Between (plan_of sheet.now contents) k from to × Lengths (plan_of sheet.now contents) calendars.now }
     ensures { result ≡ tie_too_long (plan_of sheet.now contents) k }
 {
     let calendar = tie_calendar(sheet, contents, k, from, to);
     let lag = link_fields::lag_of(sheet, contents, k);
     let minutes = ids::activity_fields::minutes_of(sheet, contents, from);
-    lags::is_lag_too_long(lag, lengths[calendar as usize], minutes as i64)
+    lags::is_lag_too_long(lag, calendars[calendar as usize].day_length, minutes as i64)
 }
 
 // Rows 13, 14 and 8 for link `k`: where it is fine, its ends if it is kept, and none if it is ignored.
@@ -98,10 +99,10 @@ pub fn link_check(
     sheet: &[u8],
     contents: Contents,
     work: &[i64],
-    lengths: &[u64],
+    calendars: &[PlanCalendar],
     k: usize,
 ) -> Result<Option<Ends>, PlanError>
-    requires { Lent sheet.now contents work.now × (k < contents.links) × DistinctIds (plan_of sheet.now contents) × Indexed (plan_of sheet.now contents) (state_in contents work.now) contents.activities × Parented (plan_of sheet.now contents) (state_in contents work.now) contents.activities × ActivitiesFine (plan_of sheet.now contents) × Lengths (plan_of sheet.now contents) lengths.now }
+    requires { Lent sheet.now contents work.now × (k < contents.links) × DistinctIds (plan_of sheet.now contents) × Indexed (plan_of sheet.now contents) (state_in contents work.now) contents.activities × Parented (plan_of sheet.now contents) (state_in contents work.now) contents.activities × ActivitiesFine (plan_of sheet.now contents) × Lengths (plan_of sheet.now contents) calendars.now }
     ensures { LinkAnswered (plan_of sheet.now contents) k result }
 {
     let ends = link_ends(sheet, contents, work, k)?;
@@ -114,7 +115,7 @@ pub fn link_check(
     ) {
         return Ok(None);
     }
-    if is_tie_too_long(sheet, contents, lengths, k, ends.from, ends.to) {
+    if is_tie_too_long(sheet, contents, calendars, k, ends.from, ends.to) {
         return Err(PlanError::TooLong);
     }
     Ok(Some(ends))

@@ -5,17 +5,13 @@ use Rattle.std.proofs.Math.ListN.{get_or}
 use Rattle.std.specs.Prelude.{◌≡◌, List, [], ℕ, min}
 use Rattle.sheet.specs.declared.Contents.{Contents}
 use Rattle.calendars.specs.declared.plan_calendar.PlanCalendar.{PlanCalendar}
-use Rattle.calendars.specs.Calendars.{IsCalendar, Places}
+use Rattle.calendars.specs.Calendars.{IsCalendar, Places, no_row}
 use Rattle.calendars.proofs.calendar_of.Goals as goal
-
--- what stands where there is no row
-abbrev none : PlanCalendar
-none = record { week = []; at = 0; n = 0; day_length = 0 }
 
 -- the row that is taken
 row : {s : List ℕ} {c : Contents} {calendars : List PlanCalendar} → Places s c calendars → (k i : ℕ) → i ≡ min k c.calendars
-    → let r = get_or calendars i none in IsCalendar s c k r.week r.at r.n
-row P k i e = rw e (in_row P k none)
+    → let r = get_or calendars i no_row in IsCalendar s c k r.week r.at r.n
+row P k i e = rw e (in_row P k)
 
 pub invariant_of-result : goal.invariant_of-result
 invariant_of-result c = let v = calendar_valid (row c.requires.1 c.args.k c.min.result c.min.ensures) c.requires.0 in record { listed = (v.long, v.sorted) }

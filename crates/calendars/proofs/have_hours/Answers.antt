@@ -15,13 +15,13 @@ loop-k-init c =
 pub loop-k-preserved : goal.loop-k-preserved
 loop-k-preserved c =
     let x = c.args in
-    let w = (c.requires.1.row c.loop-k.k (omega arith) _).week_is in
+    let w = (c.requires.1.row c.loop-k.k (omega arith)).week_is in
     (omega arith, sym (hours_turn x.sheet.now x.contents c.loop-k.k _ w c.loop-k-test.true (sym c.has_hours.ensures ∙ search rules)) ∙ c.loop-k.invariant.1)
 
 pub returns-then-not-has_hours : goal.returns-then-not-has_hours
 returns-then-not-has_hours c =
     let x = c.args in
-    let w = (c.requires.1.row c.loop-k.k (omega arith) _).week_is in
+    let w = (c.requires.1.row c.loop-k.k (omega arith)).week_is in
     sym (hours_stop x.sheet.now x.contents c.loop-k.k _ w c.loop-k-test.true (sym c.has_hours.ensures ∙ search rules)) ∙ c.loop-k.invariant.1
 
 pub returns : goal.returns

@@ -20,8 +20,8 @@ returns-in-Err c =
     let room = length x.work.now in
     let a = c.in-Err.ensures in
     let r = c.refuse.ensures in
-    subst (PlanChecked x.sheet.now x.contents x.places.now x.names.now x.work.now _ _) (sym r.0)
-    (plan_checked_lem x.sheet.now x.contents x.places.now x.names.now x.work.now _ _ c.requires.0 c.requires.2 (λ e. omega (arith, c.requires.1))
+    subst (PlanChecked x.sheet.now x.contents x.calendars.now x.names.now x.work.now _ _) (sym r.0)
+    (plan_checked_lem x.sheet.now x.contents x.calendars.now x.names.now x.work.now _ _ c.requires.0 c.requires.2 (λ e. omega (arith, c.requires.1))
     (Err c.in-Err.error)
     (first_refused p (ids_verdict p) (summaries_verdict p) size room _ _
     (plain_refused p (ids_verdict p) size room _ _ c.in-Err.error (sym a.0.answered.is) r.1 (r.2 ∙ ap (λ (k : ℕ). replicate k (pos 0)) a.1))))
@@ -34,6 +34,6 @@ returns-in-Ok c =
     let o = c.check_summaries in
     let names = o.new.names in
     let work = o.new.work in
-    plan_checked_lem x.sheet.now x.contents x.places.now x.names.now x.work.now names work c.requires.0 c.requires.2 (λ e. omega (arith, c.requires.1)) o.result
+    plan_checked_lem x.sheet.now x.contents x.calendars.now x.names.now x.work.now names work c.requires.0 c.requires.2 (λ e. omega (arith, c.requires.1)) o.result
     (then_judged p (ids_verdict p) (summaries_verdict p) (length x.names.now) (length x.work.now) names work (fine_number a.0.answered) o.result
     (judged_sizes p (summaries_verdict p) names work o.result refl a.1 o.ensures))

@@ -11,9 +11,9 @@ pub minutes_of-minutes-requires : goal.minutes_of-minutes-requires
 unfolding plan_of
 minutes_of-minutes-requires c = let h = c.requires in (h.0, omega (arith, h.4.from_below, h.4.to_below))
 
-pub bounds-lengths-calendar : goal.bounds-lengths-calendar
+pub bounds-calendars-calendar : goal.bounds-calendars-calendar
 unfolding plan_of
-bounds-lengths-calendar c = let h = c.requires in omega (arith, h.7, h.3.size)
+bounds-calendars-calendar c = let h = c.requires in omega (arith, h.7, h.3.size)
 
 pub lag_minutes-requires : goal.lag_minutes-requires
 unfolding plan_of

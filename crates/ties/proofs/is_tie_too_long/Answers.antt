@@ -10,9 +10,9 @@ pub minutes_of-minutes-requires : goal.minutes_of-minutes-requires
 unfolding plan_of
 minutes_of-minutes-requires c = let h = c.requires in (h.0, h.3.from_below)
 
-pub bounds-lengths-calendar : goal.bounds-lengths-calendar
+pub bounds-calendars-calendar : goal.bounds-calendars-calendar
 unfolding plan_of
-bounds-lengths-calendar c = omega (arith, c.tie_calendar-calendar.ensures.1, c.requires.4.size)
+bounds-calendars-calendar c = omega (arith, c.tie_calendar-calendar.ensures.1, c.requires.4.size)
 
 pub is_lag_too_long-requires : goal.is_lag_too_long-requires
 unfolding plan_of
