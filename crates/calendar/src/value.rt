@@ -1,4 +1,6 @@
 // A work calendar as a value: its week and its E records.
+#![tactic(auto)]
+
 ghost use Rattle.calendar.specs.Records.{Valid};
 ghost use Rattle.calendar.specs.Props.{props};
 
@@ -11,4 +13,19 @@ pub struct Calendar<'a> {
     pub week: &'a [[Period; 8]; 7],
     pub exceptions: Exceptions<'a>,
     ghost valid: { Valid week.now exceptions.sheet.now exceptions.at exceptions.n } by { Prim.hlevel props },
+}
+
+impl<'a> Calendar<'a> {
+    ghost use Rattle.std.specs.Prelude.{◌≡◌};
+
+    // The calendar of a week and of the `n` E records from the byte `at` of the sheet on.
+    pub fn new(week: &'a [[Period; 8]; 7], sheet: &'a [u8], at: usize, n: usize) -> Calendar<'a>
+        requires { Valid week.now sheet.now at n }
+        ensures { (result.week.now ≡ week.now) × (result.exceptions.sheet.now ≡ sheet.now) × (result.exceptions.at ≡ at) × (result.exceptions.n ≡ n) }
+    {
+        Calendar {
+            week,
+            exceptions: Exceptions { sheet, at, n },
+        }
+    }
 }

@@ -8,7 +8,7 @@ ghost use Rattle.order.specs.Plan.{plan_of};
 ghost use Rattle.order.specs.Checks.{first_of, judge_calendar};
 ghost use Rattle.calendars.specs.Calendars.{Places, Lengths, InPlan, hours_verdict};
 
-use calendar::{Calendar, Exceptions};
+use calendar::Calendar;
 use sheet::Contents;
 
 mod plan_calendar;
@@ -61,14 +61,7 @@ pub fn calendar_of<'a>(
     ensures { InPlan sheet.now contents k result }
 {
     let row = &calendars[k.min(contents.calendars)];
-    Calendar {
-        week: &row.week,
-        exceptions: Exceptions {
-            sheet,
-            at: row.at,
-            n: row.n,
-        },
-    }
+    Calendar::new(&row.week, sheet, row.at, row.n)
 }
 
 // Row 5 for all calendars: whether each has weekly hours.

@@ -4,11 +4,10 @@
 
 ghost use Rattle.std.specs.Prelude.{◌≡◌, Ok, ℕ, ◌+◌, ◌*◌, ◌^◌, min, ◌≤◌, ◌<◌, length};
 ghost use Rattle.number.specs.Zed.{dn};
-ghost use Rattle.calendar.specs.Records.{Valid};
 ghost use Rattle.sheet.specs.declared.runs.RecordKind.TheVariants.{Week, Exception};
 ghost use Rattle.sheet.specs.Reading.{run_of};
 
-use calendar::Period;
+use calendar::{Calendar, Period};
 use sheet::runs::RecordKind;
 use std::{fs, io};
 use worktime::ClockError;
@@ -78,21 +77,17 @@ fn lag_at(file: &[u8], at: usize) -> i64
 // The functions of a time that answer a time.
 fn answer_walk(
     rt: &impl Print,
-    week: [[Period; 8]; 7],
+    calendar: &Calendar,
     file: &[u8],
-    at: usize,
-    n: usize,
     code: u64,
     t: u64,
-) -> io::Result<()>
-    requires { Valid week file.now at n }
-{
+) -> io::Result<()> {
     let walk = match code {
-        1 => clock::next_start(week, file, at, n, t),
-        2 => clock::previous_finish(week, file, at, n, t),
-        3 => clock::next_finish(week, file, at, n, t),
-        4 => clock::previous_start(week, file, at, n, t),
-        _ => clock::start_by(week, file, at, n, t),
+        1 => clock::next_start(calendar, t),
+        2 => clock::previous_finish(calendar, t),
+        3 => clock::next_finish(calendar, t),
+        4 => clock::previous_start(calendar, t),
+        _ => clock::start_by(calendar, t),
     };
     print_walk(rt, walk)
 }
@@ -100,71 +95,60 @@ fn answer_walk(
 // The functions of a time that answer a test or a count.
 fn answer_count(
     rt: &impl Print,
-    week: [[Period; 8]; 7],
+    calendar: &Calendar,
     file: &[u8],
-    at: usize,
-    n: usize,
     code: u64,
     t: u64,
-) -> io::Result<()>
-    requires { Valid week file.now at n }
-{
+) -> io::Result<()> {
     match code {
-        6 => print_working(rt, clock::working_at(week, file, at, n, t)),
-        7 => print_work(rt, clock::worked_before(week, file, at, n, t)),
-        _ => print_work(rt, clock::day_work(week, file, at, n, t / 1440)),
+        6 => print_working(rt, clock::working_at(calendar, t)),
+        7 => print_work(rt, clock::worked_before(calendar, t)),
+        _ => print_work(rt, clock::day_work(calendar, t / 1440)),
     }
 }
 
 // The functions of a time and the work that stands at `second`.
 fn answer_move(
     rt: &impl Print,
-    week: [[Period; 8]; 7],
+    calendar: &Calendar,
     file: &[u8],
-    at: usize,
-    n: usize,
     code: u64,
     t: u64,
     second: usize,
 ) -> io::Result<()>
-    requires { Valid week file.now at n × (second + 6 ≤ length file.now) }
+    requires { (second + 6 ≤ length file.now) }
 {
     match code {
         9 => print_walk(
             rt,
-            clock::advance(week, file, at, n, t, number::read_u32(file, second)),
+            clock::advance(calendar, t, number::read_u32(file, second)),
         ),
         10 => print_walk(
             rt,
-            clock::retreat(week, file, at, n, t, number::read_u32(file, second)),
+            clock::retreat(calendar, t, number::read_u32(file, second)),
         ),
-        11 => print_walk(rt, clock::shift(week, file, at, n, t, lag_at(file, second))),
-        _ => print_work(
-            rt,
-            clock::between(week, file, at, n, t, time_at(file, second)),
-        ),
+        11 => print_walk(rt, clock::shift(calendar, t, lag_at(file, second))),
+        _ => print_work(rt, clock::between(calendar, t, time_at(file, second))),
     }
 }
 
 // The answer of the function with a code, on the time `t` and what stands at `second`.
 fn answer(
     rt: &impl Print,
-    week: [[Period; 8]; 7],
+    calendar: &Calendar,
     file: &[u8],
-    at: usize,
-    n: usize,
     code: u64,
     t: u64,
     second: usize,
 ) -> io::Result<()>
-    requires { Valid week file.now at n × (second + 6 ≤ length file.now) }
+    requires { (second + 6 ≤ length file.now) }
 {
     if code < 6 {
-        answer_walk(rt, week, file, at, n, code, t)
+        answer_walk(rt, calendar, file, code, t)
     } else if code < 9 {
-        answer_count(rt, week, file, at, n, code, t)
+        answer_count(rt, calendar, file, code, t)
     } else {
-        answer_move(rt, week, file, at, n, code, t, second)
+        answer_move(rt, calendar, file, code, t, second)
     }
 }
 
@@ -204,15 +188,8 @@ fn print_second(rt: &impl Print, file: &[u8], code: u64, second: usize) -> io::R
 }
 
 // The line of the case that stands at `case`.
-fn print_case(
-    rt: &impl Print,
-    week: [[Period; 8]; 7],
-    file: &[u8],
-    at: usize,
-    n: usize,
-    case: usize,
-) -> io::Result<()>
-    requires { Valid week file.now at n × (case + 13 ≤ length file.now) }
+fn print_case(rt: &impl Print, calendar: &Calendar, file: &[u8], case: usize) -> io::Result<()>
+    requires { (case + 13 ≤ length file.now) }
 {
     let code = number::byte(file, case);
     let t = time_at(file, case + 1);
@@ -220,24 +197,22 @@ fn print_case(
     print_time(rt, t)?;
     print_second(rt, file, code, case + 7)?;
     write(rt, b": ")?;
-    answer(rt, week, file, at, n, code, t, case + 7)?;
+    answer(rt, calendar, file, code, t, case + 7)?;
     write(rt, b"\n")
 }
 
 // The lines of the `count` cases from `from` on.
 fn print_cases(
     rt: &impl Print,
-    week: [[Period; 8]; 7],
+    calendar: &Calendar,
     file: &[u8],
-    at: usize,
-    n: usize,
     from: usize,
     count: usize,
 ) -> io::Result<()>
-    requires { Valid week file.now at n × (from + 13 * count ≤ length file.now) }
+    requires { (from + 13 * count ≤ length file.now) }
 {
     for i in 0..count {
-        print_case(rt, week, file, at, n, from + 13 * i)?;
+        print_case(rt, calendar, file, from + 13 * i)?;
     }
     Ok(())
 }
@@ -250,15 +225,8 @@ struct Ran {
 }
 
 // The cases that follow a calendar, from their mark on, and where they end.
-fn run_cases(
-    rt: &impl Print,
-    week: [[Period; 8]; 7],
-    file: &[u8],
-    at: usize,
-    n: usize,
-    from: usize,
-) -> Ran
-    requires { Valid week file.now at n × (from ≤ length file.now) }
+fn run_cases(rt: &impl Print, calendar: &Calendar, file: &[u8], from: usize) -> Ran
+    requires { (from ≤ length file.now) }
     ensures { (min (from + 1) (length file.now) ≤ result.end) × (result.end ≤ length file.now) }
 {
     if file.len() - from < 3 {
@@ -276,7 +244,7 @@ fn run_cases(
     }
     Ran {
         end: from + 3 + 13 * count,
-        printed: print_cases(rt, week, file, at, n, from + 3, count),
+        printed: print_cases(rt, calendar, file, from + 3, count),
     }
 }
 
@@ -294,7 +262,9 @@ fn run_week(rt: &impl Print, file: &[u8], at: usize, w: usize, from: usize, e: u
     let end = from + 9 * e;
     if sheet::runs::kind_at(file, end) == 1 {
         let head = write(rt, b"round the clock\n");
-        let ran = run_cases(rt, calendar::round_the_clock(), file, end, 0, end);
+        let week = calendar::round_the_clock();
+        let calendar = Calendar::new(&week, file, end, 0);
+        let ran = run_cases(rt, &calendar, file, end);
         return Ran {
             end: ran.end,
             printed: head.and(ran.printed),
@@ -302,7 +272,8 @@ fn run_week(rt: &impl Print, file: &[u8], at: usize, w: usize, from: usize, e: u
     }
     let week = calendar::read_week(file, at, w);
     let head = print_calendar(rt, week, w, e);
-    let ran = run_cases(rt, week, file, from, e, end);
+    let calendar = Calendar::new(&week, file, from, e);
+    let ran = run_cases(rt, &calendar, file, end);
     Ran {
         end: ran.end,
         printed: head.and(ran.printed),

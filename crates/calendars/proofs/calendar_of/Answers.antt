@@ -1,5 +1,4 @@
 -- `calendars::calendar_of` meets its contract: the row has the plan's calendar, which is valid.
-use mathlib.Core.Path.{refl}
 use Rattle.calendars.specs.CalendarLaws.{calendar_valid, in_row}
 use Rattle.std.proofs.Math.ListN.{get_or}
 use Rattle.std.specs.Prelude.{◌≡◌, List, [], ℕ, min}
@@ -13,11 +12,10 @@ row : {s : List ℕ} {c : Contents} {calendars : List PlanCalendar} → Places s
     → let r = get_or calendars i no_row in IsCalendar s c k r.week r.at r.n
 row P k i e = rw e (in_row P k)
 
-pub invariant_of-result : goal.invariant_of-result
-invariant_of-result c = let v = calendar_valid (row c.requires.1 c.args.k c.min.result c.min.ensures) c.requires.0 in record { listed = (v.long, v.sorted) }
-
-pub invariant_of-result-2 : goal.invariant_of-result-2
-invariant_of-result-2 c = record { valid = calendar_valid (row c.requires.1 c.args.k c.min.result c.min.ensures) c.requires.0 }
+pub new-requires : goal.new-requires
+new-requires c = calendar_valid (row c.requires.1 c.args.k c.min.result c.min.ensures) c.requires.0
 
 pub returns : goal.returns
-returns c = record { is = row c.requires.1 c.args.k c.min.result c.min.ensures; sheet_is = refl }
+returns c =
+    let e = c.new.ensures in
+    record { is = rw (e.0, e.2, e.3) (row c.requires.1 c.args.k c.min.result c.min.ensures); sheet_is = e.1 }
