@@ -61,19 +61,21 @@ fn moment_of(walk: Result<u64, ClockError>) -> Result<Option<u64>, ClockError>
     Ok(Some(t))
 }
 
-// The time that a constraint holds its end to.
+// The time that a constraint holds its end to, if it bounds one.
 pub fn constraint_time(
     activity: Activity,
     week: [[Period; 8]; 7],
     sheet: &[u8],
     at: usize,
     n: usize,
-    constraint: Constraint,
+    constraint: Option<Constraint>,
 ) -> Result<Option<u64>, ClockError>
     requires { Valid week sheet.now at n }
     ensures { result ≡ constraint_time (worked_on week sheet.now at n) (on_start constraint) }
 {
-    let end = project::on_start(constraint);
+    let Some(end) = project::on_start(constraint) else {
+        return Ok(None);
+    };
     match end {
         End::Start(day) => {
             let walk = start_of_day(week, sheet, at, n, day);
@@ -83,7 +85,6 @@ pub fn constraint_time(
             let walk = finish_by_day(week, sheet, at, n, day);
             moment_of(walk)
         }
-        End::Neither => Ok(None),
     }
 }
 
