@@ -91,31 +91,31 @@ module _ {p : Plan} {d : Early} {i : ℕ} {activity : Activity} {w : ℕ → Boo
   unfolding constrained on_start constraint_time
   constrained_free start e = rw e
 
-  module _ {c : Option Constraint} {k : Constraint} (h : c ≡ Some k) (start : ℕ) {m : Result (Option ℕ) ClockError} (e : m ≡ constraint_time w (on_start (Some k))) where
-    by_time : constrained p d i c start ≡ on_time p d m (Ok start) (λ t. at_early p d i (Some k) t start)
+  module _ {c k : Option Constraint} (h : c ≡ k) (start : ℕ) {m : Result (Option ℕ) ClockError} (e : m ≡ constraint_time w (on_start k)) where
+    by_time : constrained p d i c start ≡ on_time p d m (Ok start) (λ t. at_early p d i k t start)
     unfolding constrained
     by_time =
         ap (λ (x : Option Constraint). constrained p d i x start) h
-        ∙ ap (λ (v : ℕ → Bool). on_time p d (constraint_time v (on_start (Some k))) (Ok start) (λ t. at_early p d i (Some k) t start)) H.own_is
-        ∙ ap (λ (y : Result (Option ℕ) ClockError). on_time p d y (Ok start) (λ t. at_early p d i (Some k) t start)) (sym e)
+        ∙ ap (λ (v : ℕ → Bool). on_time p d (constraint_time v (on_start k)) (Ok start) (λ t. at_early p d i k t start)) H.own_is
+        ∙ ap (λ (y : Result (Option ℕ) ClockError). on_time p d y (Ok start) (λ t. at_early p d i k t start)) (sym e)
 
     pub constrained_nowhere : m ≡ (Ok None) → constrained p d i c start ≡ Ok start
-    constrained_nowhere a = by_time ∙ ap (λ (y : Result (Option ℕ) ClockError). on_time p d y (Ok start) (λ t. at_early p d i (Some k) t start)) a
+    constrained_nowhere a = by_time ∙ ap (λ (y : Result (Option ℕ) ClockError). on_time p d y (Ok start) (λ t. at_early p d i k t start)) a
 
     pub constrained_refused : (r : ClockError) → m ≡ Err r → constrained p d i c start ≡ Err r
-    constrained_refused r a = by_time ∙ ap (λ (y : Result (Option ℕ) ClockError). on_time p d y (Ok start) (λ t. at_early p d i (Some k) t start)) a
+    constrained_refused r a = by_time ∙ ap (λ (y : Result (Option ℕ) ClockError). on_time p d y (Ok start) (λ t. at_early p d i k t start)) a
 
     module _ (x o : ℕ) {y : Result ℕ ClockError} (a : m ≡ (Ok (Some x))) (q : o ≡ origin p) (b : y ≡ bounded o x) where
-      at_time : constrained p d i c start ≡ via Err (bounded o x) (λ t. at_early p d i (Some k) t start)
+      at_time : constrained p d i c start ≡ via Err (bounded o x) (λ t. at_early p d i k t start)
       at_time =
-          by_time ∙ ap (λ (z : Result (Option ℕ) ClockError). on_time p d z (Ok start) (λ t. at_early p d i (Some k) t start)) a
-          ∙ ap (λ (v : ℕ). via Err (bounded v x) (λ t. at_early p d i (Some k) t start)) (sym q)
+          by_time ∙ ap (λ (z : Result (Option ℕ) ClockError). on_time p d z (Ok start) (λ t. at_early p d i k t start)) a
+          ∙ ap (λ (v : ℕ). via Err (bounded v x) (λ t. at_early p d i k t start)) (sym q)
 
-      pub constrained_at : (t : ℕ) → y ≡ Ok t → constrained p d i c start ≡ at_early p d i (Some k) t start
-      constrained_at t f = at_time ∙ goes_on_lem Err (λ t. at_early p d i (Some k) t start) b f
+      pub constrained_at : (t : ℕ) → y ≡ Ok t → constrained p d i c start ≡ at_early p d i k t start
+      constrained_at t f = at_time ∙ goes_on_lem Err (λ t. at_early p d i k t start) b f
 
       pub constrained_far : (r : ClockError) → y ≡ Err r → constrained p d i c start ≡ Err r
-      constrained_far r f = at_time ∙ stops Err (λ t. at_early p d i (Some k) t start) b f
+      constrained_far r f = at_time ∙ stops Err (λ t. at_early p d i k t start) b f
 
   -- ---- the levelled start
   pub levelled_on : (start : ℕ) (x : Date) → activity.levelled ≡ Some x → levelled p d i activity.levelled start ≡ constrained p d i (Some (StartOnOrAfter x)) start
