@@ -3,7 +3,6 @@ use Rattle.std.specs.Prelude.{◌≡◌, refl, List, [], ◌∷◌, ℕ, zero, s
 use Rattle.calendar.specs.declared.Period.{Period}
 use Rattle.calendar.specs.Hours.{none}
 use Rattle.project.specs.declared.ActivityKind.TheVariants.{Task}
-use Rattle.project.specs.declared.Constraint.TheVariants.{Unconstrained}
 use Rattle.project.specs.declared.RelationshipType.TheVariants.{FinishToStart}
 use Rattle.project.specs.declared.LagKind.TheVariants.{WorkingDays}
 use Rattle.project.specs.declared.LagCalendar.TheVariants.{Predecessor}
@@ -59,8 +58,8 @@ task id minutes = record {
   actual_finish = None;
   remaining = None;
   expected_finish = None;
-  constraint = Unconstrained;
-  secondary_constraint = Unconstrained;
+  constraint = None;
+  secondary_constraint = None;
   levelled = None;
 }
 

@@ -91,7 +91,7 @@ module _ (w : ℕ → Bool) where
   pub finish_for_start_by_eight : (left t : ℕ) → WalkEight (finish_for_start_by w left t)
   finish_for_start_by_eight left t = always_eight (finish_for_start_by w left t)
 
-  pub constraint_eight : (e : End) → MomentEight (constraint_time w e)
+  pub constraint_eight : (e : Option End) → MomentEight (constraint_time w e)
   constraint_eight e = always_eight (constraint_time w e)
 
   pub actual_eight_lem : (first last : Option Date) → ActualEight (actual w first last)

@@ -11,7 +11,7 @@ use Rattle.project.specs.declared.Activity.{Activity}
 use Rattle.project.specs.declared.ActivityKind.{ActivityKind}
 use Rattle.project.specs.declared.ActivityKind.TheVariants.{Task, StartMilestone, FinishMilestone}
 use Rattle.project.specs.declared.Constraint.{Constraint}
-use Rattle.project.specs.declared.Constraint.TheVariants.{Unconstrained, StartOnOrAfter, StartOnOrBefore, FinishOnOrAfter, FinishOnOrBefore, StartOn, FinishOn, MandatoryStart, MandatoryFinish, AsLateAsPossible}
+use Rattle.project.specs.declared.Constraint.TheVariants.{StartOnOrAfter, StartOnOrBefore, FinishOnOrAfter, FinishOnOrBefore, StartOn, FinishOn, MandatoryStart, MandatoryFinish, AsLateAsPossible}
 use Rattle.project.specs.declared.ProgressMode.{ProgressMode}
 use Rattle.project.specs.declared.ProgressMode.TheVariants.{RetainedLogic, ProgressOverride}
 use Rattle.project.specs.Status.{on_start}
@@ -57,18 +57,17 @@ module _ {p : Plan} {times : Times} (T : IsTimes p times) (d : Early) (s start :
 module _ {p : Plan} {d : Early} {i : ℕ} {activity : Activity} {w : ℕ → Bool} {left : ℕ} (H : InHand p d i activity w left) where
   -- ---- the start by a constraint's time
   module _ (c : Constraint) (t start : ℕ) where
-    pub early_stays : (c ≡ Unconstrained) ⊎ (((x : Date) × (c ≡ StartOnOrBefore x)) ⊎ (((x : Date) × (c ≡ FinishOnOrBefore x)) ⊎ (c ≡ AsLateAsPossible)))
-        → at_early p d i c t start ≡ Ok start
-    early_stays (inl e) = rw e
+    pub early_stays : ((x : Date) × (c ≡ StartOnOrBefore x)) ⊎ (((x : Date) × (c ≡ FinishOnOrBefore x)) ⊎ (c ≡ AsLateAsPossible))
+        → at_early p d i (Some c) t start ≡ Ok start
+    early_stays (inl (x, e)) = rw e
     early_stays (inr (inl (x, e))) = rw e
-    early_stays (inr (inr (inl (x, e)))) = rw e
-    early_stays (inr (inr (inr e))) = rw e
+    early_stays (inr (inr e)) = rw e
 
-    pub early_start : ((x : Date) × (c ≡ StartOnOrAfter x)) ⊎ ((x : Date) × (c ≡ StartOn x)) → at_early p d i c t start ≡ Ok (max start t)
+    pub early_start : ((x : Date) × (c ≡ StartOnOrAfter x)) ⊎ ((x : Date) × (c ≡ StartOn x)) → at_early p d i (Some c) t start ≡ Ok (max start t)
     early_start (inl (x, e)) = rw e
     early_start (inr (x, e)) = rw e
 
-    pub early_mandatory_start : (x : Date) (f : ℕ) → f ≡ floor p → c ≡ MandatoryStart x → at_early p d i c t start ≡ Ok (max t f)
+    pub early_mandatory_start : (x : Date) (f : ℕ) → f ≡ floor p → c ≡ MandatoryStart x → at_early p d i (Some c) t start ≡ Ok (max t f)
     early_mandatory_start x f q e = rw (e, q)
 
     module _ {walk : Result ℕ ClockError} (a : walk ≡ start_for_finish w left t) where
@@ -78,43 +77,48 @@ module _ {p : Plan} {d : Early} {i : ℕ} {activity : Activity} {w : ℕ → Boo
       raised : via Err (start_for_finish (own p i) (d.left i) t) (λ s. Ok (max start s)) ≡ via Err walk (λ s. Ok (max start s))
       raised = ap (λ (y : Result ℕ ClockError). via Err y (λ s. Ok (max start s))) (sym start_is)
 
-      pub early_finish : ((x : Date) × (c ≡ FinishOnOrAfter x)) ⊎ ((x : Date) × (c ≡ FinishOn x)) → at_early p d i c t start ≡ via Err walk (λ s. Ok (max start s))
-      early_finish (inl (x, e)) = ap (λ (k : Constraint). at_early p d i k t start) e ∙ raised
-      early_finish (inr (x, e)) = ap (λ (k : Constraint). at_early p d i k t start) e ∙ raised
+      pub early_finish : ((x : Date) × (c ≡ FinishOnOrAfter x)) ⊎ ((x : Date) × (c ≡ FinishOn x)) → at_early p d i (Some c) t start ≡ via Err walk (λ s. Ok (max start s))
+      early_finish (inl (x, e)) = ap (λ (k : Constraint). at_early p d i (Some k) t start) e ∙ raised
+      early_finish (inr (x, e)) = ap (λ (k : Constraint). at_early p d i (Some k) t start) e ∙ raised
 
-      pub early_mandatory_finish : (x : Date) (f : ℕ) → f ≡ floor p → c ≡ MandatoryFinish x → at_early p d i c t start ≡ via Err walk (λ s. Ok (max f s))
+      pub early_mandatory_finish : (x : Date) (f : ℕ) → f ≡ floor p → c ≡ MandatoryFinish x → at_early p d i (Some c) t start ≡ via Err walk (λ s. Ok (max f s))
       early_mandatory_finish x f q e =
-          ap (λ (k : Constraint). at_early p d i k t start) e ∙ ap (λ (y : Result ℕ ClockError). via Err y (λ s. Ok (max s (floor p)))) (sym start_is)
+          ap (λ (k : Constraint). at_early p d i (Some k) t start) e ∙ ap (λ (y : Result ℕ ClockError). via Err y (λ s. Ok (max s (floor p)))) (sym start_is)
           ∙ (λ z. via Err walk (λ s. Ok (max_swap s (floor p) z))) ∙ ap (λ (v : ℕ). via Err walk (λ s. Ok (max v s))) (sym q)
 
   -- ---- the start by a constraint
-  module _ (c : Constraint) (start : ℕ) {m : Result (Option ℕ) ClockError} (e : m ≡ constraint_time w (on_start c)) where
-    by_time : constrained p d i c start ≡ on_time p d m (Ok start) (λ t. at_early p d i c t start)
+  pub constrained_free : {c : Option Constraint} (start : ℕ) → c ≡ None → constrained p d i c start ≡ Ok start
+  unfolding constrained on_start constraint_time
+  constrained_free start e = rw e
+
+  module _ {c k : Option Constraint} (h : c ≡ k) (start : ℕ) {m : Result (Option ℕ) ClockError} (e : m ≡ constraint_time w (on_start k)) where
+    by_time : constrained p d i c start ≡ on_time p d m (Ok start) (λ t. at_early p d i k t start)
     unfolding constrained
     by_time =
-        ap (λ (v : ℕ → Bool). on_time p d (constraint_time v (on_start c)) (Ok start) (λ t. at_early p d i c t start)) H.own_is
-        ∙ ap (λ (y : Result (Option ℕ) ClockError). on_time p d y (Ok start) (λ t. at_early p d i c t start)) (sym e)
+        ap (λ (x : Option Constraint). constrained p d i x start) h
+        ∙ ap (λ (v : ℕ → Bool). on_time p d (constraint_time v (on_start k)) (Ok start) (λ t. at_early p d i k t start)) H.own_is
+        ∙ ap (λ (y : Result (Option ℕ) ClockError). on_time p d y (Ok start) (λ t. at_early p d i k t start)) (sym e)
 
     pub constrained_nowhere : m ≡ (Ok None) → constrained p d i c start ≡ Ok start
-    constrained_nowhere a = by_time ∙ ap (λ (y : Result (Option ℕ) ClockError). on_time p d y (Ok start) (λ t. at_early p d i c t start)) a
+    constrained_nowhere a = by_time ∙ ap (λ (y : Result (Option ℕ) ClockError). on_time p d y (Ok start) (λ t. at_early p d i k t start)) a
 
-    pub constrained_refused : (k : ClockError) → m ≡ Err k → constrained p d i c start ≡ Err k
-    constrained_refused k a = by_time ∙ ap (λ (y : Result (Option ℕ) ClockError). on_time p d y (Ok start) (λ t. at_early p d i c t start)) a
+    pub constrained_refused : (r : ClockError) → m ≡ Err r → constrained p d i c start ≡ Err r
+    constrained_refused r a = by_time ∙ ap (λ (y : Result (Option ℕ) ClockError). on_time p d y (Ok start) (λ t. at_early p d i k t start)) a
 
     module _ (x o : ℕ) {y : Result ℕ ClockError} (a : m ≡ (Ok (Some x))) (q : o ≡ origin p) (b : y ≡ bounded o x) where
-      at_time : constrained p d i c start ≡ via Err (bounded o x) (λ t. at_early p d i c t start)
+      at_time : constrained p d i c start ≡ via Err (bounded o x) (λ t. at_early p d i k t start)
       at_time =
-          by_time ∙ ap (λ (z : Result (Option ℕ) ClockError). on_time p d z (Ok start) (λ t. at_early p d i c t start)) a
-          ∙ ap (λ (v : ℕ). via Err (bounded v x) (λ t. at_early p d i c t start)) (sym q)
+          by_time ∙ ap (λ (z : Result (Option ℕ) ClockError). on_time p d z (Ok start) (λ t. at_early p d i k t start)) a
+          ∙ ap (λ (v : ℕ). via Err (bounded v x) (λ t. at_early p d i k t start)) (sym q)
 
-      pub constrained_at : (t : ℕ) → y ≡ Ok t → constrained p d i c start ≡ at_early p d i c t start
-      constrained_at t f = at_time ∙ goes_on_lem Err (λ t. at_early p d i c t start) b f
+      pub constrained_at : (t : ℕ) → y ≡ Ok t → constrained p d i c start ≡ at_early p d i k t start
+      constrained_at t f = at_time ∙ goes_on_lem Err (λ t. at_early p d i k t start) b f
 
-      pub constrained_far : (k : ClockError) → y ≡ Err k → constrained p d i c start ≡ Err k
-      constrained_far k f = at_time ∙ stops Err (λ t. at_early p d i c t start) b f
+      pub constrained_far : (r : ClockError) → y ≡ Err r → constrained p d i c start ≡ Err r
+      constrained_far r f = at_time ∙ stops Err (λ t. at_early p d i k t start) b f
 
   -- ---- the levelled start
-  pub levelled_on : (start : ℕ) (x : Date) → activity.levelled ≡ Some x → levelled p d i activity.levelled start ≡ constrained p d i (StartOnOrAfter x) start
+  pub levelled_on : (start : ℕ) (x : Date) → activity.levelled ≡ Some x → levelled p d i activity.levelled start ≡ constrained p d i (Some (StartOnOrAfter x)) start
   unfolding constrained on_start
   levelled_on start x e = ap (λ (y : Option Date). levelled p d i y start) e
 

@@ -2,7 +2,7 @@
 // Each function has the activity, its own calendar, its minutes of work left, and the times of the project.
 #![tactic(auto)]
 
-ghost use Rattle.std.specs.Prelude.{◌≡◌, ℕ, ◌^◌, ◌<◌, max, Ok, Err};
+ghost use Rattle.std.specs.Prelude.{◌≡◌, ℕ, ◌^◌, ◌<◌, max, Ok, Err, Some};
 ghost use Rattle.calendar.specs.Records.{Valid};
 ghost use Rattle.clock.specs.On.{worked_on};
 ghost use Rattle.placing.specs.Placing.{via};
@@ -61,11 +61,10 @@ fn at_early(
     start: u64,
 ) -> Result<u64, ClockError>
     requires { Valid week sheet.now at n }
-    ensures { (p : Plan) (d : Early) (i : ℕ) → InHand p d i activity (worked_on week sheet.now at n) left → IsTimes p times → result ≡ at_early p d i constraint t start }
+    ensures { (p : Plan) (d : Early) (i : ℕ) → InHand p d i activity (worked_on week sheet.now at n) left → IsTimes p times → result ≡ at_early p d i (Some constraint) t start }
 {
     match constraint {
-        Constraint::Unconstrained
-        | Constraint::StartOnOrBefore(_)
+        Constraint::StartOnOrBefore(_)
         | Constraint::FinishOnOrBefore(_)
         | Constraint::AsLateAsPossible => Ok(start),
         Constraint::StartOnOrAfter(_) | Constraint::StartOn(_) => Ok(start.max(t)),
@@ -90,17 +89,20 @@ fn constrained(
     n: usize,
     left: u64,
     times: Times,
-    constraint: Constraint,
+    constraint: Option<Constraint>,
     start: u64,
 ) -> Result<u64, ClockError>
     requires { Valid week sheet.now at n }
     ensures { (p : Plan) (d : Early) (i : ℕ) → InHand p d i activity (worked_on week sheet.now at n) left → IsTimes p times → result ≡ constrained p d i constraint start }
 {
+    let Some(kind) = constraint else {
+        return Ok(start);
+    };
     match placing::dates::constraint_time(activity, week, sheet, at, n, constraint)? {
         Some(x) => {
             let t = placing::bounded(times.origin, x)?;
             at_early(
-                activity, week, sheet, at, n, left, times, constraint, t, start,
+                activity, week, sheet, at, n, left, times, kind, t, start,
             )
         }
         None => Ok(start),
@@ -124,7 +126,7 @@ fn levelled(
     let day = activity.levelled;
     match day {
         Some(x) => {
-            let constraint = Constraint::StartOnOrAfter(x);
+            let constraint = Some(Constraint::StartOnOrAfter(x));
             constrained(activity, week, sheet, at, n, left, times, constraint, start)
         }
         None => Ok(start),

@@ -1,5 +1,5 @@
 -- Free float and the held late move in plain form: what each stage finds, before anything is stored.
-use Rattle.std.specs.Prelude.{◌≡◌, Bool, true, false, ◌&&◌, ◌||◌, List, ℕ, eqb, ℤ, Result, Ok, Err}
+use Rattle.std.specs.Prelude.{◌≡◌, Bool, true, false, ◌&&◌, ◌||◌, List, ℕ, eqb, ℤ, Result, Ok, Err, Option}
 use Rattle.floats.specs.declared.Moved.{Moved}
 use Rattle.worktime.specs.declared.ClockError.{ClockError}
 use Rattle.number.specs.Sign.{min_z}
@@ -34,7 +34,7 @@ pub record Own (s : List ℕ) (c : Contents) (i : ℕ) (activity : Activity) (we
 
 -- as late as possible in either constraint, and not begun
 module _ (p : Plan) (d : Early) where
-  unfoldable pub marked_late : Actual → Constraint → Constraint → Bool
+  unfoldable pub marked_late : Actual → Option Constraint → Option Constraint → Bool
   marked_late actual first second = not_begun p d actual && (is_late first || is_late second)
 
 -- ---- the held late move, by values: w the activity's own worked minutes, `left` its work left, n the minutes of the move

@@ -1,5 +1,5 @@
 -- The plain forms are the definition's: free float in two stages, and the way laws of each.
-use Rattle.std.specs.Prelude.{◌≡◌, ◌⊎◌, Bool, true, false, ℕ, eqb, ℤ, Result, Ok, Err}
+use Rattle.std.specs.Prelude.{◌≡◌, ◌⊎◌, Bool, true, false, ℕ, eqb, ℤ, Result, Ok, Err, Option}
 use Rattle.floats.specs.Slack.{moved_to}
 use Rattle.worktime.specs.declared.ClockError.{ClockError}
 use Rattle.std.proofs.Math.Path.{refl, sym}
@@ -115,7 +115,7 @@ free_is p finish l x i =
     ∙ sym (via_measured refused (slack_of p d finish i) (λ least. measured Err total (λ z. Ok (free_by p d (recorded p i) least z))) last)
 
 -- ---- the mark, by its ways
-module _ (p : Plan) (d : Early) (actual : Actual) (first second : Constraint) where
+module _ (p : Plan) (d : Early) (actual : Actual) (first second : Option Constraint) where
   pub marked_first : actual ≡ Unstarted → is_late first ≡ true → marked_late p d actual first second ≡ true
   unfolding marked_late
   marked_first e f = rw (e, f)

@@ -35,14 +35,14 @@ struct Moved {
 }
 
 // Whether a constraint is the mark "as late as possible".
-fn is_late(constraint: Constraint) -> bool
+fn is_late(constraint: Option<Constraint>) -> bool
     ensures { result ≡ is_late constraint }
 {
-    matches!(constraint, Constraint::AsLateAsPossible)
+    matches!(constraint, Some(Constraint::AsLateAsPossible))
 }
 
 // Whether an activity is marked "as late as possible" in either constraint and has not begun.
-fn is_marked_late(actual: Actual, first: Constraint, second: Constraint) -> bool
+fn is_marked_late(actual: Actual, first: Option<Constraint>, second: Option<Constraint>) -> bool
     ensures { (p : Plan) (d : Early) → result ≡ marked_late p d actual first second }
 {
     match actual {

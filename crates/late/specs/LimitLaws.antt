@@ -21,28 +21,34 @@ use Rattle.passes.specs.Backward.{at_late, limited, limited_by, held_late}
 
 module _ (p : Plan) (d : Early) (l : Late) (i : ℕ) where
   -- ---- one constraint
-  module _ (c : Constraint) (latest : ℕ) where
-    pub late_start : (t : ℕ) → ((x : Date) × (c ≡ StartOnOrBefore x)) ⊎ ((x : Date) × (c ≡ StartOn x))
-        → at_late p d l i c t latest ≡ via Err (finish_for_start_by (own p i) (d.left i) t) (λ f. Ok (min latest f))
-    late_start t (inl (x, e)) = rw e
-    late_start t (inr (x, e)) = rw e
+  pub late_start : (c : Constraint) (latest t : ℕ) → ((x : Date) × (c ≡ StartOnOrBefore x)) ⊎ ((x : Date) × (c ≡ StartOn x))
+      → at_late p d l i (Some c) t latest ≡ via Err (finish_for_start_by (own p i) (d.left i) t) (λ f. Ok (min latest f))
+  late_start c latest t (inl (x, e)) = rw e
+  late_start c latest t (inr (x, e)) = rw e
 
-    pub limited_at : (t b : ℕ) → constraint_time (own p i) (on_start c) ≡ (Ok (Some t)) → bounded (origin p) t ≡ Ok b → limited p d l i c latest ≡ at_late p d l i c b latest
+  pub limited_free : {c : Option Constraint} (latest : ℕ) → c ≡ None → limited p d l i c latest ≡ Ok latest
+  unfolding limited on_start constraint_time
+  limited_free latest e = rw e
+
+  module _ {c k : Option Constraint} (h : c ≡ k) (latest : ℕ) where
+    by_time : {m : Result (Option ℕ) ClockError} → constraint_time (own p i) (on_start k) ≡ m → limited p d l i c latest ≡ on_time p d m (Ok latest) (λ t. at_late p d l i k t latest)
     unfolding limited
-    limited_at t b e f = ap (λ (m : Result (Option ℕ) ClockError). on_time p d m (Ok latest) (λ t. at_late p d l i c t latest)) e ∙ via_at Err _ _ b f
+    by_time e =
+        ap (λ (x : Option Constraint). limited p d l i x latest) h ∙ ap (λ (m : Result (Option ℕ) ClockError). on_time p d m (Ok latest) (λ t. at_late p d l i k t latest)) e
 
-    pub limited_beyond : (t : ℕ) (k : ClockError) → constraint_time (own p i) (on_start c) ≡ (Ok (Some t)) → bounded (origin p) t ≡ Err k → limited p d l i c latest ≡ Err k
-    unfolding limited
-    limited_beyond t k e f = ap (λ (m : Result (Option ℕ) ClockError). on_time p d m (Ok latest) (λ t. at_late p d l i c t latest)) e ∙ via_refused Err _ _ k f
+    pub limited_at : (t b : ℕ) → constraint_time (own p i) (on_start k) ≡ (Ok (Some t)) → bounded (origin p) t ≡ Ok b → limited p d l i c latest ≡ at_late p d l i k b latest
+    limited_at t b e f = by_time e ∙ via_at Err _ _ b f
 
-    pub limited_nowhere : constraint_time (own p i) (on_start c) ≡ (Ok None) → limited p d l i c latest ≡ Ok latest
-    unfolding limited
-    limited_nowhere e = ap (λ (m : Result (Option ℕ) ClockError). on_time p d m (Ok latest) (λ t. at_late p d l i c t latest)) e
+    pub limited_beyond : (t : ℕ) (r : ClockError) → constraint_time (own p i) (on_start k) ≡ (Ok (Some t)) → bounded (origin p) t ≡ Err r → limited p d l i c latest ≡ Err r
+    limited_beyond t r e f = by_time e ∙ via_refused Err _ _ r f
 
-    pub limited_refused : (k : ClockError) → constraint_time (own p i) (on_start c) ≡ Err k → limited p d l i c latest ≡ Err k
-    unfolding limited
-    limited_refused k e = ap (λ (m : Result (Option ℕ) ClockError). on_time p d m (Ok latest) (λ t. at_late p d l i c t latest)) e
+    pub limited_nowhere : constraint_time (own p i) (on_start k) ≡ (Ok None) → limited p d l i c latest ≡ Ok latest
+    limited_nowhere e = by_time e
 
+    pub limited_refused : (r : ClockError) → constraint_time (own p i) (on_start k) ≡ Err r → limited p d l i c latest ≡ Err r
+    limited_refused r e = by_time e
+
+  module _ (c : Option Constraint) (latest : ℕ) where
     -- ---- by what is recorded
     pub by_unstarted : (a : Actual) → a ≡ Unstarted → limited_by p d l i a c latest ≡ limited p d l i c latest
     by_unstarted a e = ap (λ (x : Actual). limited_by p d l i x c latest) e
@@ -65,7 +71,7 @@ module _ (p : Plan) (d : Early) (l : Late) (i : ℕ) where
     unfolding held_late
     held_summary e = on_true (summary p i) (Ok latest) _ e
 
-    module _ (e : summary p i ≡ false) (a : Actual) (r : a ≡ recorded p i) (c₁ c₂ : Constraint) (q₁ : c₁ ≡ (p.activity i).constraint)
+    module _ (e : summary p i ≡ false) (a : Actual) (r : a ≡ recorded p i) (c₁ c₂ : Option Constraint) (q₁ : c₁ ≡ (p.activity i).constraint)
         (q₂ : c₂ ≡ (p.activity i).secondary_constraint) where
       held_both : held_late p d l i latest ≡ via Err (limited_by p d l i a c₁ latest) (limited_by p d l i a c₂)
       unfolding held_late

@@ -1,5 +1,5 @@
 // What constraints leave of an activity's latest finish.
-ghost use Rattle.std.specs.Prelude.{◌≡◌, true, false, ℕ, min, Ok, Err};
+ghost use Rattle.std.specs.Prelude.{◌≡◌, true, false, ℕ, min, Ok, Err, Some};
 ghost use Rattle.calendar.specs.Records.{Valid};
 ghost use Rattle.clock.specs.On.{worked_on};
 ghost use Rattle.placing.specs.Placing.{via, finish_for_start_by};
@@ -49,11 +49,10 @@ fn limit_at(
     latest: u64,
 ) -> Result<u64, ClockError>
     requires { Valid week sheet.now unfinished.at unfinished.n }
-    ensures { (p : Plan) (d : Early) (l : Late) (i : ℕ) → IsUnfinished p d i (worked_on week sheet.now unfinished.at unfinished.n) unfinished → result ≡ at_late p d l i constraint t latest }
+    ensures { (p : Plan) (d : Early) (l : Late) (i : ℕ) → IsUnfinished p d i (worked_on week sheet.now unfinished.at unfinished.n) unfinished → result ≡ at_late p d l i (Some constraint) t latest }
 {
     match constraint {
-        Constraint::Unconstrained
-        | Constraint::StartOnOrAfter(_)
+        Constraint::StartOnOrAfter(_)
         | Constraint::FinishOnOrAfter(_)
         | Constraint::AsLateAsPossible => Ok(latest),
         Constraint::StartOnOrBefore(_) | Constraint::StartOn(_) => {
@@ -78,12 +77,15 @@ fn limit(
     week: [[Period; 8]; 7],
     sheet: &[u8],
     unfinished: Unfinished,
-    constraint: Constraint,
+    constraint: Option<Constraint>,
     latest: u64,
 ) -> Result<u64, ClockError>
     requires { Valid week sheet.now unfinished.at unfinished.n }
     ensures { (p : Plan) (d : Early) (l : Late) (i : ℕ) → IsUnfinished p d i (worked_on week sheet.now unfinished.at unfinished.n) unfinished → result ≡ limited p d l i constraint latest }
 {
+    let Some(kind) = constraint else {
+        return Ok(latest);
+    };
     match placing::dates::constraint_time(
         unfinished.activity,
         week,
@@ -94,7 +96,7 @@ fn limit(
     )? {
         Some(t) => {
             let b = placing::bounded(unfinished.origin, t)?;
-            limit_at(week, sheet, unfinished, constraint, b, latest)
+            limit_at(week, sheet, unfinished, kind, b, latest)
         }
         None => Ok(latest),
     }
@@ -106,7 +108,7 @@ fn limit_by(
     sheet: &[u8],
     unfinished: Unfinished,
     actual: Actual,
-    constraint: Constraint,
+    constraint: Option<Constraint>,
     latest: u64,
 ) -> Result<u64, ClockError>
     requires { Valid week sheet.now unfinished.at unfinished.n }

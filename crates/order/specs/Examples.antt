@@ -6,7 +6,6 @@ use Rattle.calendar.specs.Hours.{works}
 use Rattle.project.specs.declared.Activity.{Activity}
 use Rattle.project.specs.declared.ActivityKind.{ActivityKind}
 use Rattle.project.specs.declared.ActivityKind.TheVariants.{Task, StartMilestone}
-use Rattle.project.specs.declared.Constraint.TheVariants.{Unconstrained}
 use Rattle.project.specs.declared.Relationship.{Relationship}
 use Rattle.project.specs.declared.RelationshipType.TheVariants.{FinishToStart}
 use Rattle.project.specs.declared.LagKind.{LagKind}
@@ -51,8 +50,8 @@ activity id kind calendar parent minutes = record {
   actual_finish = None;
   remaining = None;
   expected_finish = None;
-  constraint = Unconstrained;
-  secondary_constraint = Unconstrained;
+  constraint = None;
+  secondary_constraint = None;
   levelled = None;
 }
 

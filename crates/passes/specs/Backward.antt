@@ -5,7 +5,7 @@ use Rattle.date.specs.declared.Date.{Date}
 use Rattle.number.specs.Zed.{up, dn}
 use Rattle.worktime.specs.Walks.{next_start, shift}
 use Rattle.project.specs.declared.Constraint.{Constraint}
-use Rattle.project.specs.declared.Constraint.TheVariants.{Unconstrained, StartOnOrAfter, StartOnOrBefore, FinishOnOrAfter, FinishOnOrBefore, StartOn, FinishOn, MandatoryStart, MandatoryFinish, AsLateAsPossible}
+use Rattle.project.specs.declared.Constraint.TheVariants.{StartOnOrAfter, StartOnOrBefore, FinishOnOrAfter, FinishOnOrBefore, StartOn, FinishOn, MandatoryStart, MandatoryFinish, AsLateAsPossible}
 use Rattle.project.specs.declared.RelationshipType.{RelationshipType}
 use Rattle.project.specs.declared.RelationshipType.TheVariants.{FinishToStart, StartToStart, FinishToFinish, StartToFinish}
 use Rattle.project.specs.Status.{on_start, bounds_start}
@@ -69,23 +69,23 @@ module _ (p : Plan) where
     lowered i (t ∷ ts) latest = via Err (link_finish i t) (λ f. lowered i ts (min latest f))
 
     -- ---- late constraints: no later than their date; a mandatory one on it
-    abbrev pub at_late : ℕ → Constraint → ℕ → ℕ → Result ℕ ClockError
-    at_late i Unconstrained t latest = Ok latest
-    at_late i (StartOnOrAfter x) t latest = Ok latest
-    at_late i (StartOnOrBefore x) t latest = via Err (finish_for_start_by (own p i) (d.left i) t) (λ f. Ok (min latest f))
-    at_late i (FinishOnOrAfter x) t latest = Ok latest
-    at_late i (FinishOnOrBefore x) t latest = Ok (min latest t)
-    at_late i (StartOn x) t latest = via Err (finish_for_start_by (own p i) (d.left i) t) (λ f. Ok (min latest f))
-    at_late i (FinishOn x) t latest = Ok (min latest t)
-    at_late i (MandatoryStart x) t latest = finish_for_start_by (own p i) (d.left i) t
-    at_late i (MandatoryFinish x) t latest = Ok t
-    at_late i AsLateAsPossible t latest = Ok latest
+    abbrev pub at_late : ℕ → Option Constraint → ℕ → ℕ → Result ℕ ClockError
+    at_late i None t latest = Ok latest
+    at_late i (Some (StartOnOrAfter x)) t latest = Ok latest
+    at_late i (Some (StartOnOrBefore x)) t latest = via Err (finish_for_start_by (own p i) (d.left i) t) (λ f. Ok (min latest f))
+    at_late i (Some (FinishOnOrAfter x)) t latest = Ok latest
+    at_late i (Some (FinishOnOrBefore x)) t latest = Ok (min latest t)
+    at_late i (Some (StartOn x)) t latest = via Err (finish_for_start_by (own p i) (d.left i) t) (λ f. Ok (min latest f))
+    at_late i (Some (FinishOn x)) t latest = Ok (min latest t)
+    at_late i (Some (MandatoryStart x)) t latest = finish_for_start_by (own p i) (d.left i) t
+    at_late i (Some (MandatoryFinish x)) t latest = Ok t
+    at_late i (Some AsLateAsPossible) t latest = Ok latest
 
-    unfoldable pub limited : ℕ → Constraint → ℕ → Result ℕ ClockError
+    unfoldable pub limited : ℕ → Option Constraint → ℕ → Result ℕ ClockError
     limited i c latest = on_time p d (constraint_time (own p i) (on_start c)) (Ok latest) (λ t. at_late i c t latest)
 
     -- once work has begun a start constraint bounds nothing
-    abbrev pub limited_by : ℕ → Actual → Constraint → ℕ → Result ℕ ClockError
+    abbrev pub limited_by : ℕ → Actual → Option Constraint → ℕ → Result ℕ ClockError
     limited_by i Unstarted c latest = limited i c latest
     limited_by i (Begun s) c latest = elim (bounds_start c) [ true ↦ Ok latest | false ↦ limited i c latest ]
     limited_by i (Completed s f) c latest = Ok latest

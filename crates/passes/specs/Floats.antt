@@ -1,12 +1,12 @@
 -- Free float with held late moves, total float, the longest path, and what is critical.
-use Rattle.std.specs.Prelude.{Bool, true, false, ◌&&◌, ◌||◌, not, List, [], ◌∷◌, ℕ, zero, suc, eqb, ltb, ℤ, pos, ◌*ℤ◌, Result, Ok, Err}
+use Rattle.std.specs.Prelude.{Bool, true, false, ◌&&◌, ◌||◌, not, List, [], ◌∷◌, ℕ, zero, suc, eqb, ltb, ℤ, pos, ◌*ℤ◌, Result, Ok, Err, Option, Some, None}
 use Rattle.worktime.specs.declared.ClockError.{ClockError}
 use Rattle.std.specs.Int.Signed.{le_z}
 use Rattle.number.specs.Zed.{up}
 use Rattle.number.specs.Sign.{min_z, whole_days}
 use Rattle.worktime.specs.Walks.{advance, retreat, between}
 use Rattle.project.specs.declared.Constraint.{Constraint}
-use Rattle.project.specs.declared.Constraint.TheVariants.{Unconstrained, StartOnOrAfter, StartOnOrBefore, FinishOnOrAfter, FinishOnOrBefore, StartOn, FinishOn, MandatoryStart, MandatoryFinish, AsLateAsPossible}
+use Rattle.project.specs.declared.Constraint.TheVariants.{StartOnOrAfter, StartOnOrBefore, FinishOnOrAfter, FinishOnOrBefore, StartOn, FinishOn, MandatoryStart, MandatoryFinish, AsLateAsPossible}
 use Rattle.project.specs.declared.RelationshipType.{RelationshipType}
 use Rattle.project.specs.declared.RelationshipType.TheVariants.{FinishToStart, StartToStart, FinishToFinish, StartToFinish}
 use Rattle.project.specs.declared.FloatKind.{FloatKind}
@@ -28,17 +28,17 @@ abbrev pub measured : {A : Type 0} → (ClockError → A) → Result ℤ ClockEr
 measured refusal (Ok z) go = go z
 measured refusal (Err k) go = refusal k
 
-abbrev pub is_late : Constraint → Bool
-is_late Unconstrained = false
-is_late (StartOnOrAfter x) = false
-is_late (StartOnOrBefore x) = false
-is_late (FinishOnOrAfter x) = false
-is_late (FinishOnOrBefore x) = false
-is_late (StartOn x) = false
-is_late (FinishOn x) = false
-is_late (MandatoryStart x) = false
-is_late (MandatoryFinish x) = false
-is_late AsLateAsPossible = true
+abbrev pub is_late : Option Constraint → Bool
+is_late None = false
+is_late (Some (StartOnOrAfter x)) = false
+is_late (Some (StartOnOrBefore x)) = false
+is_late (Some (FinishOnOrAfter x)) = false
+is_late (Some (FinishOnOrBefore x)) = false
+is_late (Some (StartOn x)) = false
+is_late (Some (FinishOn x)) = false
+is_late (Some (MandatoryStart x)) = false
+is_late (Some (MandatoryFinish x)) = false
+is_late (Some AsLateAsPossible) = true
 
 module _ (p : Plan) where
   -- ---- free float, successors first

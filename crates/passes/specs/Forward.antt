@@ -7,7 +7,7 @@ use Rattle.worktime.specs.Walks.{previous_finish, shift, between}
 use Rattle.project.specs.declared.ActivityKind.{ActivityKind}
 use Rattle.project.specs.declared.ActivityKind.TheVariants.{Task, StartMilestone, FinishMilestone}
 use Rattle.project.specs.declared.Constraint.{Constraint}
-use Rattle.project.specs.declared.Constraint.TheVariants.{Unconstrained, StartOnOrAfter, StartOnOrBefore, FinishOnOrAfter, FinishOnOrBefore, StartOn, FinishOn, MandatoryStart, MandatoryFinish, AsLateAsPossible}
+use Rattle.project.specs.declared.Constraint.TheVariants.{StartOnOrAfter, StartOnOrBefore, FinishOnOrAfter, FinishOnOrBefore, StartOn, FinishOn, MandatoryStart, MandatoryFinish, AsLateAsPossible}
 use Rattle.project.specs.declared.ProgressMode.{ProgressMode}
 use Rattle.project.specs.declared.ProgressMode.TheVariants.{RetainedLogic, ProgressOverride}
 use Rattle.project.specs.declared.RelationshipType.{RelationshipType}
@@ -88,17 +88,17 @@ module _ (p : Plan) where
     raised i (t ∷ ts) start = via Err (link_start i t) (λ s. raised i ts (max start s))
 
     -- ---- constraints of work that has not begun: no earlier than their date; a mandatory one on it, but not before the floor
-    abbrev pub at_early : ℕ → Constraint → ℕ → ℕ → Result ℕ ClockError
-    at_early i Unconstrained t start = Ok start
-    at_early i (StartOnOrAfter x) t start = Ok (max start t)
-    at_early i (StartOnOrBefore x) t start = Ok start
-    at_early i (FinishOnOrAfter x) t start = via Err (start_for_finish (own p i) (d.left i) t) (λ s. Ok (max start s))
-    at_early i (FinishOnOrBefore x) t start = Ok start
-    at_early i (StartOn x) t start = Ok (max start t)
-    at_early i (FinishOn x) t start = via Err (start_for_finish (own p i) (d.left i) t) (λ s. Ok (max start s))
-    at_early i (MandatoryStart x) t start = Ok (max t (floor p))
-    at_early i (MandatoryFinish x) t start = via Err (start_for_finish (own p i) (d.left i) t) (λ s. Ok (max s (floor p)))
-    at_early i AsLateAsPossible t start = Ok start
+    abbrev pub at_early : ℕ → Option Constraint → ℕ → ℕ → Result ℕ ClockError
+    at_early i None t start = Ok start
+    at_early i (Some (StartOnOrAfter x)) t start = Ok (max start t)
+    at_early i (Some (StartOnOrBefore x)) t start = Ok start
+    at_early i (Some (FinishOnOrAfter x)) t start = via Err (start_for_finish (own p i) (d.left i) t) (λ s. Ok (max start s))
+    at_early i (Some (FinishOnOrBefore x)) t start = Ok start
+    at_early i (Some (StartOn x)) t start = Ok (max start t)
+    at_early i (Some (FinishOn x)) t start = via Err (start_for_finish (own p i) (d.left i) t) (λ s. Ok (max start s))
+    at_early i (Some (MandatoryStart x)) t start = Ok (max t (floor p))
+    at_early i (Some (MandatoryFinish x)) t start = via Err (start_for_finish (own p i) (d.left i) t) (λ s. Ok (max s (floor p)))
+    at_early i (Some AsLateAsPossible) t start = Ok start
 
     -- what follows a constraint's time, which is bounded
     abbrev pub on_time : Result (Option ℕ) ClockError → Result ℕ ClockError → (ℕ → Result ℕ ClockError) → Result ℕ ClockError
@@ -106,12 +106,12 @@ module _ (p : Plan) where
     on_time (Ok None) none go = none
     on_time (Err k) none go = Err k
 
-    unfoldable pub constrained : ℕ → Constraint → ℕ → Result ℕ ClockError
+    unfoldable pub constrained : ℕ → Option Constraint → ℕ → Result ℕ ClockError
     constrained i c start = on_time (constraint_time (own p i) (on_start c)) (Ok start) (λ t. at_early i c t start)
 
     abbrev pub levelled : ℕ → Option Date → ℕ → Result ℕ ClockError
     levelled i None start = Ok start
-    levelled i (Some x) start = on_time (constraint_time (own p i) (Start x)) (Ok start) (λ t. Ok (max start t))
+    levelled i (Some x) start = on_time (constraint_time (own p i) (Some (Start x))) (Ok start) (λ t. Ok (max start t))
 
     -- both constraints in turn, then the levelled start; a summary has none
     unfoldable pub held : ℕ → ℕ → Result ℕ ClockError

@@ -14,7 +14,7 @@ use Rattle.worktime.specs.Reads.{reads_in, reads_out, minute_range}
 use Rattle.worktime.specs.Search.{least_at}
 use Rattle.worktime.proofs.Answers.{next_start_sound, next_start_refused, previous_finish_sound, previous_finish_refused}
 use Rattle.project.specs.declared.End.{End}
-use Rattle.project.specs.declared.End.TheVariants.{Start, Finish, Neither}
+use Rattle.project.specs.declared.End.TheVariants.{Start, Finish}
 use Rattle.project.specs.declared.Status.TheVariants.{NotStarted, InProgress, Completed as StatusCompleted}
 use Rattle.project.specs.Status.{status_of}
 use Rattle.project.specs.Ranges.{DayInRange}
@@ -83,13 +83,13 @@ module _ (w : ℕ → Bool) where
 
   module _ (d : Date) where
     -- a constraint on a start: never refused where its day may be read
-    pub constraint_start_in : in_years (midnight_of d / 1440) ≡ true → constraint_time w (Start d) ≡ (Ok (Some (day_start w (midnight_of d))))
-    constraint_start_in y = constraint_time_start w (Start d) d (Ok (day_start w (midnight_of d))) refl (sym (reads_in Err _ _ y))
+    pub constraint_start_in : in_years (midnight_of d / 1440) ≡ true → constraint_time w (Some (Start d)) ≡ (Ok (Some (day_start w (midnight_of d))))
+    constraint_start_in y = constraint_time_start w (Some (Start d)) d (Ok (day_start w (midnight_of d))) refl (sym (reads_in Err _ _ y))
 
-    pub constraint_start_out : in_years (midnight_of d / 1440) ≡ false → constraint_time w (Start d) ≡ Err TooLong
-    constraint_start_out n = constraint_time_start w (Start d) d (Err TooLong) refl (sym (reads_out Err _ _ n))
+    pub constraint_start_out : in_years (midnight_of d / 1440) ≡ false → constraint_time w (Some (Start d)) ≡ Err TooLong
+    constraint_start_out n = constraint_time_start w (Some (Start d)) d (Err TooLong) refl (sym (reads_out Err _ _ n))
 
-    pub constraint_start_sound : (u : ℕ) → constraint_time w (Start d) ≡ (Ok (Some u))
+    pub constraint_start_sound : (u : ℕ) → constraint_time w (Some (Start d)) ≡ (Ok (Some u))
         → (u ≡ day_start w (midnight_of d)) × DayStart w (midnight_of d) u × (first_minute ≤ u) × (u < end_minute)
     constraint_start_sound u e =
         ⊎_elim
@@ -102,32 +102,32 @@ module _ (w : ℕ → Bool) where
         (λ n. let f = constraint_start_out n in clash (cc)) (cases (in_years (midnight_of d / 1440)))
 
     -- a constraint on a finish
-    constraint_finish_is : constraint_time w (Finish d) ≡ moment_of (previous_finish w (midnight_of d + 1440))
-    constraint_finish_is = constraint_time_finish w (Finish d) d (previous_finish w (midnight_of d + 1440)) refl refl
+    constraint_finish_is : constraint_time w (Some (Finish d)) ≡ moment_of (previous_finish w (midnight_of d + 1440))
+    constraint_finish_is = constraint_time_finish w (Some (Finish d)) d (previous_finish w (midnight_of d + 1440)) refl refl
 
-    pub constraint_finish_sound : (u : ℕ) → constraint_time w (Finish d) ≡ (Ok (Some u))
+    pub constraint_finish_sound : (u : ℕ) → constraint_time w (Some (Finish d)) ≡ (Ok (Some u))
         → IsPreviousFinish w (midnight_of d + 1440) u × (first_minute < u) × (u < end_minute)
     constraint_finish_sound u e =
         let s = previous_finish_sound w (moment_at constraint_finish_is e) in (s.0, s.1, omega (arith, s.0.before, s.2))
 
-  pub constraint_time_bound : (end : End) (u : ℕ) → constraint_time w end ≡ (Ok (Some u)) → (first_minute ≤ u) × (u < end_minute)
-  constraint_time_bound (Start d) u e = let s = constraint_start_sound d u e in (s.2, s.3)
-  constraint_time_bound (Finish d) u e = let s = constraint_finish_sound d u e in (omega (arith, s.1), s.2)
-  constraint_time_bound Neither u e = let f = constraint_time_neither w Neither refl in clash (cc)
+  pub constraint_time_bound : (end : Option End) (u : ℕ) → constraint_time w end ≡ (Ok (Some u)) → (first_minute ≤ u) × (u < end_minute)
+  constraint_time_bound (Some (Start d)) u e = let s = constraint_start_sound d u e in (s.2, s.3)
+  constraint_time_bound (Some (Finish d)) u e = let s = constraint_finish_sound d u e in (omega (arith, s.1), s.2)
+  constraint_time_bound None u e = let f = constraint_time_neither w None refl in clash (cc)
 
-  pub constraint_time_refused : (end : End) (k : ClockError) → constraint_time w end ≡ Err k → k ≡ TooLong
-  constraint_time_refused (Start d) k e =
+  pub constraint_time_refused : (end : Option End) (k : ClockError) → constraint_time w end ≡ Err k → k ≡ TooLong
+  constraint_time_refused (Some (Start d)) k e =
       ⊎_elim (λ y. let f = constraint_start_in d y in clash (cc))
       (λ n. let f = constraint_start_out d n in cc) (cases (in_years (midnight_of d / 1440)))
-  constraint_time_refused (Finish d) k e = previous_finish_refused w _ k (moment_refused (constraint_finish_is d) e)
-  constraint_time_refused Neither k e = let f = constraint_time_neither w Neither refl in clash (cc)
+  constraint_time_refused (Some (Finish d)) k e = previous_finish_refused w _ k (moment_refused (constraint_finish_is d) e)
+  constraint_time_refused None k e = let f = constraint_time_neither w None refl in clash (cc)
 
-  pub constraint_time_nowhere : (end : End) → constraint_time w end ≡ (Ok None) → end ≡ Neither
-  constraint_time_nowhere (Start d) e =
+  pub constraint_time_nowhere : (end : Option End) → constraint_time w end ≡ (Ok None) → end ≡ None
+  constraint_time_nowhere (Some (Start d)) e =
       ⊎_elim (λ y. let f = constraint_start_in d y in clash (cc))
       (λ n. let f = constraint_start_out d n in clash (cc)) (cases (in_years (midnight_of d / 1440)))
-  constraint_time_nowhere (Finish d) e = absurd (moment_somewhere (previous_finish w (midnight_of d + 1440)) (constraint_finish_is d) e)
-  constraint_time_nowhere Neither e = refl
+  constraint_time_nowhere (Some (Finish d)) e = absurd (moment_somewhere (previous_finish w (midnight_of d + 1440)) (constraint_finish_is d) e)
+  constraint_time_nowhere None e = refl
 
 -- ---- recorded work: from the day d on, and to the day e
 

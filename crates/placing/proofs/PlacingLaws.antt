@@ -1,5 +1,5 @@
 -- One law for each way out of the placings: what the walks on the way make of the answer.
-use Rattle.std.specs.Prelude.{◌≡◌, Bool, true, false, List, ℕ, ◌+◌, ◌*◌, ◌/◌, ◌≤◌, ◌<◌, max, eqb, Result, Ok, Err, Some, None}
+use Rattle.std.specs.Prelude.{◌≡◌, Bool, true, false, List, ℕ, ◌+◌, ◌*◌, ◌/◌, ◌≤◌, ◌<◌, max, eqb, Result, Ok, Err, Option, Some, None}
 use Rattle.worktime.specs.declared.ClockError.{ClockError}
 use Rattle.worktime.specs.declared.ClockError.TheVariants.{TooLong}
 use Rattle.std.proofs.Math.Path.{refl, ap}
@@ -18,7 +18,7 @@ use Rattle.worktime.specs.Search.{least_at, least_none}
 use Rattle.project.specs.declared.ActivityKind.{ActivityKind}
 use Rattle.project.specs.declared.ActivityKind.TheVariants.{Task, StartMilestone, FinishMilestone}
 use Rattle.project.specs.declared.End.{End}
-use Rattle.project.specs.declared.End.TheVariants.{Start, Finish, Neither}
+use Rattle.project.specs.declared.End.TheVariants.{Start, Finish}
 use Rattle.placing.specs.declared.Actual.{Actual}
 use Rattle.placing.specs.declared.Actual.TheVariants.{Unstarted, Begun, Completed}
 use Rattle.placing.specs.Placing.{midnight_of, via, bounded, is_moment, found, moment_of, completed, place_start, start_for_finish, place_finish, finish_for_start, finish_for_start_by, day_start, constraint_time, actual}
@@ -144,16 +144,16 @@ module _ (w : ℕ → Bool) where
   day_start_none t e = ap (found t) (least_none w 1440 t (omega arith))
 
   -- ---- a constraint's time, by the end that it bounds
-  pub constraint_time_start : (end : End) (d : Date) (x : Result ℕ ClockError) → end ≡ Start d → x ≡ reads Err (midnight_of d / 1440) (Ok (day_start w (midnight_of d)))
+  pub constraint_time_start : (end : Option End) (d : Date) (x : Result ℕ ClockError) → end ≡ Some (Start d) → x ≡ reads Err (midnight_of d / 1440) (Ok (day_start w (midnight_of d)))
       → constraint_time w end ≡ moment_of x
   unfolding constraint_time
   constraint_time_start end d x e f = ap (constraint_time w) e ∙ ap moment_of (sym f)
 
-  pub constraint_time_finish : (end : End) (d : Date) (x : Result ℕ ClockError) → end ≡ Finish d → x ≡ previous_finish w (midnight_of d + 1440) → constraint_time w end ≡ moment_of x
+  pub constraint_time_finish : (end : Option End) (d : Date) (x : Result ℕ ClockError) → end ≡ Some (Finish d) → x ≡ previous_finish w (midnight_of d + 1440) → constraint_time w end ≡ moment_of x
   unfolding constraint_time
   constraint_time_finish end d x e f = ap (constraint_time w) e ∙ ap moment_of (sym f)
 
-  pub constraint_time_neither : (end : End) → end ≡ Neither → constraint_time w end ≡ (Ok None)
+  pub constraint_time_neither : (end : Option End) → end ≡ None → constraint_time w end ≡ (Ok None)
   unfolding constraint_time
   constraint_time_neither end e = ap (constraint_time w) e
 

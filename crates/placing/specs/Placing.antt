@@ -9,7 +9,7 @@ use Rattle.worktime.specs.Walks.{reads, least, next_start, previous_finish, next
 use Rattle.project.specs.declared.ActivityKind.{ActivityKind}
 use Rattle.project.specs.declared.ActivityKind.TheVariants.{Task, StartMilestone, FinishMilestone}
 use Rattle.project.specs.declared.End.{End}
-use Rattle.project.specs.declared.End.TheVariants.{Start, Finish, Neither}
+use Rattle.project.specs.declared.End.TheVariants.{Start, Finish}
 use Rattle.placing.specs.declared.Actual.{Actual}
 use Rattle.placing.specs.declared.Actual.TheVariants.{Unstarted, Begun, Completed}
 
@@ -89,10 +89,10 @@ module _ (w : ℕ → Bool) where
   day_start t = found t (least w 1440 t)
 
   -- `constraint_time`: for a start the start of its day's work, for a finish the last finish by the end of its day
-  unfoldable pub constraint_time : End → Result (Option ℕ) ClockError
-  constraint_time (Start d) = moment_of (reads Err (midnight_of d / 1440) (Ok (day_start (midnight_of d))))
-  constraint_time (Finish d) = moment_of (previous_finish w (midnight_of d + 1440))
-  constraint_time Neither = Ok None
+  unfoldable pub constraint_time : Option End → Result (Option ℕ) ClockError
+  constraint_time (Some (Start d)) = moment_of (reads Err (midnight_of d / 1440) (Ok (day_start (midnight_of d))))
+  constraint_time (Some (Finish d)) = moment_of (previous_finish w (midnight_of d + 1440))
+  constraint_time None = Ok None
 
   -- 000's `actual`: the next start from the recorded start day on (the finish day where only that is given), and the last finish by the end of the
   -- finish day, which is not before that start

@@ -46,15 +46,17 @@ fn moment_of(walk: Result<u64, ClockError>) -> Result<Option<u64>, ClockError>
     Ok(Some(t))
 }
 
-// The time that a constraint holds its end to.
+// The time that a constraint holds its end to, if it bounds one.
 pub fn constraint_time(
     activity: Activity,
     calendar: &Calendar,
-    constraint: Constraint,
+    constraint: Option<Constraint>,
 ) -> Result<Option<u64>, ClockError>
     ensures { result ≡ constraint_time (worked_by calendar.now) (on_start constraint) }
 {
-    let end = project::on_start(constraint);
+    let Some(end) = project::on_start(constraint) else {
+        return Ok(None);
+    };
     match end {
         End::Start(day) => {
             let walk = start_of_day(calendar, day);
@@ -64,7 +66,6 @@ pub fn constraint_time(
             let walk = finish_by_day(calendar, day);
             moment_of(walk)
         }
-        End::Neither => Ok(None),
     }
 }
 

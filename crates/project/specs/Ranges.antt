@@ -16,9 +16,9 @@ pub record DayInRange (d : Date) : Type 0 where
 abbrev pub OptionalInRange : Option Date → Type 0
 OptionalInRange o = (d : Date) → o ≡ Some d → DayInRange d
 
-pub record ConstraintInRange (c : Constraint) : Type 0 where
-  pub start : (d : Date) → on_start c ≡ Start d → DayInRange d
-  pub finish : (d : Date) → on_start c ≡ Finish d → DayInRange d
+pub record ConstraintInRange (c : Option Constraint) : Type 0 where
+  pub start : (d : Date) → on_start c ≡ Some (Start d) → DayInRange d
+  pub finish : (d : Date) → on_start c ≡ Some (Finish d) → DayInRange d
 
 pub record ActivityInRange (a : Activity) : Type 0 where
   pub named : a.id ≡ 0 → ⊥

@@ -1,6 +1,6 @@
 -- A record whose test holds has values in range, in a sheet of bytes.
 use Rattle.std.proofs.Math.Path.{◌≡◌, subst}
-use Rattle.std.specs.Prelude.{refl, Bool, true, false, ◌&&◌, ◌||◌, List, ◌⊎◌, ℕ, ◌+◌, ◌≤◌, ◌<◌, leb, ltb, pos, Some, None}
+use Rattle.std.specs.Prelude.{refl, Bool, true, false, ◌&&◌, ◌||◌, List, ◌⊎◌, ℕ, ◌+◌, ◌≤◌, ◌<◌, leb, ltb, pos, Option, Some, None}
 use Rattle.std.proofs.Common.{sym, ap, ◌∙◌, true≢false, arith}
 use Rattle.std.proofs.Math.Logic.{inl, inr, ⊎_elim}
 use borrow.Author.Tests.{leb-true, eqb-true, eqb-false, not-true, ne_eqb}
@@ -14,7 +14,7 @@ use Rattle.date.specs.Days.{biased}
 use Rattle.date.specs.Years.{in_years, years_within}
 use Rattle.project.specs.declared.Constraint.{Constraint}
 use Rattle.project.specs.declared.End.{End}
-use Rattle.project.specs.declared.End.TheVariants.{Start, Finish, Neither}
+use Rattle.project.specs.declared.End.TheVariants.{Start, Finish}
 use Rattle.project.specs.Fields.{day_ok, day_or_absent, header_ok, calendar_ok, constraint_ok, activity_ok}
 use Rattle.project.specs.Records.{pick, date_at, optional_date_at, activity_kind_of, constraint_of, activity_at, project_at, day_length_at}
 use Rattle.project.specs.Status.{is_milestone, on_start}
@@ -46,15 +46,15 @@ unfolding is_milestone activity_kind_of
 milestone_code n m e = true≢false (sym m ∙ rw e)
 
 -- the day of an end, or another where it has none
-abbrev day_or : Date → End → Date
-day_or d (Start e) = e
-day_or d (Finish e) = e
-day_or d Neither = d
+abbrev day_or : Date → Option End → Date
+day_or d (Some (Start e)) = e
+day_or d (Some (Finish e)) = e
+day_or d None = d
 
-OwnDay : Date → Constraint → Type 0
+OwnDay : Date → Option Constraint → Type 0
 OwnDay d c = day_or d (on_start c) ≡ d
 
-either : (d : Date) (b : Bool) (x y : Constraint) → OwnDay d x → OwnDay d y → OwnDay d (pick b x y)
+either : (d : Date) (b : Bool) (x y : Option Constraint) → OwnDay d x → OwnDay d y → OwnDay d (pick b x y)
 either d true x y p q = p
 either d false x y p q = q
 
@@ -70,16 +70,16 @@ own_day n d =
     (either d (eqb n 6) _ _ refl (either d (eqb n 7) _ _ refl (either d (eqb n 8) _ _ refl refl))))))))
 
 -- a constraint bounds an end on the day that it holds
-pub start_day : (n : ℕ) (d e : Date) → on_start (constraint_of n d) ≡ Start e → d ≡ e
+pub start_day : (n : ℕ) (d e : Date) → on_start (constraint_of n d) ≡ Some (Start e) → d ≡ e
 unfolding OwnDay
 start_day n d e h = sym (own_day n d) ∙ ap (day_or d) h
 
-pub finish_day_lem : (n : ℕ) (d e : Date) → on_start (constraint_of n d) ≡ Finish e → d ≡ e
+pub finish_day_lem : (n : ℕ) (d e : Date) → on_start (constraint_of n d) ≡ Some (Finish e) → d ≡ e
 unfolding OwnDay
 finish_day_lem n d e h = sym (own_day n d) ∙ ap (day_or d) h
 
 -- the codes 0 and 9 bound neither end
-pub neither_end : (n : ℕ) (d : Date) → (n ≡ 0) ⊎ (n ≡ 9) → on_start (constraint_of n d) ≡ Neither
+pub neither_end : (n : ℕ) (d : Date) → (n ≡ 0) ⊎ (n ≡ 9) → on_start (constraint_of n d) ≡ None
 unfolding constraint_of on_start
 neither_end n d (inl e) = rw e
 neither_end n d (inr e) = rw e

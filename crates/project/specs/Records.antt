@@ -5,7 +5,7 @@ use Rattle.date.specs.declared.Date.{Date}
 use Rattle.project.specs.declared.ActivityKind.{ActivityKind}
 use Rattle.project.specs.declared.ActivityKind.TheVariants.{Task, StartMilestone, FinishMilestone}
 use Rattle.project.specs.declared.Constraint.{Constraint}
-use Rattle.project.specs.declared.Constraint.TheVariants.{Unconstrained, StartOnOrAfter, StartOnOrBefore, FinishOnOrAfter, FinishOnOrBefore, StartOn, FinishOn, MandatoryStart, MandatoryFinish, AsLateAsPossible}
+use Rattle.project.specs.declared.Constraint.TheVariants.{StartOnOrAfter, StartOnOrBefore, FinishOnOrAfter, FinishOnOrBefore, StartOn, FinishOn, MandatoryStart, MandatoryFinish, AsLateAsPossible}
 use Rattle.project.specs.declared.Activity.{Activity}
 use Rattle.project.specs.declared.RelationshipType.{RelationshipType}
 use Rattle.project.specs.declared.RelationshipType.TheVariants.{FinishToStart, StartToStart, FinishToFinish, StartToFinish}
@@ -41,15 +41,15 @@ unfoldable pub activity_kind_of : ℕ → ActivityKind
 activity_kind_of n = pick (eqb n 0) Task (pick (eqb n 1) StartMilestone FinishMilestone)
 
 -- "u8: 0 none, 1 to 9 in 002's order; then its day"
-unfoldable pub constraint_of : ℕ → Date → Constraint
+unfoldable pub constraint_of : ℕ → Date → Option Constraint
 constraint_of n d =
-    pick (eqb n 0) Unconstrained
-    (pick (eqb n 1) (StartOnOrAfter d)
-    (pick (eqb n 2) (StartOnOrBefore d)
-    (pick (eqb n 3) (FinishOnOrAfter d)
-    (pick (eqb n 4) (FinishOnOrBefore d)
-    (pick (eqb n 5) (StartOn d)
-    (pick (eqb n 6) (FinishOn d) (pick (eqb n 7) (MandatoryStart d) (pick (eqb n 8) (MandatoryFinish d) AsLateAsPossible))))))))
+    pick (eqb n 0) None
+    (pick (eqb n 1) (Some (StartOnOrAfter d))
+    (pick (eqb n 2) (Some (StartOnOrBefore d))
+    (pick (eqb n 3) (Some (FinishOnOrAfter d))
+    (pick (eqb n 4) (Some (FinishOnOrBefore d))
+    (pick (eqb n 5) (Some (StartOn d))
+    (pick (eqb n 6) (Some (FinishOn d)) (pick (eqb n 7) (Some (MandatoryStart d)) (pick (eqb n 8) (Some (MandatoryFinish d)) (Some AsLateAsPossible)))))))))
 
 -- "A: id, kind, calendar, parent, minutes, actual start?, actual finish?, remaining, expected finish?, twice a constraint, levelled start?"
 unfoldable pub activity_at : List ℕ → ℕ → Activity

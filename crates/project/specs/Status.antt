@@ -4,9 +4,9 @@ use Rattle.date.specs.declared.Date.{Date}
 use Rattle.project.specs.declared.ActivityKind.{ActivityKind}
 use Rattle.project.specs.declared.ActivityKind.TheVariants.{Task, StartMilestone, FinishMilestone}
 use Rattle.project.specs.declared.Constraint.{Constraint}
-use Rattle.project.specs.declared.Constraint.TheVariants.{Unconstrained, StartOnOrAfter, StartOnOrBefore, FinishOnOrAfter, FinishOnOrBefore, StartOn, FinishOn, MandatoryStart, MandatoryFinish, AsLateAsPossible}
+use Rattle.project.specs.declared.Constraint.TheVariants.{StartOnOrAfter, StartOnOrBefore, FinishOnOrAfter, FinishOnOrBefore, StartOn, FinishOn, MandatoryStart, MandatoryFinish, AsLateAsPossible}
 use Rattle.project.specs.declared.End.{End}
-use Rattle.project.specs.declared.End.TheVariants.{Start, Finish, Neither}
+use Rattle.project.specs.declared.End.TheVariants.{Start, Finish}
 use Rattle.project.specs.declared.Status.{Status}
 use Rattle.project.specs.declared.Status.TheVariants.{NotStarted, InProgress, Completed}
 
@@ -16,25 +16,25 @@ is_milestone StartMilestone = true
 is_milestone FinishMilestone = true
 
 -- 002's `on_start`, with the day: "Whether it bounds the start [..] or the finish [..]; none for as late as possible"
-unfoldable pub on_start : Constraint → End
-on_start Unconstrained = Neither
-on_start (StartOnOrAfter d) = Start d
-on_start (StartOnOrBefore d) = Start d
-on_start (FinishOnOrAfter d) = Finish d
-on_start (FinishOnOrBefore d) = Finish d
-on_start (StartOn d) = Start d
-on_start (FinishOn d) = Finish d
-on_start (MandatoryStart d) = Start d
-on_start (MandatoryFinish d) = Finish d
-on_start AsLateAsPossible = Neither
+unfoldable pub on_start : Option Constraint → Option End
+on_start None = None
+on_start (Some (StartOnOrAfter d)) = Some (Start d)
+on_start (Some (StartOnOrBefore d)) = Some (Start d)
+on_start (Some (FinishOnOrAfter d)) = Some (Finish d)
+on_start (Some (FinishOnOrBefore d)) = Some (Finish d)
+on_start (Some (StartOn d)) = Some (Start d)
+on_start (Some (FinishOn d)) = Some (Finish d)
+on_start (Some (MandatoryStart d)) = Some (Start d)
+on_start (Some (MandatoryFinish d)) = Some (Finish d)
+on_start (Some AsLateAsPossible) = None
 
 -- `on_start() == Some(true)`
-abbrev pub is_start : End → Bool
-is_start (Start d) = true
-is_start (Finish d) = false
-is_start Neither = false
+abbrev pub is_start : Option End → Bool
+is_start (Some (Start d)) = true
+is_start (Some (Finish d)) = false
+is_start None = false
 
-unfoldable pub bounds_start : Constraint → Bool
+unfoldable pub bounds_start : Option Constraint → Bool
 bounds_start c = is_start (on_start c)
 
 -- 000's `status` of an activity that is no summary: completed once a finish is recorded, else in progress once a start is

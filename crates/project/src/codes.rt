@@ -23,20 +23,20 @@ impl From<u64> for ActivityKind {
 }
 
 #[tactic(auto, unfolding(crate::specs::Records::constraint_of))]
-pub fn constraint_of(code: u64, day: Date) -> Constraint
+pub fn constraint_of(code: u64, day: Date) -> Option<Constraint>
     ensures { result ≡ constraint_of code day }
 {
     match code {
-        0 => Constraint::Unconstrained,
-        1 => Constraint::StartOnOrAfter(day),
-        2 => Constraint::StartOnOrBefore(day),
-        3 => Constraint::FinishOnOrAfter(day),
-        4 => Constraint::FinishOnOrBefore(day),
-        5 => Constraint::StartOn(day),
-        6 => Constraint::FinishOn(day),
-        7 => Constraint::MandatoryStart(day),
-        8 => Constraint::MandatoryFinish(day),
-        _ => Constraint::AsLateAsPossible,
+        0 => None,
+        1 => Some(Constraint::StartOnOrAfter(day)),
+        2 => Some(Constraint::StartOnOrBefore(day)),
+        3 => Some(Constraint::FinishOnOrAfter(day)),
+        4 => Some(Constraint::FinishOnOrBefore(day)),
+        5 => Some(Constraint::StartOn(day)),
+        6 => Some(Constraint::FinishOn(day)),
+        7 => Some(Constraint::MandatoryStart(day)),
+        8 => Some(Constraint::MandatoryFinish(day)),
+        _ => Some(Constraint::AsLateAsPossible),
     }
 }
 

@@ -37,8 +37,8 @@ pub fn read_remaining(sheet: &[u8], at: usize) -> Option<i32>
     Some(number::read_i32(sheet, at))
 }
 
-// The constraint at a place: its code, then its day.
-pub fn read_constraint(sheet: &[u8], at: usize) -> Constraint
+// The constraint at a place, if any: its code, then its day.
+pub fn read_constraint(sheet: &[u8], at: usize) -> Option<Constraint>
     requires { at + 5 ≤ length sheet.now }
     ensures { result ≡ constraint_of (byte_at sheet.now at) (date_at sheet.now (at + 1)) }
 {

@@ -21,7 +21,6 @@ pub enum ActivityKind {
 // A date that an activity is held to, beyond its links.
 #[derive(Clone, Copy)]
 pub enum Constraint {
-    Unconstrained,
     StartOnOrAfter(Date),
     StartOnOrBefore(Date),
     FinishOnOrAfter(Date),
@@ -44,8 +43,8 @@ pub struct Activity {
     pub actual_finish: Option<Date>,
     pub remaining: Option<i32>,
     pub expected_finish: Option<Date>,
-    pub constraint: Constraint,
-    pub secondary_constraint: Constraint,
+    pub constraint: Option<Constraint>,
+    pub secondary_constraint: Option<Constraint>,
     pub levelled: Option<Date>,
 }
 
@@ -119,12 +118,11 @@ pub struct Project {
     pub critical_by: CriticalBy,
 }
 
-// Which end of an activity a constraint bounds, and on which day.
+// An end of an activity that a constraint bounds, and on which day.
 #[derive(Clone, Copy)]
 pub enum End {
     Start(Date),
     Finish(Date),
-    Neither,
 }
 
 // How far an activity's work has come, by its recorded days.
@@ -147,36 +145,30 @@ pub fn is_milestone(kind: ActivityKind) -> bool
     }
 }
 
-// The end that a constraint bounds, with its day.
+// The end that a constraint bounds, with its day, if any.
 #[tactic(auto, unfolding(crate::specs::Status::on_start))]
-pub fn on_start(constraint: Constraint) -> End
+pub fn on_start(constraint: Option<Constraint>) -> Option<End>
     ensures { result ≡ on_start constraint }
 {
-    match constraint {
-        Constraint::Unconstrained => End::Neither,
-        Constraint::StartOnOrAfter(day) => End::Start(day),
-        Constraint::StartOnOrBefore(day) => End::Start(day),
-        Constraint::FinishOnOrAfter(day) => End::Finish(day),
-        Constraint::FinishOnOrBefore(day) => End::Finish(day),
-        Constraint::StartOn(day) => End::Start(day),
-        Constraint::FinishOn(day) => End::Finish(day),
-        Constraint::MandatoryStart(day) => End::Start(day),
-        Constraint::MandatoryFinish(day) => End::Finish(day),
-        Constraint::AsLateAsPossible => End::Neither,
+    match constraint? {
+        Constraint::StartOnOrAfter(day) => Some(End::Start(day)),
+        Constraint::StartOnOrBefore(day) => Some(End::Start(day)),
+        Constraint::FinishOnOrAfter(day) => Some(End::Finish(day)),
+        Constraint::FinishOnOrBefore(day) => Some(End::Finish(day)),
+        Constraint::StartOn(day) => Some(End::Start(day)),
+        Constraint::FinishOn(day) => Some(End::Finish(day)),
+        Constraint::MandatoryStart(day) => Some(End::Start(day)),
+        Constraint::MandatoryFinish(day) => Some(End::Finish(day)),
+        Constraint::AsLateAsPossible => None,
     }
 }
 
 // Whether a constraint bounds the start.
 #[tactic(auto, unfolding(crate::specs::Status::bounds_start))]
-pub fn bounds_start(constraint: Constraint) -> bool
+pub fn bounds_start(constraint: Option<Constraint>) -> bool
     ensures { result ≡ bounds_start constraint }
 {
-    let end = on_start(constraint);
-    match end {
-        End::Start(_) => true,
-        End::Finish(_) => false,
-        End::Neither => false,
-    }
+    matches!(on_start(constraint), Some(End::Start(_)))
 }
 
 // The status that two recorded days give an activity that is no summary.

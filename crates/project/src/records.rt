@@ -75,14 +75,14 @@ pub fn read_expected_finish(sheet: &[u8], at: usize) -> Option<Date>
     fields::read_optional_date(sheet, at + 27)
 }
 
-pub fn read_first_constraint(sheet: &[u8], at: usize) -> Constraint
+pub fn read_first_constraint(sheet: &[u8], at: usize) -> Option<Constraint>
     requires { at + 45 ≤ length sheet.now }
     ensures { result ≡ (activity_at sheet.now at).constraint }
 {
     fields::read_constraint(sheet, at + 31)
 }
 
-pub fn read_secondary_constraint(sheet: &[u8], at: usize) -> Constraint
+pub fn read_secondary_constraint(sheet: &[u8], at: usize) -> Option<Constraint>
     requires { at + 45 ≤ length sheet.now }
     ensures { result ≡ (activity_at sheet.now at).secondary_constraint }
 {

@@ -16,7 +16,7 @@ use Rattle.worktime.specs.Reads.{on_false}
 use Rattle.project.specs.declared.ActivityKind.{ActivityKind}
 use Rattle.project.specs.declared.ActivityKind.TheVariants.{Task, StartMilestone, FinishMilestone}
 use Rattle.project.specs.declared.Constraint.{Constraint}
-use Rattle.project.specs.declared.Constraint.TheVariants.{Unconstrained, StartOnOrAfter, StartOnOrBefore, FinishOnOrAfter, FinishOnOrBefore, StartOn, FinishOn, MandatoryStart, MandatoryFinish, AsLateAsPossible}
+use Rattle.project.specs.declared.Constraint.TheVariants.{StartOnOrAfter, StartOnOrBefore, FinishOnOrAfter, FinishOnOrBefore, StartOn, FinishOn, MandatoryStart, MandatoryFinish, AsLateAsPossible}
 use Rattle.project.specs.declared.RelationshipType.{RelationshipType}
 use Rattle.project.specs.declared.RelationshipType.TheVariants.{FinishToStart, StartToStart, FinishToFinish, StartToFinish}
 use Rattle.project.specs.declared.End.TheVariants.{Start, Finish}
@@ -127,19 +127,19 @@ module _ (p : Plan) where
       on_time_lem (Ok None) x go e = inr (refl, e)
       on_time_lem (Err k) x go e = let z : ◌≡◌ {A = ℕ} 0 1 = cc in absurd (omega arith)
 
-      on_start_lem : (x : Date) (y : Result ℕ ClockError) (go : ℕ → Result ℕ ClockError) {b : ℕ} → on_time p d (constraint_time (own p i) (Start x)) y go ≡ Ok b
+      on_start_lem : (x : Date) (y : Result ℕ ClockError) (go : ℕ → Result ℕ ClockError) {b : ℕ} → on_time p d (constraint_time (own p i) (Some (Start x))) y go ≡ Ok b
           → go (day_start (own p i) (midnight_of x)) ≡ Ok b
       on_start_lem x y go e =
           ⊎_elim (λ r. ap go (sym (start_time (own p i) x r.1)) ∙ r.2) (λ r. absurd (start_somewhere (own p i) x r.0))
-          (on_time_lem (constraint_time (own p i) (Start x)) y go e)
+          (on_time_lem (constraint_time (own p i) (Some (Start x))) y go e)
 
-      on_finish : (x : Date) (y : Result ℕ ClockError) (go : ℕ → Result ℕ ClockError) {b : ℕ} → on_time p d (constraint_time (own p i) (Finish x)) y go ≡ Ok b
+      on_finish : (x : Date) (y : Result ℕ ClockError) (go : ℕ → Result ℕ ClockError) {b : ℕ} → on_time p d (constraint_time (own p i) (Some (Finish x))) y go ≡ Ok b
           → (t : ℕ) × IsPreviousFinish (own p i) (evening (midnight_of x)) t × (go t ≡ Ok b)
       on_finish x y go e =
           ⊎_elim (λ r. (r.0, finish_time (own p i) x r.1, r.2)) (λ r. absurd (finish_somewhere (own p i) x r.0))
-          (on_time_lem (constraint_time (own p i) (Finish x)) y go e)
+          (on_time_lem (constraint_time (own p i) (Some (Finish x))) y go e)
 
-      start_date : (x : Date) (a : ℕ) {b : ℕ} → on_time p d (constraint_time (own p i) (Start x)) (Ok a) (λ t. Ok (max a t)) ≡ Ok b
+      start_date : (x : Date) (a : ℕ) {b : ℕ} → on_time p d (constraint_time (own p i) (Some (Start x))) (Ok a) (λ t. Ok (max a t)) ≡ Ok b
           → ((a ≤ v) × (day_start (own p i) (midnight_of x) ≤ v)) ↔ (b ≤ v)
       start_date x a {b} e =
           let q = on_start_lem x (Ok a) (λ t. Ok (max a t)) e in
@@ -147,7 +147,7 @@ module _ (p : Plan) where
           (λ h. omega arith, λ l. omega arith)
 
       finish_date_lem : (x : Date) (a : ℕ) {b : ℕ}
-          → on_time p d (constraint_time (own p i) (Finish x)) (Ok a) (λ t. via Err (start_for_finish (own p i) (d.left i) t) (λ s. Ok (max a s))) ≡ Ok b
+          → on_time p d (constraint_time (own p i) (Some (Finish x))) (Ok a) (λ t. via Err (start_for_finish (own p i) (d.left i) t) (λ s. Ok (max a s))) ≡ Ok b
           → ((a ≤ v) × FinishDate p i x g) ↔ (b ≤ v)
       finish_date_lem x a {b} e =
           let q = on_finish x (Ok a) (λ t. via Err (start_for_finish (own p i) (d.left i) t) (λ s. Ok (max a s))) e in
@@ -164,18 +164,18 @@ module _ (p : Plan) where
       no_date : {a b : ℕ} → ◌≡◌ {A = Result ℕ ClockError} (Ok a) (Ok b) → ((a ≤ v) × Unit {0}) ↔ (b ≤ v)
       no_date {a} {b} e = let z : a ≡ b = cc in (λ h. let m = h.0 in omega arith, λ l. (omega arith, tt))
 
-      pub constrained_bound : (k : Constraint) → Mild k → (a : ℕ) {b : ℕ} → constrained p d i k a ≡ Ok b → ((a ≤ v) × Meets p i k v g) ↔ (b ≤ v)
+      pub constrained_bound : (k : Option Constraint) → Mild k → (a : ℕ) {b : ℕ} → constrained p d i k a ≡ Ok b → ((a ≤ v) × Meets p i k v g) ↔ (b ≤ v)
       unfolding constrained on_start constraint_time
-      constrained_bound Unconstrained m a e = no_date e
-      constrained_bound (StartOnOrAfter x) m a e = start_date x a e
-      constrained_bound (StartOnOrBefore x) m a e = no_date (on_start_lem x (Ok a) (λ t. Ok a) e)
-      constrained_bound (FinishOnOrAfter x) m a e = finish_date_lem x a e
-      constrained_bound (FinishOnOrBefore x) m a e = no_date (on_finish x (Ok a) (λ t. Ok a) e).2
-      constrained_bound (StartOn x) m a e = start_date x a e
-      constrained_bound (FinishOn x) m a e = finish_date_lem x a e
-      constrained_bound (MandatoryStart x) m a e = absurd m
-      constrained_bound (MandatoryFinish x) m a e = absurd m
-      constrained_bound AsLateAsPossible m a e = absurd m
+      constrained_bound None m a e = no_date e
+      constrained_bound (Some (StartOnOrAfter x)) m a e = start_date x a e
+      constrained_bound (Some (StartOnOrBefore x)) m a e = no_date (on_start_lem x (Ok a) (λ t. Ok a) e)
+      constrained_bound (Some (FinishOnOrAfter x)) m a e = finish_date_lem x a e
+      constrained_bound (Some (FinishOnOrBefore x)) m a e = no_date (on_finish x (Ok a) (λ t. Ok a) e).2
+      constrained_bound (Some (StartOn x)) m a e = start_date x a e
+      constrained_bound (Some (FinishOn x)) m a e = finish_date_lem x a e
+      constrained_bound (Some (MandatoryStart x)) m a e = absurd m
+      constrained_bound (Some (MandatoryFinish x)) m a e = absurd m
+      constrained_bound (Some AsLateAsPossible) m a e = absurd m
 
       pub levelled_bound : (x : Option Date) (a : ℕ) {b : ℕ} → levelled p d i x a ≡ Ok b → ((a ≤ v) × MeetsLevelled p i x v) ↔ (b ≤ v)
       levelled_bound None a e = no_date e

@@ -12,7 +12,7 @@ use Rattle.std.proofs.Math.IntN.{ℤ}
 use Rattle.number.specs.Sign.{min_z}
 use Rattle.worktime.specs.Walks.{next_start, previous_finish, between}
 use Rattle.project.specs.declared.Constraint.{Constraint}
-use Rattle.project.specs.declared.Constraint.TheVariants.{Unconstrained, StartOnOrAfter, StartOnOrBefore, FinishOnOrAfter, FinishOnOrBefore, StartOn, FinishOn, MandatoryStart, MandatoryFinish, AsLateAsPossible}
+use Rattle.project.specs.declared.Constraint.TheVariants.{StartOnOrAfter, StartOnOrBefore, FinishOnOrAfter, FinishOnOrBefore, StartOn, FinishOn, MandatoryStart, MandatoryFinish, AsLateAsPossible}
 use Rattle.network.specs.Times.{times_at, times_place}
 use Rattle.network.specs.Placed.{times_reverse}
 use Rattle.placing.specs.declared.Actual.{Actual}
@@ -32,17 +32,17 @@ use Rattle.timetable.specs.WalkLaws.{via_leaves}
 use Rattle.timetable.proofs.StepLaws.{recorded_actual}
 use Rattle.timetable.proofs.PassLaws.{Trace, through_trace}
 
-mild_late : (c : Constraint) → Mild c → is_late c ≡ false
-mild_late Unconstrained m = refl
-mild_late (StartOnOrAfter x) m = refl
-mild_late (StartOnOrBefore x) m = refl
-mild_late (FinishOnOrAfter x) m = refl
-mild_late (FinishOnOrBefore x) m = refl
-mild_late (StartOn x) m = refl
-mild_late (FinishOn x) m = refl
-mild_late (MandatoryStart x) m = refl
-mild_late (MandatoryFinish x) m = refl
-mild_late AsLateAsPossible m = absurd m
+mild_late : (c : Option Constraint) → Mild c → is_late c ≡ false
+mild_late None m = refl
+mild_late (Some (StartOnOrAfter x)) m = refl
+mild_late (Some (StartOnOrBefore x)) m = refl
+mild_late (Some (FinishOnOrAfter x)) m = refl
+mild_late (Some (FinishOnOrBefore x)) m = refl
+mild_late (Some (StartOn x)) m = refl
+mild_late (Some (FinishOn x)) m = refl
+mild_late (Some (MandatoryStart x)) m = refl
+mild_late (Some (MandatoryFinish x)) m = refl
+mild_late (Some AsLateAsPossible) m = absurd m
 
 measured_leaves : {A : Type 0} (x : Result ℤ ClockError) (go : ℤ → Pass A) (y : A) → measured refused x go ≡ leaves y → (z : ℤ) × (go z ≡ leaves y)
 measured_leaves (Ok z) go y e = (z, e)

@@ -4,22 +4,22 @@ use Rattle.date.specs.declared.Date.{Date}
 use Rattle.project.specs.declared.ActivityKind.{ActivityKind}
 use Rattle.project.specs.declared.ActivityKind.TheVariants.{Task, StartMilestone, FinishMilestone}
 use Rattle.project.specs.declared.Constraint.{Constraint}
-use Rattle.project.specs.declared.Constraint.TheVariants.{Unconstrained, StartOnOrAfter, StartOnOrBefore, FinishOnOrAfter, FinishOnOrBefore, StartOn, FinishOn, MandatoryStart, MandatoryFinish, AsLateAsPossible}
+use Rattle.project.specs.declared.Constraint.TheVariants.{StartOnOrAfter, StartOnOrBefore, FinishOnOrAfter, FinishOnOrBefore, StartOn, FinishOn, MandatoryStart, MandatoryFinish, AsLateAsPossible}
 use Rattle.order.specs.Plan.{Plan}
 use Rattle.order.specs.Ids.{summary}
 
 -- no mandatory or as-late-as-possible mark
-abbrev pub Mild : Constraint → Type 0
-Mild Unconstrained = Unit {0}
-Mild (StartOnOrAfter d) = Unit {0}
-Mild (StartOnOrBefore d) = Unit {0}
-Mild (FinishOnOrAfter d) = Unit {0}
-Mild (FinishOnOrBefore d) = Unit {0}
-Mild (StartOn d) = Unit {0}
-Mild (FinishOn d) = Unit {0}
-Mild (MandatoryStart d) = ⊥
-Mild (MandatoryFinish d) = ⊥
-Mild AsLateAsPossible = ⊥
+abbrev pub Mild : Option Constraint → Type 0
+Mild None = Unit {0}
+Mild (Some (StartOnOrAfter d)) = Unit {0}
+Mild (Some (StartOnOrBefore d)) = Unit {0}
+Mild (Some (FinishOnOrAfter d)) = Unit {0}
+Mild (Some (FinishOnOrBefore d)) = Unit {0}
+Mild (Some (StartOn d)) = Unit {0}
+Mild (Some (FinishOn d)) = Unit {0}
+Mild (Some (MandatoryStart d)) = ⊥
+Mild (Some (MandatoryFinish d)) = ⊥
+Mild (Some AsLateAsPossible) = ⊥
 
 -- an expected finish that is read: a milestone's never is
 abbrev pub Unexpected : ActivityKind → Option Date → Type 0

@@ -6,7 +6,7 @@ use Rattle.worktime.specs.Worked.{count, closing, IsNextStart, IsPreviousFinish,
 use Rattle.project.specs.declared.ActivityKind.{ActivityKind}
 use Rattle.project.specs.declared.ActivityKind.TheVariants.{Task, StartMilestone, FinishMilestone}
 use Rattle.project.specs.declared.Constraint.{Constraint}
-use Rattle.project.specs.declared.Constraint.TheVariants.{Unconstrained, StartOnOrAfter, StartOnOrBefore, FinishOnOrAfter, FinishOnOrBefore, StartOn, FinishOn, MandatoryStart, MandatoryFinish, AsLateAsPossible}
+use Rattle.project.specs.declared.Constraint.TheVariants.{StartOnOrAfter, StartOnOrBefore, FinishOnOrAfter, FinishOnOrBefore, StartOn, FinishOn, MandatoryStart, MandatoryFinish, AsLateAsPossible}
 use Rattle.project.specs.declared.RelationshipType.{RelationshipType}
 use Rattle.project.specs.declared.RelationshipType.TheVariants.{FinishToStart, StartToStart, FinishToFinish, StartToFinish}
 use Rattle.placing.specs.Placing.{midnight_of, day_start}
@@ -58,17 +58,17 @@ module _ (p : Plan) where
   abbrev pub FinishDate : ℕ → Date → ℕ → Type 0
   FinishDate i d f = (b : ℕ) × IsPreviousFinish (own p i) (evening (midnight_of d)) b × FinishBound (own p i) (kind_of p i) b f
 
-  abbrev pub Meets : ℕ → Constraint → ℕ → ℕ → Type 0
-  Meets i Unconstrained s f = Unit {0}
-  Meets i (StartOnOrAfter d) s f = day_start (own p i) (midnight_of d) ≤ s
-  Meets i (StartOnOrBefore d) s f = Unit {0}
-  Meets i (FinishOnOrAfter d) s f = FinishDate i d f
-  Meets i (FinishOnOrBefore d) s f = Unit {0}
-  Meets i (StartOn d) s f = day_start (own p i) (midnight_of d) ≤ s
-  Meets i (FinishOn d) s f = FinishDate i d f
-  Meets i (MandatoryStart d) s f = Unit {0}
-  Meets i (MandatoryFinish d) s f = Unit {0}
-  Meets i AsLateAsPossible s f = Unit {0}
+  abbrev pub Meets : ℕ → Option Constraint → ℕ → ℕ → Type 0
+  Meets i None s f = Unit {0}
+  Meets i (Some (StartOnOrAfter d)) s f = day_start (own p i) (midnight_of d) ≤ s
+  Meets i (Some (StartOnOrBefore d)) s f = Unit {0}
+  Meets i (Some (FinishOnOrAfter d)) s f = FinishDate i d f
+  Meets i (Some (FinishOnOrBefore d)) s f = Unit {0}
+  Meets i (Some (StartOn d)) s f = day_start (own p i) (midnight_of d) ≤ s
+  Meets i (Some (FinishOn d)) s f = FinishDate i d f
+  Meets i (Some (MandatoryStart d)) s f = Unit {0}
+  Meets i (Some (MandatoryFinish d)) s f = Unit {0}
+  Meets i (Some AsLateAsPossible) s f = Unit {0}
 
   abbrev pub MeetsLevelled : ℕ → Option Date → ℕ → Type 0
   MeetsLevelled i (Some d) s = day_start (own p i) (midnight_of d) ≤ s

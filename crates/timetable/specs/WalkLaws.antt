@@ -80,19 +80,19 @@ module _ (w : ℕ → Bool) where
   some_time (Ok u) e = let z : ◌≡◌ {A = ℕ} 0 1 = cc in omega arith
   some_time (Err k) e = let z : ◌≡◌ {A = ℕ} 0 1 = cc in omega arith
 
-  pub start_time : (x : Date) {t : ℕ} → constraint_time w (Start x) ≡ (Ok (Some t)) → t ≡ day_start w (midnight_of x)
+  pub start_time : (x : Date) {t : ℕ} → constraint_time w (Some (Start x)) ≡ (Ok (Some t)) → t ≡ day_start w (midnight_of x)
   unfolding constraint_time
   start_time x e = reads_at (midnight_of x / 1440) (day_start w (midnight_of x)) (moment_at (reads Err (midnight_of x / 1440) (Ok (day_start w (midnight_of x)))) e)
 
-  pub finish_time : (x : Date) {t : ℕ} → constraint_time w (Finish x) ≡ (Ok (Some t)) → IsPreviousFinish w (evening (midnight_of x)) t
+  pub finish_time : (x : Date) {t : ℕ} → constraint_time w (Some (Finish x)) ≡ (Ok (Some t)) → IsPreviousFinish w (evening (midnight_of x)) t
   unfolding constraint_time
   finish_time x e = (previous_finish_sound w (moment_at (previous_finish w (midnight_of x + 1440)) e)).0
 
-  pub start_somewhere : (x : Date) → constraint_time w (Start x) ≡ (Ok None) → ⊥
+  pub start_somewhere : (x : Date) → constraint_time w (Some (Start x)) ≡ (Ok None) → ⊥
   unfolding constraint_time
   start_somewhere x e = some_time (reads Err (midnight_of x / 1440) (Ok (day_start w (midnight_of x)))) e
 
-  pub finish_somewhere : (x : Date) → constraint_time w (Finish x) ≡ (Ok None) → ⊥
+  pub finish_somewhere : (x : Date) → constraint_time w (Some (Finish x)) ≡ (Ok None) → ⊥
   unfolding constraint_time
   finish_somewhere x e = some_time (previous_finish w (midnight_of x + 1440)) e
 

@@ -4,8 +4,8 @@ use mathlib.Core.Path.{sym, ap, ◌∙◌}
 use Rattle.early.specs.EarlyLaws.{early_stays, early_start, early_finish, early_mandatory_start, early_mandatory_finish}
 use Rattle.early.proofs.at_early.Goals as goal
 
-pub returns-in-Unconstrained : goal.returns-in-Unconstrained
-returns-in-Unconstrained c = λ p d i H T. sym (early_stays H _ _ _ c.in-Unconstrained.is)
+pub returns-in-StartOnOrBefore : goal.returns-in-StartOnOrBefore
+returns-in-StartOnOrBefore c = λ p d i H T. sym (early_stays H _ _ _ c.in-StartOnOrBefore.is)
 
 pub returns-in-StartOnOrAfter : goal.returns-in-StartOnOrAfter
 returns-in-StartOnOrAfter c = λ p d i H T. ap Ok c.max.ensures ∙ sym (early_start H _ _ _ c.in-StartOnOrAfter.is)

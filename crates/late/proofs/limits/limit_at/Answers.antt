@@ -1,5 +1,5 @@
 -- `late::limits::limit_at` meets its contract, by the constraint.
-use Rattle.std.specs.Prelude.{Ok, Err}
+use Rattle.std.specs.Prelude.{Ok, Err, Some}
 use mathlib.Core.Path.{sym, ap, ◌∙◌}
 use Prim.Native.Nat.{min}
 use Rattle.passes.specs.Backward.{at_late}
@@ -19,4 +19,4 @@ pub returns-in-MandatoryStart : goal.returns-in-MandatoryStart
 returns-in-MandatoryStart c =
     λ p d l i O.
     let x = c.args in
-    c.finish_for_start_by.ensures ∙ (λ z. finish_for_start_by (O.works z) (O.left_is z) x.t) ∙ sym (ap (λ (k : Constraint). at_late p d l i k x.t x.latest) c.in-MandatoryStart.is)
+    c.finish_for_start_by.ensures ∙ (λ z. finish_for_start_by (O.works z) (O.left_is z) x.t) ∙ sym (ap (λ (k : Constraint). at_late p d l i (Some k) x.t x.latest) c.in-MandatoryStart.is)

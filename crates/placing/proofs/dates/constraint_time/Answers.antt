@@ -1,15 +1,16 @@
 -- `placing::dates::constraint_time` meets its contract, by the end that the constraint bounds.
-use mathlib.Core.Path.{sym, ◌∙◌}
+use Rattle.std.specs.Prelude.{Some}
+use mathlib.Core.Path.{sym, ap, ◌∙◌}
 use Rattle.placing.proofs.PlacingLaws.{constraint_time_start, constraint_time_finish, constraint_time_neither}
 use Rattle.placing.proofs.dates.constraint_time.Goals as goal
 
 pub returns-in-Start : goal.returns-in-Start
 returns-in-Start c =
-    c.moment_of.ensures ∙ sym (constraint_time_start _ _ _ _ (sym c.on_start-end.ensures ∙ c.in-Start.is) c.start_of_day-walk.ensures)
+    c.moment_of.ensures ∙ sym (constraint_time_start _ _ _ _ (sym c.on_start.ensures ∙ c.in-Some.is ∙ ap Some c.in-Start.is) c.start_of_day-walk.ensures)
 
 pub returns-in-Finish : goal.returns-in-Finish
 returns-in-Finish c =
-    c.moment_of-in-Finish.ensures ∙ sym (constraint_time_finish _ _ _ _ (sym c.on_start-end.ensures ∙ c.in-Finish.is) c.finish_by_day-walk.ensures)
+    c.moment_of-in-Finish.ensures ∙ sym (constraint_time_finish _ _ _ _ (sym c.on_start.ensures ∙ c.in-Some.is ∙ ap Some c.in-Finish.is) c.finish_by_day-walk.ensures)
 
-pub returns-in-Neither : goal.returns-in-Neither
-returns-in-Neither c = sym (constraint_time_neither _ _ (sym c.on_start-end.ensures ∙ c.in-Neither.is))
+pub returns-in_default : goal.returns-in_default
+returns-in_default c = sym (constraint_time_neither _ _ (sym c.on_start.ensures ∙ c.in_default.is))
