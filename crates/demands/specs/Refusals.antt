@@ -25,18 +25,18 @@ pub always_eight : {A : Type 0} (x : Result A ClockError) → Eight x
 always_eight (Ok x) = tt
 always_eight (Err k) = error_eight k
 
-abbrev pub ActualEight : Actual → Type 0
-ActualEight Unstarted = Unit {0}
-ActualEight (Begun s) = Unit {0}
-ActualEight (Completed s f) = Unit {0}
-ActualEight (Actual.Refused k) = clock_number k ≡ 8
+abbrev pub ActualEight : Result Actual ClockError → Type 0
+ActualEight (Ok Unstarted) = Unit {0}
+ActualEight (Ok (Begun s)) = Unit {0}
+ActualEight (Ok (Completed s f)) = Unit {0}
+ActualEight (Err k) = clock_number k ≡ 8
 
 -- so what is recorded of every activity
-pub actual_eight : (x : Actual) → ActualEight x
-actual_eight Unstarted = tt
-actual_eight (Begun s) = tt
-actual_eight (Completed s f) = tt
-actual_eight (Actual.Refused k) = error_eight k
+pub actual_eight : (x : Result Actual ClockError) → ActualEight x
+actual_eight (Ok Unstarted) = tt
+actual_eight (Ok (Begun s)) = tt
+actual_eight (Ok (Completed s f)) = tt
+actual_eight (Err k) = error_eight k
 
 -- ---- by name: the clock's walks, where work is placed, what is recorded
 abbrev pub WalkEight : Result ℕ ClockError → Type 0

@@ -88,14 +88,12 @@ pub fn constraint_time(
 }
 
 // Work that began on a day and goes on.
-fn begun(week: [[Period; 8]; 7], sheet: &[u8], at: usize, n: usize, start: Date) -> Actual
+fn begun(week: [[Period; 8]; 7], sheet: &[u8], at: usize, n: usize, start: Date) -> Result<Actual, ClockError>
     requires { Valid week sheet.now at n }
     ensures { result ≡ actual (worked_on week sheet.now at n) (Some start) None }
 {
-    match clock::next_start(week, sheet, at, n, start.midnight()) {
-        Ok(s) => Actual::Begun(s),
-        Err(k) => Actual::Refused(k),
-    }
+    let s = clock::next_start(week, sheet, at, n, start.midnight())?;
+    Ok(Actual::Begun(s))
 }
 
 // Work that began on a day and ended on another: its finish is not before its start.
@@ -106,22 +104,16 @@ fn completed(
     n: usize,
     start: Date,
     finish: Date,
-) -> Actual
+) -> Result<Actual, ClockError>
     requires { Valid week sheet.now at n }
     ensures { result ≡ actual (worked_on week sheet.now at n) (Some start) (Some finish) }
 {
-    match clock::next_start(week, sheet, at, n, start.midnight()) {
-        Ok(s) => match finish_by_day(week, sheet, at, n, finish) {
-            Ok(f) => {
-                if f < s {
-                    return Actual::Completed(s, s);
-                }
-                Actual::Completed(s, f)
-            }
-            Err(k) => Actual::Refused(k),
-        },
-        Err(k) => Actual::Refused(k),
+    let s = clock::next_start(week, sheet, at, n, start.midnight())?;
+    let f = finish_by_day(week, sheet, at, n, finish)?;
+    if f < s {
+        return Ok(Actual::Completed(s, s));
     }
+    Ok(Actual::Completed(s, f))
 }
 
 // What is recorded of the activity's work: with only a finish day, it began on that day.
@@ -131,7 +123,7 @@ pub fn actual(
     sheet: &[u8],
     at: usize,
     n: usize,
-) -> Actual
+) -> Result<Actual, ClockError>
     requires { Valid week sheet.now at n }
     ensures { result ≡ actual (worked_on week sheet.now at n) activity.actual_start activity.actual_finish }
 {
@@ -144,7 +136,7 @@ pub fn actual(
         },
         None => match first {
             Some(start) => begun(week, sheet, at, n, start),
-            None => Actual::Unstarted,
+            None => Ok(Actual::Unstarted),
         },
     }
 }

@@ -94,9 +94,9 @@ module _ (p : Plan) where
       where
         by : Sort p (trace.at t.q) (trace.at (suc t.q)) i (p.activity i).actual_start (p.activity i).actual_finish
             → begun p (recorded p i) (d.es i) ≡ d.es i
-        by (fresh a y m h) = ap (λ (x : Actual). begun p x (d.es i)) (recorded_actual p i z ∙ a)
+        by (fresh a y m h) = ap (λ (x : Result Actual ClockError). begun p x (d.es i)) (recorded_actual p i z ∙ a)
         by (done s f a c g) =
-            ap (λ (x : Actual). begun p x (d.es i)) (recorded_actual p i z ∙ a) ∙ sym (given i t s f ((trace.at t.q).left i) g).0
+            ap (λ (x : Result Actual ClockError). begun p x (d.es i)) (recorded_actual p i z ∙ a) ∙ sym (given i t s f ((trace.at t.q).left i) g).0
 
     -- the predecessors' dates stand when i's step comes
     preds : (i : ℕ) (t : Turn i) (k : ℕ) → k < kept p → (tie p k).to ≡ i

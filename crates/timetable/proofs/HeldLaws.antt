@@ -61,7 +61,7 @@ module _ (p : Plan) (d : Early) where
   abbrev late : ℕ → Bool
   late i = is_late (p.activity i).constraint || is_late (p.activity i).secondary_constraint
 
-  completed_begun : (i : ℕ) (x y : Result ℕ ClockError) (l : Bool) → (not_begun p d (via Actual.Refused x (λ s. completed s y)) && l) ≡ false
+  completed_begun : (i : ℕ) (x y : Result ℕ ClockError) (l : Bool) → (not_begun p d (via Err x (λ s. completed s y)) && l) ≡ false
   completed_begun i (Ok t) (Ok u) l = refl
   completed_begun i (Ok t) (Err k) l = refl
   completed_begun i (Err k) y l = refl
