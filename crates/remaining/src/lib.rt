@@ -79,7 +79,7 @@ fn still_left(
     }
 }
 
-// The work left by what is recorded: all of it, or none once completed.
+// The work left by what is recorded: all of it where work has not begun, none once it is completed.
 fn left_of(
     sheet: &[u8],
     contents: Contents,
