@@ -1,6 +1,7 @@
 -- Demand 3, the early starts: for a plan that fits and whose forward pass is not refused they obey the timetable rules, and in every timetable that
 -- does each activity starts at that minute or later.
-use Rattle.std.specs.Prelude.{◌≡◌, refl, true, false, ◌⊎◌, ℕ, zero, suc, ◌^◌, ◌≤◌, ◌<◌, length, get_or, ℤ, pos}
+use Rattle.std.specs.Prelude.{◌≡◌, refl, true, false, ◌⊎◌, ℕ, zero, suc, ◌^◌, ◌≤◌, ◌<◌, length, get_or, ℤ, pos, Result}
+use Rattle.worktime.specs.declared.ClockError.{ClockError}
 use Rattle.std.proofs.Common.{sym, ap, subst, ◌∙◌, inl, inr, ⊎_elim, arith}
 use Rattle.std.specs.Int.Signed.{le_z}
 use Rattle.number.specs.ZedLaws.{le_le_z, minus_is}
