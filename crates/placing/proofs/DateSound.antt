@@ -18,7 +18,6 @@ use Rattle.project.specs.declared.End.TheVariants.{Start, Finish, Neither}
 use Rattle.project.specs.declared.Status.TheVariants.{NotStarted, InProgress, Completed as StatusCompleted}
 use Rattle.project.specs.Status.{status_of}
 use Rattle.project.specs.Ranges.{DayInRange}
-use Rattle.placing.specs.declared.Actual.{Actual}
 use Rattle.placing.specs.declared.Actual.TheVariants.{Unstarted, Begun, Completed}
 use Rattle.placing.specs.Placing.{midnight_of, found, moment_of, day_start, constraint_time, actual}
 use Rattle.placing.proofs.PlacingLaws.{day_start_none, constraint_time_start, constraint_time_finish, constraint_time_neither, actual_none, actual_finish_only, actual_begun, actual_begun_refuses, actual_start_refuses, actual_finish_refuses, actual_both}

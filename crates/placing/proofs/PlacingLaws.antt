@@ -19,7 +19,6 @@ use Rattle.project.specs.declared.ActivityKind.{ActivityKind}
 use Rattle.project.specs.declared.ActivityKind.TheVariants.{Task, StartMilestone, FinishMilestone}
 use Rattle.project.specs.declared.End.{End}
 use Rattle.project.specs.declared.End.TheVariants.{Start, Finish, Neither}
-use Rattle.placing.specs.declared.Actual.{Actual}
 use Rattle.placing.specs.declared.Actual.TheVariants.{Unstarted, Begun, Completed}
 use Rattle.placing.specs.Placing.{midnight_of, via, bounded, is_moment, found, moment_of, completed, place_start, start_for_finish, place_finish, finish_for_start, finish_for_start_by, day_start, constraint_time, actual}
 

@@ -88,7 +88,13 @@ pub fn constraint_time(
 }
 
 // Work that began on a day and goes on.
-fn begun(week: [[Period; 8]; 7], sheet: &[u8], at: usize, n: usize, start: Date) -> Result<Actual, ClockError>
+fn begun(
+    week: [[Period; 8]; 7],
+    sheet: &[u8],
+    at: usize,
+    n: usize,
+    start: Date,
+) -> Result<Actual, ClockError>
     requires { Valid week sheet.now at n }
     ensures { result ≡ actual (worked_on week sheet.now at n) (Some start) None }
 {

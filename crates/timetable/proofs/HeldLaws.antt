@@ -15,7 +15,6 @@ use Rattle.project.specs.declared.Constraint.{Constraint}
 use Rattle.project.specs.declared.Constraint.TheVariants.{Unconstrained, StartOnOrAfter, StartOnOrBefore, FinishOnOrAfter, FinishOnOrBefore, StartOn, FinishOn, MandatoryStart, MandatoryFinish, AsLateAsPossible}
 use Rattle.network.specs.Times.{times_at, times_place}
 use Rattle.network.specs.Placed.{times_reverse}
-use Rattle.placing.specs.declared.Actual.{Actual}
 use Rattle.placing.specs.Placing.{via, midnight_of, completed, actual}
 use Rattle.order.specs.Plan.{Plan}
 use Rattle.order.specs.Ids.{summary}
