@@ -1,6 +1,5 @@
 -- A step of the backward pass: what it stores, what it keeps, and its ways by what is recorded.
-use Rattle.std.specs.Prelude.{◌≡◌, refl, ℕ, ◌<◌, pos}
-use Rattle.worktime.specs.declared.ClockError.{ClockError}
+use Rattle.std.specs.Prelude.{◌≡◌, refl, ℕ, ◌<◌, pos, Ok}
 use Rattle.std.proofs.Common.{sym, ◌∙◌, arith}
 use Rattle.std.proofs.Math.Path.{ap}
 use Rattle.memory.specs.State.{State, put_act, fill_act}
@@ -52,15 +51,14 @@ module _ (p : Plan) (S : State) (v : ℕ) where
 
 -- ---- the step by what is recorded
 module _ (p : Plan) (d : Early) (last : ℕ) (l : Late) (i : ℕ) where
-  pub back_completed : (s f : ℕ) → recorded p i ≡ Completed s f → backward p d last l i ≡ leaves (late p d l i (d.es i) (d.ef i))
+  pub back_completed : (s f : ℕ) → recorded p i ≡ Ok (Completed s f) → backward p d last l i ≡ leaves (late p d l i (d.es i) (d.ef i))
   unfolding backward
   back_completed s f e = ap (backward_by p d l last i) e
 
-  -- neither completed nor refused
-  pub back_unfinished : (a : Actual) → a ≡ recorded p i → ((s f : ℕ) → a ≡ Completed s f → ⊥) → ((k : ClockError) → a ≡ Actual.Refused k → ⊥)
+  -- not completed
+  pub back_unfinished : (a : Actual) → Ok a ≡ recorded p i → ((s f : ℕ) → a ≡ Completed s f → ⊥)
       → backward p d last l i ≡ unfinished_late p d l i last
   unfolding backward
-  back_unfinished Unstarted e m n = ap (backward_by p d l last i) (sym e)
-  back_unfinished (Begun s) e m n = ap (backward_by p d l last i) (sym e)
-  back_unfinished (Completed s f) e m n = absurd (m s f refl)
-  back_unfinished (Actual.Refused k) e m n = absurd (n k refl)
+  back_unfinished Unstarted e m = ap (backward_by p d l last i) (sym e)
+  back_unfinished (Begun s) e m = ap (backward_by p d l last i) (sym e)
+  back_unfinished (Completed s f) e m = absurd (m s f refl)

@@ -96,7 +96,7 @@ fn place_unfinished(
     i: usize,
     actual: Actual,
 ) -> Result<(), ClockError>
-    requires { Ready sheet.now contents places.now t work.old × (i < contents.activities) × (actual ≡ recorded (plan_of sheet.now contents) i) }
+    requires { Ready sheet.now contents places.now t work.old × (i < contents.activities) × (Ok actual ≡ recorded (plan_of sheet.now contents) i) }
     ensures { (ended (late_in (plan_of sheet.now contents) (state_of contents.activities contents.links work.new) last) result ≡ unfinished_late (plan_of sheet.now contents) (early_in (plan_of sheet.now contents) (state_of contents.activities contents.links work.old)) (late_in (plan_of sheet.now contents) (state_of contents.activities contents.links work.old) last) i last) × Frame 10 12 0 0 (state_of contents.activities contents.links work.old) (state_of contents.activities contents.links work.new) × (length work.new ≡ length work.old) }
 {
     let dates = late::late_of(sheet, contents, places, t, work, i, actual, last)?;

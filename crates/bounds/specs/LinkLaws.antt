@@ -1,5 +1,5 @@
 -- A kept link's bound from what stands in the memory: the link itself, its predecessor's dates, and what is recorded of it.
-use Rattle.std.specs.Prelude.{◌≡◌, List, ℕ, ◌+◌, ◌^◌, ◌≤◌, ◌<◌, ℤ, Result}
+use Rattle.std.specs.Prelude.{◌≡◌, List, ℕ, ◌+◌, ◌^◌, ◌≤◌, ◌<◌, ℤ, Result, Ok}
 use Rattle.worktime.specs.declared.ClockError.{ClockError}
 use Rattle.std.proofs.Common.{sym, ap, ap₂, ◌∙◌, arith}
 use Rattle.number.specs.Zed.{up, dn}
@@ -54,12 +54,12 @@ module _ {s : List ℕ} {c : Contents} {calendars : List PlanCalendar} {t : ℕ}
     within = omega (arith, from_in, activities_are s c)
 
     pub link_bound_is : (a : Actual) (es₀ es ef : ℕ) (r : Result ℕ ClockError) → a ≡ actual_in S τ.from → es₀ ≡ S.act early_start τ.from
-        → ((q : Plan) → es ≡ begun q a es₀) → ef ≡ S.act early_finish τ.from → r ≡ forward_bound p (as_tie τ) es ef
+        → ((q : Plan) → es ≡ begun q (Ok a) es₀) → ef ≡ S.act early_finish τ.from → r ≡ forward_bound p (as_tie τ) es ef
         → r ≡ link_bound p (early_in p S) k
     link_bound_is a es₀ es ef r f g h m q =
         let d : Early = early_in p S in
         let start : es ≡ begun p (recorded p τ.from) (d.es τ.from) =
-        h p ∙ ap₂ (begun p) (f ∙ N τ.from within) (g ∙ sym (column_at p.activities (λ i. origin p) early_start S τ.from within)) in
+        h p ∙ ap₂ (begun p) (ap Ok f ∙ N τ.from within) (g ∙ sym (column_at p.activities (λ i. origin p) early_start S τ.from within)) in
         let finish : ef ≡ d.ef τ.from = m ∙ sym (column_at p.activities (λ i. origin p) early_finish S τ.from within) in
         q ∙ ap₂ (forward_bound p (as_tie τ)) start finish
         ∙ ap (λ (x : ties.Tie). forward_bound p x (begun p (recorded p x.from) (d.es x.from)) (d.ef x.from)) tie_is

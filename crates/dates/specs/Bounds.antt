@@ -126,14 +126,14 @@ module _ (w : ℕ → Bool) where
       (via_small (start_by w t) (λ s. advance w s left) (λ v d. start_by_below t d) (λ v m x d. advance_below v left m d)) u e
 
 -- ---- recorded work
-pub record ActualBelow (x : Actual) : Type 0 where
-  pub begun : (s : ℕ) → x ≡ Begun s → s < 2 ^ 63
-  pub completed : (s f : ℕ) → x ≡ Completed s f → (s < 2 ^ 63) × (f < 2 ^ 63)
+pub record ActualBelow (x : Result Actual ClockError) : Type 0 where
+  pub begun : (s : ℕ) → x ≡ Ok (Begun s) → s < 2 ^ 63
+  pub completed : (s f : ℕ) → x ≡ Ok (Completed s f) → (s < 2 ^ 63) × (f < 2 ^ 63)
 
-unstarted_below : ActualBelow Unstarted
+unstarted_below : ActualBelow (Ok Unstarted)
 unstarted_below = record { begun = λ s e. clash (cc); completed = λ s f e. clash (cc) }
 
-begun_of : (x : Result ℕ ClockError) → Small x → ActualBelow (via Actual.Refused x (λ s. Begun s))
+begun_of : (x : Result ℕ ClockError) → Small x → ActualBelow (via Err x (λ s. Ok (Begun s)))
 begun_of (Ok u) h = record { begun = λ s e. h s (ap Ok (let same : u ≡ s = cc in same)); completed = λ s f e. clash (cc) }
 begun_of (Err k) h = record { begun = λ s e. clash (cc); completed = λ s f e. clash (cc) }
 
@@ -147,7 +147,7 @@ finished s (Ok f) l h = record {
 }
 finished s (Err k) l h = record { begun = λ r e. clash (cc); completed = λ r g e. clash (cc) }
 
-completed_of : (x y : Result ℕ ClockError) → Small x → Small y → ActualBelow (via Actual.Refused x (λ s. completed s y))
+completed_of : (x y : Result ℕ ClockError) → Small x → Small y → ActualBelow (via Err x (λ s. completed s y))
 completed_of (Ok s) y h k = finished s y (h s refl) k
 completed_of (Err k) y h g = record { begun = λ r e. clash (cc); completed = λ r f e. clash (cc) }
 
@@ -167,13 +167,13 @@ module _ (p : Plan) where
   unfolding recorded
   recorded_below i = by (summary p i) _ (actual_below (own p i) (p.activity i).actual_start (p.activity i).actual_finish)
     where
-      by : (b : Bool) (x : Actual) → ActualBelow x → ActualBelow (elim b [ true ↦ Unstarted | false ↦ x ])
+      by : (b : Bool) (x : Result Actual ClockError) → ActualBelow x → ActualBelow (elim b [ true ↦ Ok Unstarted | false ↦ x ])
       by true x h = unstarted_below
       by false x h = h
 
   -- the start from which links count
-  pub begun_below : (x : Actual) (es : ℕ) → ActualBelow x → es < 2 ^ 63 → begun p x es < 2 ^ 63
-  begun_below Unstarted es h l = l
-  begun_below (Begun s) es h l = h.begun s refl
-  begun_below (Completed s f) es h l = (h.completed s f refl).0
-  begun_below (Actual.Refused k) es h l = l
+  pub begun_below : (x : Result Actual ClockError) (es : ℕ) → ActualBelow x → es < 2 ^ 63 → begun p x es < 2 ^ 63
+  begun_below (Ok Unstarted) es h l = l
+  begun_below (Ok (Begun s)) es h l = h.begun s refl
+  begun_below (Ok (Completed s f)) es h l = (h.completed s f refl).0
+  begun_below (Err k) es h l = l

@@ -1,5 +1,5 @@
 -- What a pass leaves of what stands: under its frame the plan is ready, recorded work is recorded, and the dates of other fields are the same.
-use Rattle.std.specs.Prelude.{◌≡◌, true, List, ℕ, ◌≤◌, ℤ, length}
+use Rattle.std.specs.Prelude.{◌≡◌, true, List, ℕ, ◌≤◌, ℤ, length, Ok}
 use Rattle.std.proofs.Common.{◌∙◌, arith}
 use Rattle.memory.specs.State.{State, state_of}
 use Rattle.memory.specs.Fields.{late_start, late_finish, early_start, early_finish, work_left, free_float, recorded_as, recorded_start, recorded_finish}
@@ -27,7 +27,7 @@ ready_kept {lo} {hi} {s} {c} R F e l = record {
 -- by the fields that are read; of literals each is `refl`
 module _ {lo hi : ℕ} {S T : State} (F : Frame lo hi 0 0 S T) (p : Plan) where
   pub recorded_kept : outside lo hi recorded_as ≡ true → outside lo hi recorded_start ≡ true → outside lo hi recorded_finish ≡ true → Recorded p S → Recorded p T
-  recorded_kept a b c R = λ i l. (λ z. actual_of (F.acts recorded_as a z i) (F.acts recorded_start b z i) (F.acts recorded_finish c z i)) ∙ R i l
+  recorded_kept a b c R = λ i l. (λ z. Ok (actual_of (F.acts recorded_as a z i) (F.acts recorded_start b z i) (F.acts recorded_finish c z i))) ∙ R i l
 
   pub early_kept : outside lo hi early_start ≡ true → outside lo hi early_finish ≡ true → outside lo hi work_left ≡ true → early_in p T ≡ early_in p S
   early_kept a b c = λ z. record {

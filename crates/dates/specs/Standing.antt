@@ -1,5 +1,5 @@
 -- What the checks leave in the lent memory for the passes: the kept links and their chains, the order, parents and summaries; and what is recorded of work.
-use Rattle.std.specs.Prelude.{◌≡◌, true, false, List, ℕ, ◌≤◌, ◌<◌, eqb, ℤ, length, get_or}
+use Rattle.std.specs.Prelude.{◌≡◌, true, false, List, ℕ, ◌≤◌, ◌<◌, eqb, ℤ, length, get_or, Ok}
 use Rattle.number.specs.Bit.{bit}
 use Rattle.project.specs.Records.{relationship_type_of}
 use Rattle.placing.specs.declared.Actual.{Actual}
@@ -62,4 +62,4 @@ pub record Ready (s : List ℕ) (c : Contents) (calendars : List PlanCalendar) (
 
 -- fields 17 to 19 of activities
 abbrev pub Recorded : Plan → State → Type 0
-Recorded p S = (i : ℕ) → i < p.activities → actual_in S i ≡ recorded p i
+Recorded p S = (i : ℕ) → i < p.activities → Ok (actual_in S i) ≡ recorded p i

@@ -1,6 +1,5 @@
--- What stands for the passes stays under their frames; what is recorded is no refusal; the chains list the links of the definitions.
-use Rattle.std.specs.Prelude.{◌≡◌, refl, Bool, true, false, ℕ, ◌-◌, ◌≤◌, ◌<◌, eqb, length}
-use Rattle.worktime.specs.declared.ClockError.{ClockError}
+-- What stands for the passes stays under their frames; the chains list the links of the definitions.
+use Rattle.std.specs.Prelude.{◌≡◌, refl, Bool, true, false, ℕ, ◌-◌, ◌≤◌, ◌<◌, length}
 use Rattle.std.proofs.Math.Path.{sym, ap}
 use Rattle.std.proofs.Common.{◌∙◌}
 use native.Mathlib.Omega.{arith}
@@ -16,8 +15,6 @@ use Rattle.order.specs.Plan.{Plan}
 use Rattle.order.specs.Ties.{Tie, kept_links, tie_of}
 use Rattle.network.specs.Links.{Link}
 use Rattle.project.specs.Records.{relationship_type_of}
-use Rattle.placing.specs.declared.Actual.{Actual}
-use Rattle.placing.specs.declared.Actual.TheVariants.{Unstarted, Begun, Completed}
 use Rattle.order.specs.TieLaws.{ends_length, ends_at}
 use Rattle.passes.specs.Plan.{ties_into, ties_out}
 use Rattle.dates.specs.Standing.{tie_in, actual_of, Standing}
@@ -54,16 +51,6 @@ module _ {lo hi : ℕ} {S T : State} (F : Frame lo hi 0 0 S T) where
       chains_out = out_kept l W.chains_out;
       ordered = λ q b. ap (λ (c : ℕ → ℕ). c q) (act_kept order_at (omega arith)) ∙ W.ordered q b;
     }
-
--- what the memory records is never a refusal
-pub never_refused : (how start finish : ℕ) (k : ClockError) → actual_of how start finish ≡ Actual.Refused k → ⊥
-unfolding actual_of
-never_refused how start finish k e = by (eqb how 0) (eqb how 1) e
-  where
-    by : (a b : Bool) → elim a [ true ↦ Unstarted | false ↦ elim b [ true ↦ Begun start | false ↦ Completed start finish ] ] ≡ Actual.Refused k → ⊥
-    by true b q = let z : ◌≡◌ {A = ℕ} 0 1 = cc in omega arith
-    by false true q = let z : ◌≡◌ {A = ℕ} 0 1 = cc in omega arith
-    by false false q = let z : ◌≡◌ {A = ℕ} 0 1 = cc in omega arith
 
 -- ---- the chains list the definitions' links
 module _ (p : Plan) {t : ℕ} {S : State} (W : Standing p t S) where

@@ -1,7 +1,7 @@
 // The run's dates in the lent memory, and what the passes read of the plan: links, recorded work, the start and the floor.
 #![tactic(auto)]
 
-ghost use Rattle.std.specs.Prelude.{◌≡◌, ◌+◌, ◌^◌, ◌<◌};
+ghost use Rattle.std.specs.Prelude.{◌≡◌, ◌+◌, ◌^◌, ◌<◌, Ok};
 ghost use Rattle.number.specs.Zed.{dn};
 ghost use Rattle.calendar.specs.Hours.{worked};
 ghost use Rattle.worktime.specs.Walks.{shift};
@@ -63,13 +63,12 @@ pub fn recorded_at(work: &[i64], a: usize, l: usize, i: usize) -> Actual
 
 // The start from which links count: the recorded one once work has begun.
 pub fn begun_at(actual: Actual, es: u64) -> u64
-    ensures { (p : Plan) → result ≡ begun p actual es }
+    ensures { (p : Plan) → result ≡ begun p (Ok actual) es }
 {
     match actual {
         Actual::Unstarted => es,
         Actual::Begun(s) => s,
         Actual::Completed(s, _) => s,
-        Actual::Refused(_) => es,
     }
 }
 

@@ -10,7 +10,6 @@ use Rattle.project.specs.declared.ActivityKind.{ActivityKind}
 use Rattle.project.specs.declared.End.{End}
 use Rattle.placing.specs.Placing.{bounded, place_start, start_for_finish, place_finish, finish_for_start, finish_for_start_by, constraint_time, actual}
 use Rattle.placing.specs.declared.Actual.{Actual}
-use Rattle.placing.specs.declared.Actual.TheVariants.{Unstarted, Begun, Completed}
 
 pub error_eight : (k : ClockError) → clock_number k ≡ 8
 error_eight TooLong = refl
@@ -20,23 +19,10 @@ abbrev pub Eight : {A : Type 0} → Result A ClockError → Type 0
 Eight (Ok x) = Unit {0}
 Eight (Err k) = clock_number k ≡ 8
 
--- so every walk of the clock, every placing and every time of a constraint, on whatever calendar
+-- so every walk of the clock, every placing, every time of a constraint and what is recorded of every activity, on whatever calendar
 pub always_eight : {A : Type 0} (x : Result A ClockError) → Eight x
 always_eight (Ok x) = tt
 always_eight (Err k) = error_eight k
-
-abbrev pub ActualEight : Actual → Type 0
-ActualEight Unstarted = Unit {0}
-ActualEight (Begun s) = Unit {0}
-ActualEight (Completed s f) = Unit {0}
-ActualEight (Actual.Refused k) = clock_number k ≡ 8
-
--- so what is recorded of every activity
-pub actual_eight : (x : Actual) → ActualEight x
-actual_eight Unstarted = tt
-actual_eight (Begun s) = tt
-actual_eight (Completed s f) = tt
-actual_eight (Actual.Refused k) = error_eight k
 
 -- ---- by name: the clock's walks, where work is placed, what is recorded
 abbrev pub WalkEight : Result ℕ ClockError → Type 0
@@ -47,6 +33,12 @@ WorkEight x = Eight x
 
 abbrev pub MomentEight : Result (Option ℕ) ClockError → Type 0
 MomentEight x = Eight x
+
+abbrev pub ActualEight : Result Actual ClockError → Type 0
+ActualEight x = Eight x
+
+pub actual_eight : (x : Result Actual ClockError) → ActualEight x
+actual_eight x = always_eight x
 
 module _ (w : ℕ → Bool) where
   pub next_start_eight : (t : ℕ) → WalkEight (next_start w t)

@@ -162,9 +162,6 @@ module _ {p : Plan} {d : Early} {i : ℕ} {activity : Activity} {w : ℕ → Boo
     pub start_completed : (s f : ℕ) → a ≡ Completed s f → start_by p d i a start ≡ Ok start
     start_completed s f e = rw e
 
-    pub start_refused : (k : ClockError) → a ≡ Actual.Refused k → start_by p d i a start ≡ Err k
-    start_refused k e = rw e
-
   -- ---- the work to an expected finish
   module _ (s : ℕ) (day : Option Date) where
     pub work_unexpected : day ≡ None → work_to p d i s day ≡ Ok left

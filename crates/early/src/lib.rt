@@ -195,7 +195,6 @@ fn start_by(
         Actual::Unstarted => held(activity, week, sheet, at, n, left, times, is_summary, start),
         Actual::Begun(s) => Ok(resumed(times, s, start)),
         Actual::Completed(_, _) => Ok(start),
-        Actual::Refused(k) => Err(k),
     }
 }
 

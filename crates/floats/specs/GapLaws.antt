@@ -79,10 +79,10 @@ module _ {s : List ℕ} {c : Contents} {places : List ℕ} {t : ℕ} {xs : List 
   gap_own i k start finish w o F = λ z. gap_by p (o z) (tie p k) (F.start_is z) (F.finish_is z) (d.es (tie p k).to) (d.ef (tie p k).to)
 
   pub from_is : Recorded p S → (i : ℕ) → i < c.activities → (actual : Actual) (es start ef : ℕ) → actual ≡ actual_in S i → es ≡ S.act early_start i
-      → ((r : Plan) → start ≡ begun r actual es) → ef ≡ S.act early_finish i → From p d i start ef
+      → ((r : Plan) → start ≡ begun r (Ok actual) es) → ef ≡ S.act early_finish i → From p d i start ef
   from_is N i l actual es start ef f g h m =
       let b : i < p.activities = omega (arith, activities_are s c) in
-      let x : actual ≡ recorded p i = f ∙ N i b in
+      let x : Ok actual ≡ recorded p i = ap Ok f ∙ N i b in
       let y : es ≡ d.es i = g ∙ sym (es_at p S i b) in
       record { start_is = h p ∙ (λ z. begun p (x z) (y z)); finish_is = m ∙ sym (ef_at p S i b) }
 
@@ -156,10 +156,10 @@ module _ {s : List ℕ} {c : Contents} {places : List ℕ} {t : ℕ} {xs : List 
           (measured_refused Err (between (own p i) (d.ef i) lf) (λ total. Ok (free_by p d (recorded p i) slack total)) j (sym to_late ∙ b))
           ∙ with_slack
 
-      pub free_of_found : (total : ℤ) → between w ef lf ≡ Ok total → (actual : Actual) → actual ≡ recorded p i → (n : ℕ)
+      pub free_of_found : (total : ℤ) → between w ef lf ≡ Ok total → (actual : Result Actual ClockError) → actual ≡ recorded p i → (n : ℕ)
           → n ≡ free_by p d actual slack total → Ok n ≡ free_of p d finish lf i
       free_of_found total b actual r n q =
-          ap Ok (q ∙ ap (λ (y : Actual). free_by p d y slack total) r)
+          ap Ok (q ∙ ap (λ (y : Result Actual ClockError). free_by p d y slack total) r)
           ∙ sym
           (measured_at Err (between (own p i) (d.ef i) lf) (λ total. Ok (free_by p d (recorded p i) slack total)) total (sym to_late ∙ b))
           ∙ with_slack

@@ -34,7 +34,7 @@ pub record Own (s : List ℕ) (c : Contents) (i : ℕ) (activity : Activity) (we
 
 -- as late as possible in either constraint, and not begun
 module _ (p : Plan) (d : Early) where
-  unfoldable pub marked_late : Actual → Option Constraint → Option Constraint → Bool
+  unfoldable pub marked_late : Result Actual ClockError → Option Constraint → Option Constraint → Bool
   marked_late actual first second = not_begun p d actual && (is_late first || is_late second)
 
 -- ---- the held late move, by values: w the activity's own worked minutes, `left` its work left, n the minutes of the move

@@ -116,24 +116,23 @@ free_is p finish l x i =
 
 -- ---- the mark, by its ways
 module _ (p : Plan) (d : Early) (actual : Actual) (first second : Option Constraint) where
-  pub marked_first : actual ≡ Unstarted → is_late first ≡ true → marked_late p d actual first second ≡ true
+  pub marked_first : actual ≡ Unstarted → is_late first ≡ true → marked_late p d (Ok actual) first second ≡ true
   unfolding marked_late
   marked_first e f = rw (e, f)
 
-  pub marked_second : actual ≡ Unstarted → is_late first ≡ false → marked_late p d actual first second ≡ is_late second
+  pub marked_second : actual ≡ Unstarted → is_late first ≡ false → marked_late p d (Ok actual) first second ≡ is_late second
   unfolding marked_late
   marked_second e f = rw (e, f)
 
-  pub marked_begun : ((s : ℕ) × (actual ≡ Begun s)) ⊎ (((s : ℕ) × (f : ℕ) × (actual ≡ Completed s f)) ⊎ ((k : ClockError) × (actual ≡ Actual.Refused k)))
-      → marked_late p d actual first second ≡ false
+  pub marked_begun : ((s : ℕ) × (actual ≡ Begun s)) ⊎ ((s : ℕ) × (f : ℕ) × (actual ≡ Completed s f))
+      → marked_late p d (Ok actual) first second ≡ false
   unfolding marked_late
   marked_begun (inl (s, e)) = rw e
-  marked_begun (inr (inl (s, f, e))) = rw e
-  marked_begun (inr (inr (k, e))) = rw e
+  marked_begun (inr (s, f, e)) = rw e
 
 -- ---- the free float of work that is not completed
 pub free_left : (p : Plan) (d : Early) (actual : Actual) (slack total : ℤ) → (actual ≡ Unstarted) ⊎ ((s : ℕ) × (actual ≡ Begun s))
-    → free_by p d actual slack total ≡ up (min_z slack total)
+    → free_by p d (Ok actual) slack total ≡ up (min_z slack total)
 free_left p d actual slack total (inl e) = rw e
 free_left p d actual slack total (inr (s, e)) = rw e
 

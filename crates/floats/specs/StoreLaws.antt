@@ -84,7 +84,7 @@ module _ (p : Plan) (d : Early) (i n : ℕ) where
   unmoved_summary cell b l =
       sym (ap (λ (x : Bool). x && ltb 0 n) (holds_late_summary p d i (mark_some (summary p i) b (λ z. omega arith))))
 
-  pub moved_by_mark : (cell : ℕ) → cell ≡ bit (summary p i) → cell ≤ 0 → (n ≡ 0 → ⊥) → (actual : Actual) → actual ≡ recorded p i
+  pub moved_by_mark : (cell : ℕ) → cell ≡ bit (summary p i) → cell ≤ 0 → (n ≡ 0 → ⊥) → (actual : Result Actual ClockError) → actual ≡ recorded p i
       → (activity : Activity) → activity ≡ p.activity i
       → marked_late p d actual activity.constraint activity.secondary_constraint ≡ (holds_late p d i && ltb 0 n)
   moved_by_mark cell b l z actual r activity q =

@@ -43,23 +43,23 @@ fn is_late(constraint: Option<Constraint>) -> bool
 
 // Whether an activity is marked "as late as possible" in either constraint and has not begun.
 fn is_marked_late(actual: Actual, first: Option<Constraint>, second: Option<Constraint>) -> bool
-    ensures { (p : Plan) (d : Early) → result ≡ marked_late p d actual first second }
+    ensures { (p : Plan) (d : Early) → result ≡ marked_late p d (Ok actual) first second }
 {
     match actual {
         Actual::Unstarted => is_late(first) || is_late(second),
-        Actual::Begun(_) | Actual::Completed(_, _) | Actual::Refused(_) => false,
+        Actual::Begun(_) | Actual::Completed(_, _) => false,
     }
 }
 
 // The free float in minutes, from the least slack before the successors and the float to the late finish: none for completed work.
 fn free_by(actual: Actual, slack: i64, total: i64) -> u64
-    ensures { ((p : Plan) (d : Early) → result ≡ free_by p d actual slack total) × (result < 2 ^ 63) }
+    ensures { ((p : Plan) (d : Early) → result ≡ free_by p d (Ok actual) slack total) × (result < 2 ^ 63) }
 {
     match actual {
         Actual::Unstarted | Actual::Begun(_) => {
             number::sign::upward(number::sign::min(slack, total))
         }
-        Actual::Completed(_, _) | Actual::Refused(_) => 0,
+        Actual::Completed(_, _) => 0,
     }
 }
 
@@ -247,7 +247,7 @@ fn is_moved(
     activity: Activity,
     free: u64,
 ) -> bool
-    requires { Room contents.activities contents.links work.now × (i < contents.activities) × (activity ≡ (plan_of sheet.now contents).activity i) × ((state_of contents.activities contents.links work.now).act is_summary i ≡ bit (summary (plan_of sheet.now contents) i)) × (actual_in (state_of contents.activities contents.links work.now) i ≡ recorded (plan_of sheet.now contents) i) }
+    requires { Room contents.activities contents.links work.now × (i < contents.activities) × (activity ≡ (plan_of sheet.now contents).activity i) × ((state_of contents.activities contents.links work.now).act is_summary i ≡ bit (summary (plan_of sheet.now contents) i)) × (Ok (actual_in (state_of contents.activities contents.links work.now) i) ≡ recorded (plan_of sheet.now contents) i) }
     ensures { result ≡ (holds_late (plan_of sheet.now contents) (early_in (plan_of sheet.now contents) (state_of contents.activities contents.links work.now)) i && ltb 0 free) }
 {
     let a = contents.activities;
@@ -311,7 +311,7 @@ fn use_float(
     n: usize,
     free: u64,
 ) -> Result<(), ClockError>
-    requires { SheetRead sheet.now contents × Room contents.activities contents.links work.old × (i < contents.activities) × Own sheet.now contents i activity week at n × ((state_of contents.activities contents.links work.old).act is_summary i ≡ bit (summary (plan_of sheet.now contents) i)) × (actual_in (state_of contents.activities contents.links work.old) i ≡ recorded (plan_of sheet.now contents) i) × (free < 2 ^ 63) }
+    requires { SheetRead sheet.now contents × Room contents.activities contents.links work.old × (i < contents.activities) × Own sheet.now contents i activity week at n × ((state_of contents.activities contents.links work.old).act is_summary i ≡ bit (summary (plan_of sheet.now contents) i)) × (Ok (actual_in (state_of contents.activities contents.links work.old) i) ≡ recorded (plan_of sheet.now contents) i) × (free < 2 ^ 63) }
     ensures { (ended (freed_in (plan_of sheet.now contents) (state_of contents.activities contents.links work.new)) result ≡ freed (plan_of sheet.now contents) (early_in (plan_of sheet.now contents) (state_of contents.activities contents.links work.old)) i free (free_in (plan_of sheet.now contents) (state_of contents.activities contents.links work.old))) × Frame 12 16 0 0 (state_of contents.activities contents.links work.old) (state_of contents.activities contents.links work.new) × (length work.new ≡ length work.old) }
 {
     if is_moved(sheet, contents, work, i, activity, free) {

@@ -20,7 +20,6 @@ use Rattle.passes.specs.Run.{early₀, forward_pass}
 use Rattle.dates.specs.Columns.{column, early_in, left_in, ended}
 use Rattle.dates.specs.ColumnLaws.{column_at, column_same, column_put, column_fill}
 use Rattle.dates.specs.Standing.{actual_in}
-use Rattle.dates.specs.StandingLaws.{never_refused}
 use Rattle.bounds.specs.ReadyLaws.{activities_are}
 use Rattle.early.specs.InHand.{placed_as}
 use Rattle.forward.specs.Linked.{after_links, stored, Settled}
@@ -76,25 +75,24 @@ settled_refused i S k x e = record {
 
 -- ---- by what is recorded
 module _ (p : Plan) (d : Early) (i : ℕ) where
-  by_links : (a : Actual) → ((s f : ℕ) → a ≡ Completed s f → ⊥) → ((k : ClockError) → a ≡ Actual.Refused k → ⊥) → after_links p d i a ≡ forward_by p d i a
-  by_links Unstarted h n = refl
-  by_links (Begun s) h n = refl
-  by_links (Completed s f) h n = absurd (h s f refl)
-  by_links (Actual.Refused k) h n = absurd (n k refl)
+  by_links : (a : Actual) → ((s f : ℕ) → a ≡ Completed s f → ⊥) → after_links p d i a ≡ forward_by p d i (Ok a)
+  by_links Unstarted h = refl
+  by_links (Begun s) h = refl
+  by_links (Completed s f) h = absurd (h s f refl)
 
-  module _ (S : State) (a : Actual) (e : a ≡ actual_in S i) (q : actual_in S i ≡ recorded p i) where
+  module _ (S : State) (a : Actual) (e : a ≡ actual_in S i) (q : Ok (actual_in S i) ≡ recorded p i) where
     pub forward_open : ((s f : ℕ) → a ≡ Completed s f → ⊥) → after_links p d i a ≡ forward p d i
     unfolding forward
-    forward_open h = by_links a h (λ k g. never_refused _ _ _ k (sym e ∙ g)) ∙ ap (forward_by p d i) (e ∙ q)
+    forward_open h = by_links a h ∙ ap (forward_by p d i) (ap Ok e ∙ q)
 
     pub forward_completed : (s f m : ℕ) → a ≡ Completed s f → m ≡ d.left i → forward p d i ≡ leaves (early p d i s f m)
     unfolding forward
     forward_completed s f m h l =
-        ap (forward_by p d i) (sym q ∙ sym e ∙ h) ∙ ap (λ (v : ℕ). leaves (early p d i s f v)) (sym l)
+        ap (forward_by p d i) (sym q ∙ ap Ok (sym e ∙ h)) ∙ ap (λ (v : ℕ). leaves (early p d i s f v)) (sym l)
 
 -- completed work, stored as it happened
 module _ (p : Plan) (S T : State) (i s f m : ℕ) (l : i < p.activities) (h : T ≡ stored S i s f m) where
-  pub completed_ended : (a : Actual) → a ≡ actual_in S i → actual_in S i ≡ recorded p i → a ≡ Completed s f → m ≡ S.act work_left i
+  pub completed_ended : (a : Actual) → a ≡ actual_in S i → Ok (actual_in S i) ≡ recorded p i → a ≡ Completed s f → m ≡ S.act work_left i
       → ended (early_in p T) (Ok tt) ≡ forward p (early_in p S) i
   completed_ended a e q k n =
       ap (λ (U : State). leaves (early_in p U)) h ∙ ap leaves (early_stored p S i s f m l)

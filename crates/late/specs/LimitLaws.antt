@@ -50,20 +50,17 @@ module _ (p : Plan) (d : Early) (l : Late) (i : ℕ) where
 
   module _ (c : Option Constraint) (latest : ℕ) where
     -- ---- by what is recorded
-    pub by_unstarted : (a : Actual) → a ≡ Unstarted → limited_by p d l i a c latest ≡ limited p d l i c latest
-    by_unstarted a e = ap (λ (x : Actual). limited_by p d l i x c latest) e
+    pub by_unstarted : (a : Actual) → a ≡ Unstarted → limited_by p d l i (Ok a) c latest ≡ limited p d l i c latest
+    by_unstarted a e = ap (λ (x : Actual). limited_by p d l i (Ok x) c latest) e
 
-    pub by_begun_start : (a : Actual) (s : ℕ) → a ≡ Begun s → bounds_start c ≡ true → limited_by p d l i a c latest ≡ Ok latest
-    by_begun_start a s e f = ap (λ (x : Actual). limited_by p d l i x c latest) e ∙ on_true (bounds_start c) (Ok latest) (limited p d l i c latest) f
+    pub by_begun_start : (a : Actual) (s : ℕ) → a ≡ Begun s → bounds_start c ≡ true → limited_by p d l i (Ok a) c latest ≡ Ok latest
+    by_begun_start a s e f = ap (λ (x : Actual). limited_by p d l i (Ok x) c latest) e ∙ on_true (bounds_start c) (Ok latest) (limited p d l i c latest) f
 
-    pub by_begun : (a : Actual) (s : ℕ) → a ≡ Begun s → bounds_start c ≡ false → limited_by p d l i a c latest ≡ limited p d l i c latest
-    by_begun a s e f = ap (λ (x : Actual). limited_by p d l i x c latest) e ∙ on_false (bounds_start c) (Ok latest) (limited p d l i c latest) f
+    pub by_begun : (a : Actual) (s : ℕ) → a ≡ Begun s → bounds_start c ≡ false → limited_by p d l i (Ok a) c latest ≡ limited p d l i c latest
+    by_begun a s e f = ap (λ (x : Actual). limited_by p d l i (Ok x) c latest) e ∙ on_false (bounds_start c) (Ok latest) (limited p d l i c latest) f
 
-    pub by_completed : (a : Actual) (s f : ℕ) → a ≡ Completed s f → limited_by p d l i a c latest ≡ Ok latest
-    by_completed a s f e = ap (λ (x : Actual). limited_by p d l i x c latest) e
-
-    pub by_refused : (a : Actual) (k : ClockError) → a ≡ Actual.Refused k → limited_by p d l i a c latest ≡ Err k
-    by_refused a k e = ap (λ (x : Actual). limited_by p d l i x c latest) e
+    pub by_completed : (a : Actual) (s f : ℕ) → a ≡ Completed s f → limited_by p d l i (Ok a) c latest ≡ Ok latest
+    by_completed a s f e = ap (λ (x : Actual). limited_by p d l i (Ok x) c latest) e
 
   -- ---- both, in turn
   module _ (latest : ℕ) where
@@ -71,7 +68,7 @@ module _ (p : Plan) (d : Early) (l : Late) (i : ℕ) where
     unfolding held_late
     held_summary e = on_true (summary p i) (Ok latest) _ e
 
-    module _ (e : summary p i ≡ false) (a : Actual) (r : a ≡ recorded p i) (c₁ c₂ : Option Constraint) (q₁ : c₁ ≡ (p.activity i).constraint)
+    module _ (e : summary p i ≡ false) (a : Result Actual ClockError) (r : a ≡ recorded p i) (c₁ c₂ : Option Constraint) (q₁ : c₁ ≡ (p.activity i).constraint)
         (q₂ : c₂ ≡ (p.activity i).secondary_constraint) where
       held_both : held_late p d l i latest ≡ via Err (limited_by p d l i a c₁ latest) (limited_by p d l i a c₂)
       unfolding held_late

@@ -113,7 +113,7 @@ fn late_from(
     actual: Actual,
     last: u64,
 ) -> Result<LateDates, ClockError>
-    requires { Ready sheet.now contents places.now t work.now × (i < contents.activities) × Valid week sheet.now unfinished.at unfinished.n × IsUnfinished (plan_of sheet.now contents) (early_in (plan_of sheet.now contents) (state_of contents.activities contents.links work.now)) i (worked_on week sheet.now unfinished.at unfinished.n) unfinished × (unfinished.origin < 2 ^ 43) × (actual ≡ recorded (plan_of sheet.now contents) i) × (week ≡ week_of_calendar sheet.now contents mine) }
+    requires { Ready sheet.now contents places.now t work.now × (i < contents.activities) × Valid week sheet.now unfinished.at unfinished.n × IsUnfinished (plan_of sheet.now contents) (early_in (plan_of sheet.now contents) (state_of contents.activities contents.links work.now)) i (worked_on week sheet.now unfinished.at unfinished.n) unfinished × (unfinished.origin < 2 ^ 43) × (Ok actual ≡ recorded (plan_of sheet.now contents) i) × (week ≡ week_of_calendar sheet.now contents mine) }
     ensures { (dated (plan_of sheet.now contents) (early_in (plan_of sheet.now contents) (state_of contents.activities contents.links work.now)) (late_in (plan_of sheet.now contents) (state_of contents.activities contents.links work.now) last) i result ≡ unfinished_late (plan_of sheet.now contents) (early_in (plan_of sheet.now contents) (state_of contents.activities contents.links work.now)) (late_in (plan_of sheet.now contents) (state_of contents.activities contents.links work.now) last) i last) × Fitting result }
 {
     let a = contents.activities;
@@ -138,7 +138,7 @@ pub fn late_of(
     actual: Actual,
     last: u64,
 ) -> Result<LateDates, ClockError>
-    requires { Ready sheet.now contents places.now t work.now × (i < contents.activities) × (actual ≡ recorded (plan_of sheet.now contents) i) }
+    requires { Ready sheet.now contents places.now t work.now × (i < contents.activities) × (Ok actual ≡ recorded (plan_of sheet.now contents) i) }
     ensures { (dated (plan_of sheet.now contents) (early_in (plan_of sheet.now contents) (state_of contents.activities contents.links work.now)) (late_in (plan_of sheet.now contents) (state_of contents.activities contents.links work.now) last) i result ≡ unfinished_late (plan_of sheet.now contents) (early_in (plan_of sheet.now contents) (state_of contents.activities contents.links work.now)) (late_in (plan_of sheet.now contents) (state_of contents.activities contents.links work.now) last) i last) × Fitting result }
 {
     let activity = dates::activity_of(sheet, contents, i);

@@ -112,7 +112,7 @@ fn limit_by(
     latest: u64,
 ) -> Result<u64, ClockError>
     requires { Valid week sheet.now unfinished.at unfinished.n }
-    ensures { (p : Plan) (d : Early) (l : Late) (i : ℕ) → IsUnfinished p d i (worked_on week sheet.now unfinished.at unfinished.n) unfinished → result ≡ limited_by p d l i actual constraint latest }
+    ensures { (p : Plan) (d : Early) (l : Late) (i : ℕ) → IsUnfinished p d i (worked_on week sheet.now unfinished.at unfinished.n) unfinished → result ≡ limited_by p d l i (Ok actual) constraint latest }
 {
     match actual {
         Actual::Unstarted => limit(week, sheet, unfinished, constraint, latest),
@@ -123,7 +123,6 @@ fn limit_by(
             limit(week, sheet, unfinished, constraint, latest)
         }
         Actual::Completed(_, _) => Ok(latest),
-        Actual::Refused(k) => Err(k),
     }
 }
 
@@ -137,7 +136,7 @@ pub fn hold_late(
     latest: u64,
 ) -> Result<u64, ClockError>
     requires { Valid week sheet.now unfinished.at unfinished.n }
-    ensures { (p : Plan) (d : Early) (l : Late) (i : ℕ) → IsUnfinished p d i (worked_on week sheet.now unfinished.at unfinished.n) unfinished → is_summary ≡ summary p i → actual ≡ recorded p i → result ≡ held_late p d l i latest }
+    ensures { (p : Plan) (d : Early) (l : Late) (i : ℕ) → IsUnfinished p d i (worked_on week sheet.now unfinished.at unfinished.n) unfinished → is_summary ≡ summary p i → Ok actual ≡ recorded p i → result ≡ held_late p d l i latest }
 {
     if is_summary {
         return Ok(latest);

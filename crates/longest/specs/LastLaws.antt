@@ -1,5 +1,5 @@
 -- The marks of what finishes the project, one activity after the other.
-use Rattle.std.specs.Prelude.{◌≡◌, refl, Bool, true, false, ◌&&◌, ◌≢◌, ℕ, ◌+◌, ◌<◌, eqb, pos}
+use Rattle.std.specs.Prelude.{◌≡◌, refl, Bool, true, false, ◌&&◌, ◌≢◌, ℕ, ◌+◌, ◌<◌, eqb, pos, Ok}
 use Rattle.std.proofs.Common.{sym, ap, ◌∙◌, arith}
 use Rattle.std.proofs.Math.Bool.{not}
 use Rattle.number.specs.Bit.{bit}
@@ -35,13 +35,13 @@ module _ (p : Plan) (S : State) (t : ℕ) (W : Standing p t S) (R : Recorded p S
     plain : summary p i ≡ false
     plain = mark_none (summary p i) (e ∙ W.marks i l) none
 
-    same : is_completed p (recorded p i) ≡ is_completed p a
-    same = ap (is_completed p) (sym (f ∙ R i l))
+    same : is_completed p (recorded p i) ≡ is_completed p (Ok a)
+    same = ap (is_completed p) (sym (ap Ok f ∙ R i l))
 
-    pub last_completed : is_completed p a ≡ true → last_ones p (early_in p S) finish i ≡ false
+    pub last_completed : is_completed p (Ok a) ≡ true → last_ones p (early_in p S) finish i ≡ false
     last_completed c = last_by false true (eqb ((early_in p S).ef i) finish) plain (same ∙ c) refl
 
-    pub last_finish : is_completed p a ≡ false → (v : ℕ) → v ≡ S.act early_finish i → last_ones p (early_in p S) finish i ≡ eqb v finish
+    pub last_finish : is_completed p (Ok a) ≡ false → (v : ℕ) → v ≡ S.act early_finish i → last_ones p (early_in p S) finish i ≡ eqb v finish
     last_finish c v g =
         last_by false false (eqb v finish) plain (same ∙ c)
         (ap (λ (x : ℕ). eqb x finish) (column_at p.activities (λ j. origin p) early_finish S i l ∙ sym g))

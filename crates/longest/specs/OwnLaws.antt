@@ -1,5 +1,5 @@
 -- An activity in hand, its own calendar, and what is read of its dates and of a link into it, as the definitions have them.
-use Rattle.std.specs.Prelude.{◌≡◌, List, ℕ, ◌<◌, ℤ, Result}
+use Rattle.std.specs.Prelude.{◌≡◌, List, ℕ, ◌<◌, ℤ, Result, Ok}
 use Rattle.worktime.specs.declared.ClockError.{ClockError}
 use Rattle.std.proofs.Common.{sym, ap, ap₂, subst, ◌∙◌, arith}
 use Rattle.calendar.specs.declared.Period.{Period}
@@ -78,10 +78,10 @@ module _ {s : List ℕ} {c : Contents} {places : List ℕ} {t : ℕ} {xs : List 
     from_inside v e = omega (arith, from_read v e, tie_from_below L.ready k l)
 
     -- whether its predecessor is completed
-    pub completed_read : (v : ℕ) (a : Actual) → v ≡ S.link from_field k → a ≡ actual_in S v → is_completed p (recorded p (tie p k).from) ≡ is_completed p a
+    pub completed_read : (v : ℕ) (a : Actual) → v ≡ S.link from_field k → a ≡ actual_in S v → is_completed p (recorded p (tie p k).from) ≡ is_completed p (Ok a)
     completed_read v a e f =
         ap (λ (j : ℕ). is_completed p (recorded p j)) (sym (from_read v e))
-        ∙ ap (is_completed p) (sym (f ∙ L.recorded v (omega (arith, from_inside v e, activities_are s c))))
+        ∙ ap (is_completed p) (sym (ap Ok f ∙ L.recorded v (omega (arith, from_inside v e, activities_are s c))))
 
     -- the start that its bound b leaves activity i
     pub start_left : (i : ℕ) → i < c.activities → (v u b : ℕ) (r : RelationshipType) (w : Result ℕ ClockError) → v ≡ S.act work_left i → u ≡ S.link kind_field k → r ≡ relationship_type_of u → w ≡ start_for p i v r b

@@ -1,7 +1,7 @@
 // The longest path: from the activities that finish the project back along the links that set a start.
 #![tactic(auto)]
 
-ghost use Rattle.std.specs.Prelude.{◌≡◌, Bool, reverse, ℕ, ◌<◌, length};
+ghost use Rattle.std.specs.Prelude.{◌≡◌, Bool, reverse, ℕ, ◌<◌, length, Ok};
 ghost use Rattle.memory.specs.State.{Room, state_of};
 ghost use Rattle.topology.specs.Frame.{Frame};
 ghost use Rattle.order.specs.Plan.{Plan, plan_of};
@@ -22,7 +22,7 @@ use worktime::ClockError;
 
 // Whether work is completed.
 fn is_completed(actual: Actual) -> bool
-    ensures { (p : Plan) → result ≡ is_completed p actual }
+    ensures { (p : Plan) → result ≡ is_completed p (Ok actual) }
 {
     matches!(actual, Actual::Completed(_, _))
 }

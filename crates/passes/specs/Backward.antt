@@ -85,11 +85,11 @@ module _ (p : Plan) where
     limited i c latest = on_time p d (constraint_time (own p i) (on_start c)) (Ok latest) (λ t. at_late i c t latest)
 
     -- once work has begun a start constraint bounds nothing
-    abbrev pub limited_by : ℕ → Actual → Option Constraint → ℕ → Result ℕ ClockError
-    limited_by i Unstarted c latest = limited i c latest
-    limited_by i (Begun s) c latest = elim (bounds_start c) [ true ↦ Ok latest | false ↦ limited i c latest ]
-    limited_by i (Completed s f) c latest = Ok latest
-    limited_by i (Actual.Refused k) c latest = Err k
+    abbrev pub limited_by : ℕ → Result Actual ClockError → Option Constraint → ℕ → Result ℕ ClockError
+    limited_by i (Ok Unstarted) c latest = limited i c latest
+    limited_by i (Ok (Begun s)) c latest = elim (bounds_start c) [ true ↦ Ok latest | false ↦ limited i c latest ]
+    limited_by i (Ok (Completed s f)) c latest = Ok latest
+    limited_by i (Err k) c latest = Err k
 
     unfoldable pub held_late : ℕ → ℕ → Result ℕ ClockError
     held_late i latest = elim (summary p i) [
@@ -118,11 +118,11 @@ module _ (p : Plan) where
         (λ b. via refused (lifted i latest b)
         (λ f. via refused (start_of (own p i) (d.left i) f) (λ u. via refused (bounded (origin p) u) (λ s. leaves (late i s f))))))
 
-    abbrev pub backward_by : ℕ → ℕ → Actual → Pass Late
-    backward_by last i (Completed s f) = leaves (late i (d.es i) (d.ef i))
-    backward_by last i (Actual.Refused k) = refused k
-    backward_by last i Unstarted = via refused (lowered i (ties_out p i) last) (λ f. via refused (held_late i f) (placed_late i))
-    backward_by last i (Begun s) = via refused (lowered i (ties_out p i) last) (λ f. via refused (held_late i f) (placed_late i))
+    abbrev pub backward_by : ℕ → ℕ → Result Actual ClockError → Pass Late
+    backward_by last i (Ok (Completed s f)) = leaves (late i (d.es i) (d.ef i))
+    backward_by last i (Err k) = refused k
+    backward_by last i (Ok Unstarted) = via refused (lowered i (ties_out p i) last) (λ f. via refused (held_late i f) (placed_late i))
+    backward_by last i (Ok (Begun s)) = via refused (lowered i (ties_out p i) last) (λ f. via refused (held_late i f) (placed_late i))
 
   -- `last` is the end
   unfoldable pub backward : Early → ℕ → Late → ℕ → Pass Late

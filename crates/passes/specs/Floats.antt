@@ -61,11 +61,11 @@ module _ (p : Plan) where
     slack_by i (t ∷ ts) slack go = gap i t (λ g. slack_by i ts (min_z slack g) go)
 
     -- as late as possible, and not begun
-    abbrev pub not_begun : Actual → Bool
-    not_begun Unstarted = true
-    not_begun (Begun s) = false
-    not_begun (Completed s f) = false
-    not_begun (Actual.Refused k) = false
+    abbrev pub not_begun : Result Actual ClockError → Bool
+    not_begun (Ok Unstarted) = true
+    not_begun (Ok (Begun s)) = false
+    not_begun (Ok (Completed s f)) = false
+    not_begun (Err k) = false
 
     unfoldable pub holds_late : ℕ → Bool
     holds_late i =
@@ -88,11 +88,11 @@ module _ (p : Plan) where
         (λ s. via refused (finish_of (own p i) (d.left i) s)
         (λ f. leaves (record { early = early p d i s f (d.left i); free = put free i 0 })))
 
-    abbrev pub free_by : Actual → ℤ → ℤ → ℕ
-    free_by (Completed s f) slack total = 0
-    free_by Unstarted slack total = up (min_z slack total)
-    free_by (Begun s) slack total = up (min_z slack total)
-    free_by (Actual.Refused k) slack total = 0
+    abbrev pub free_by : Result Actual ClockError → ℤ → ℤ → ℕ
+    free_by (Ok (Completed s f)) slack total = 0
+    free_by (Ok Unstarted) slack total = up (min_z slack total)
+    free_by (Ok (Begun s)) slack total = up (min_z slack total)
+    free_by (Err k) slack total = 0
 
     unfoldable pub freed : ℕ → ℕ → (ℕ → ℕ) → Pass Freed
     freed i n free = elim (holds_late i && ltb 0 n) [ true ↦ held_move i n free | false ↦ leaves (record { early = d; free = put free i n }) ]
@@ -106,11 +106,11 @@ module _ (p : Plan) where
       (λ total. freed x.early i (free_by x.early (recorded p i) least total) x.free)))
 
   -- ---- the longest path: from what finishes the project back along the links that set a start
-  abbrev pub is_completed : Actual → Bool
-  is_completed Unstarted = false
-  is_completed (Begun s) = false
-  is_completed (Completed s f) = true
-  is_completed (Actual.Refused k) = false
+  abbrev pub is_completed : Result Actual ClockError → Bool
+  is_completed (Ok Unstarted) = false
+  is_completed (Ok (Begun s)) = false
+  is_completed (Ok (Completed s f)) = true
+  is_completed (Err k) = false
 
   unfoldable pub last_ones : Early → ℕ → ℕ → Bool
   last_ones d finish i = not (summary p i) && not (is_completed (recorded p i)) && eqb (d.ef i) finish

@@ -42,11 +42,11 @@ module _ (p : Plan) where
   still_left i s (Some m) = Ok (to_minutes m)
   still_left i s None = since_start i s p.project.data_date
 
-  abbrev pub left_by : ℕ → Actual → Result ℕ ClockError
-  left_by i Unstarted = Ok (full p i)
-  left_by i (Begun s) = still_left i s (p.activity i).remaining
-  left_by i (Completed s f) = Ok 0
-  left_by i (Actual.Refused k) = Err k
+  abbrev pub left_by : ℕ → Result Actual ClockError → Result ℕ ClockError
+  left_by i (Ok Unstarted) = Ok (full p i)
+  left_by i (Ok (Begun s)) = still_left i s (p.activity i).remaining
+  left_by i (Ok (Completed s f)) = Ok 0
+  left_by i (Err k) = Err k
 
   unfoldable pub left_of : ℕ → Result ℕ ClockError
   left_of i = left_by i (recorded p i)
@@ -133,7 +133,6 @@ module _ (p : Plan) where
     start_by i Unstarted start = held i start
     start_by i (Begun s) start = Ok (resumed s p.project.data_date p.project.progress_mode start)
     start_by i (Completed s f) start = Ok start
-    start_by i (Actual.Refused k) start = Err k
 
     -- ---- an expected finish resets the minutes: the work from the start to that evening on i's own calendar, none where it is past
     abbrev pub expected_on : ℕ → ActivityKind → Option Date
@@ -162,11 +161,11 @@ module _ (p : Plan) where
         (λ m. via refused (finish_of (own p i) m s) (λ g. via refused (bounded (origin p) g) (λ f. leaves (early i s f m))))))
 
     -- "A completed activity stays where it happened."
-    abbrev pub forward_by : ℕ → Actual → Pass Early
-    forward_by i (Completed s f) = leaves (early i s f (d.left i))
-    forward_by i (Actual.Refused k) = refused k
-    forward_by i Unstarted = via refused (raised i (ties_into p i) (floor p)) (λ r. via refused (start_by i Unstarted r) (placed i))
-    forward_by i (Begun s) = via refused (raised i (ties_into p i) (floor p)) (λ r. via refused (start_by i (Begun s) r) (placed i))
+    abbrev pub forward_by : ℕ → Result Actual ClockError → Pass Early
+    forward_by i (Ok (Completed s f)) = leaves (early i s f (d.left i))
+    forward_by i (Err k) = refused k
+    forward_by i (Ok Unstarted) = via refused (raised i (ties_into p i) (floor p)) (λ r. via refused (start_by i Unstarted r) (placed i))
+    forward_by i (Ok (Begun s)) = via refused (raised i (ties_into p i) (floor p)) (λ r. via refused (start_by i (Begun s) r) (placed i))
 
   unfoldable pub forward : Early → ℕ → Pass Early
   forward d i = forward_by d i (recorded p i)

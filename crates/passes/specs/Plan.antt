@@ -1,5 +1,6 @@
 -- What the passes ask of a plan: whose calendar is whose, the kept links by number, and what stands still before the passes.
-use Rattle.std.specs.Prelude.{Bool, true, false, List, ℕ, ◌+◌, max, length, get_or, Option, Some, None}
+use Rattle.std.specs.Prelude.{Bool, true, false, List, ℕ, ◌+◌, max, length, get_or, Result, Ok, Err, Option, Some, None}
+use Rattle.worktime.specs.declared.ClockError.{ClockError}
 use Rattle.date.specs.declared.Date.{Date}
 use Rattle.number.specs.Zed.{up}
 use Rattle.calendar.specs.Hours.{worked}
@@ -49,16 +50,16 @@ module _ (p : Plan) where
   floor = later origin p.project.data_date
 
   -- ---- what is recorded of activity i; a summary's dates are unread
-  unfoldable pub recorded : ℕ → Actual
+  unfoldable pub recorded : ℕ → Result Actual ClockError
   recorded i =
-      elim (summary p i) [ true ↦ Unstarted | false ↦ actual (own i) (p.activity i).actual_start (p.activity i).actual_finish ]
+      elim (summary p i) [ true ↦ Ok Unstarted | false ↦ actual (own i) (p.activity i).actual_start (p.activity i).actual_finish ]
 
   -- the start from which links count: the recorded one once work has begun
-  abbrev pub begun : Actual → ℕ → ℕ
-  begun Unstarted es = es
-  begun (Begun s) es = s
-  begun (Completed s f) es = s
-  begun (Actual.Refused k) es = es
+  abbrev pub begun : Result Actual ClockError → ℕ → ℕ
+  begun (Ok Unstarted) es = es
+  begun (Ok (Begun s)) es = s
+  begun (Ok (Completed s f)) es = s
+  begun (Err k) es = es
 
   -- the minutes of an activity, none for a summary
   unfoldable pub full : ℕ → ℕ

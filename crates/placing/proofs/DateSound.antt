@@ -18,7 +18,6 @@ use Rattle.project.specs.declared.End.TheVariants.{Start, Finish}
 use Rattle.project.specs.declared.Status.TheVariants.{NotStarted, InProgress, Completed as StatusCompleted}
 use Rattle.project.specs.Status.{status_of}
 use Rattle.project.specs.Ranges.{DayInRange}
-use Rattle.placing.specs.declared.Actual.{Actual}
 use Rattle.placing.specs.declared.Actual.TheVariants.{Unstarted, Begun, Completed}
 use Rattle.placing.specs.Placing.{midnight_of, found, moment_of, day_start, constraint_time, actual}
 use Rattle.placing.proofs.PlacingLaws.{day_start_none, constraint_time_start, constraint_time_finish, constraint_time_neither, actual_none, actual_finish_only, actual_begun, actual_begun_refuses, actual_start_refuses, actual_finish_refuses, actual_both}
@@ -154,17 +153,17 @@ module _ (w : ℕ → Bool) where
 
   -- the ways of work of which the first day is known
   data BegunWay (d : Date) : Type 0 where
-    begins : (s : ℕ) → actual w (Some d) None ≡ Begun s → BegunWork w d s → BegunWay d
-    refused : actual w (Some d) None ≡ Actual.Refused TooLong → BegunWay d
+    begins : (s : ℕ) → actual w (Some d) None ≡ Ok (Begun s) → BegunWork w d s → BegunWay d
+    refused : actual w (Some d) None ≡ Err TooLong → BegunWay d
 
   data CompletedWay (d e : Date) : Type 0 where
-    completes : (s f : ℕ) → actual w (Some d) (Some e) ≡ Completed s f → CompletedWork w d e s f → CompletedWay d e
-    refused : actual w (Some d) (Some e) ≡ Actual.Refused TooLong → CompletedWay d e
+    completes : (s f : ℕ) → actual w (Some d) (Some e) ≡ Ok (Completed s f) → CompletedWork w d e s f → CompletedWay d e
+    refused : actual w (Some d) (Some e) ≡ Err TooLong → CompletedWay d e
 
   begun_way : (d : Date) → BegunWay d
   begun_way d =
       ⊎_elim (λ a. begins a.0 (actual_begun w d a.0 a.1) (begun_from d a.0 a.1))
-      (λ r. refused (actual_begun_refuses w d r.0 r.1 ∙ ap Actual.Refused (next_start_refused w _ r.0 r.1))) (walk_ways (next_start w (midnight_of d)))
+      (λ r. refused (actual_begun_refuses w d r.0 r.1 ∙ ap Err (next_start_refused w _ r.0 r.1))) (walk_ways (next_start w (midnight_of d)))
 
   completed_from : (d e : Date) (s f : ℕ) → next_start w (midnight_of d) ≡ Ok s → previous_finish w (midnight_of e + 1440) ≡ Ok f → CompletedWork w d e s (max f s)
   completed_from d e s f a b =
@@ -178,17 +177,17 @@ module _ (w : ℕ → Bool) where
       ⊎_elim
       (λ a.
       ⊎_elim (λ b. completes a.0 (max b.0 a.0) (actual_both w d e a.0 b.0 a.1 b.1) (completed_from d e a.0 b.0 a.1 b.1))
-      (λ r. refused (actual_finish_refuses w d e a.0 r.0 a.1 r.1 ∙ ap Actual.Refused (previous_finish_refused w _ r.0 r.1)))
+      (λ r. refused (actual_finish_refuses w d e a.0 r.0 a.1 r.1 ∙ ap Err (previous_finish_refused w _ r.0 r.1)))
       (walk_ways (previous_finish w (midnight_of e + 1440))))
-      (λ r. refused (actual_start_refuses w d e r.0 r.1 ∙ ap Actual.Refused (next_start_refused w _ r.0 r.1))) (walk_ways (next_start w (midnight_of d)))
+      (λ r. refused (actual_start_refuses w d e r.0 r.1 ∙ ap Err (next_start_refused w _ r.0 r.1))) (walk_ways (next_start w (midnight_of d)))
 
   -- ---- what each answer says of the recorded days and of their times
 
   data ActualWay (first last : Option Date) : Type 0 where
-    none : first ≡ None → last ≡ None → actual w first last ≡ Unstarted → ActualWay first last
-    some : (d : Date) (s : ℕ) → first ≡ Some d → last ≡ None → actual w first last ≡ Begun s → BegunWork w d s → ActualWay first last
-    all : (d e : Date) (s f : ℕ) → FirstDay first e d → last ≡ Some e → actual w first last ≡ Completed s f → CompletedWork w d e s f → ActualWay first last
-    refused : actual w first last ≡ Actual.Refused TooLong → ActualWay first last
+    none : first ≡ None → last ≡ None → actual w first last ≡ Ok Unstarted → ActualWay first last
+    some : (d : Date) (s : ℕ) → first ≡ Some d → last ≡ None → actual w first last ≡ Ok (Begun s) → BegunWork w d s → ActualWay first last
+    all : (d e : Date) (s f : ℕ) → FirstDay first e d → last ≡ Some e → actual w first last ≡ Ok (Completed s f) → CompletedWork w d e s f → ActualWay first last
+    refused : actual w first last ≡ Err TooLong → ActualWay first last
 
   of_begun : (d : Date) → BegunWay d → ActualWay (Some d) None
   of_begun d (begins s e g) = some d s refl refl e g
@@ -205,7 +204,7 @@ module _ (w : ℕ → Bool) where
   actual_way (Some d) (Some e) = of_completed (Some d) d e (inl refl) refl (completed_way d e)
 
   module _ (first last : Option Date) where
-    pub actual_unstarted_sound : actual w first last ≡ Unstarted → (first ≡ None) × (last ≡ None)
+    pub actual_unstarted_sound : actual w first last ≡ Ok Unstarted → (first ≡ None) × (last ≡ None)
     actual_unstarted_sound q = go (actual_way first last)
       where
         go : ActualWay first last → (first ≡ None) × (last ≡ None)
@@ -214,7 +213,7 @@ module _ (w : ℕ → Bool) where
         go (all d e s f a b x g) = clash (cc)
         go (refused e) = clash (cc)
 
-    pub actual_begun_sound : (s : ℕ) → actual w first last ≡ Begun s → (d : Date) × (first ≡ Some d) × (last ≡ None) × BegunWork w d s
+    pub actual_begun_sound : (s : ℕ) → actual w first last ≡ Ok (Begun s) → (d : Date) × (first ≡ Some d) × (last ≡ None) × BegunWork w d s
     actual_begun_sound s q = go (actual_way first last)
       where
         go : ActualWay first last → (d : Date) × (first ≡ Some d) × (last ≡ None) × BegunWork w d s
@@ -223,7 +222,7 @@ module _ (w : ℕ → Bool) where
         go (all d e r f a b x g) = clash (cc)
         go (refused e) = clash (cc)
 
-    pub actual_completed_sound : (s f : ℕ) → actual w first last ≡ Completed s f → (d e : Date) × FirstDay first e d × (last ≡ Some e) × CompletedWork w d e s f
+    pub actual_completed_sound : (s f : ℕ) → actual w first last ≡ Ok (Completed s f) → (d e : Date) × FirstDay first e d × (last ≡ Some e) × CompletedWork w d e s f
     actual_completed_sound s f q = go (actual_way first last)
       where
         go : ActualWay first last → (d e : Date) × FirstDay first e d × (last ≡ Some e) × CompletedWork w d e s f
@@ -232,7 +231,7 @@ module _ (w : ℕ → Bool) where
         go (all d e r h a b x g) = let i : r ≡ s = cc in let j : h ≡ f = cc in (d, e, a, b, rw (i, j) at g)
         go (refused e) = clash (cc)
 
-    pub actual_refused : (k : ClockError) → actual w first last ≡ Actual.Refused k → k ≡ TooLong
+    pub actual_refused : (k : ClockError) → actual w first last ≡ Err k → k ≡ TooLong
     actual_refused k q = go (actual_way first last)
       where
         go : ActualWay first last → k ≡ TooLong
@@ -242,14 +241,14 @@ module _ (w : ℕ → Bool) where
         go (refused e) = cc
 
     -- the answer goes with 000's status, which reads the fields alone
-    pub actual_status_unstarted : actual w first last ≡ Unstarted → status_of first last ≡ NotStarted
+    pub actual_status_unstarted : actual w first last ≡ Ok Unstarted → status_of first last ≡ NotStarted
     unfolding status_of
     actual_status_unstarted q = let r = actual_unstarted_sound q in ap₂ status_of r.0 r.1
 
-    pub actual_status_begun : (s : ℕ) → actual w first last ≡ Begun s → status_of first last ≡ InProgress
+    pub actual_status_begun : (s : ℕ) → actual w first last ≡ Ok (Begun s) → status_of first last ≡ InProgress
     unfolding status_of
     actual_status_begun s q = let r = actual_begun_sound s q in ap₂ status_of r.1 r.2
 
-    pub actual_status_completed : (s f : ℕ) → actual w first last ≡ Completed s f → status_of first last ≡ StatusCompleted
+    pub actual_status_completed : (s f : ℕ) → actual w first last ≡ Ok (Completed s f) → status_of first last ≡ StatusCompleted
     unfolding status_of
     actual_status_completed s f q = let r = actual_completed_sound s f q in rw r.3

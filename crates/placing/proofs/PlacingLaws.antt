@@ -19,7 +19,6 @@ use Rattle.project.specs.declared.ActivityKind.{ActivityKind}
 use Rattle.project.specs.declared.ActivityKind.TheVariants.{Task, StartMilestone, FinishMilestone}
 use Rattle.project.specs.declared.End.{End}
 use Rattle.project.specs.declared.End.TheVariants.{Start, Finish}
-use Rattle.placing.specs.declared.Actual.{Actual}
 use Rattle.placing.specs.declared.Actual.TheVariants.{Unstarted, Begun, Completed}
 use Rattle.placing.specs.Placing.{midnight_of, via, bounded, is_moment, found, moment_of, completed, place_start, start_for_finish, place_finish, finish_for_start, finish_for_start_by, day_start, constraint_time, actual}
 
@@ -158,7 +157,7 @@ module _ (w : ℕ → Bool) where
   constraint_time_neither end e = ap (constraint_time w) e
 
   -- ---- recorded work
-  pub actual_none : actual w None None ≡ Unstarted
+  pub actual_none : actual w None None ≡ Ok Unstarted
   unfolding actual
   actual_none = refl
 
@@ -167,36 +166,36 @@ module _ (w : ℕ → Bool) where
   actual_finish_only e = refl
 
   module _ (d : Date) where
-    pub actual_begun : (s : ℕ) → next_start w (midnight_of d) ≡ Ok s → actual w (Some d) None ≡ Begun s
+    pub actual_begun : (s : ℕ) → next_start w (midnight_of d) ≡ Ok s → actual w (Some d) None ≡ Ok (Begun s)
     unfolding actual
-    actual_begun s a = via_at Actual.Refused _ _ s a
+    actual_begun s a = via_at Err _ _ s a
 
-    pub actual_begun_refuses : (k : ClockError) → next_start w (midnight_of d) ≡ Err k → actual w (Some d) None ≡ Actual.Refused k
+    pub actual_begun_refuses : (k : ClockError) → next_start w (midnight_of d) ≡ Err k → actual w (Some d) None ≡ Err k
     unfolding actual
-    actual_begun_refuses k a = via_refused Actual.Refused _ _ k a
+    actual_begun_refuses k a = via_refused Err _ _ k a
 
     module _ (e : Date) where
-      pub actual_start_refuses : (k : ClockError) → next_start w (midnight_of d) ≡ Err k → actual w (Some d) (Some e) ≡ Actual.Refused k
+      pub actual_start_refuses : (k : ClockError) → next_start w (midnight_of d) ≡ Err k → actual w (Some d) (Some e) ≡ Err k
       unfolding actual
-      actual_start_refuses k a = via_refused Actual.Refused _ _ k a
+      actual_start_refuses k a = via_refused Err _ _ k a
 
       pub actual_finish_refuses : (s : ℕ) (k : ClockError) → next_start w (midnight_of d) ≡ Ok s → previous_finish w (midnight_of e + 1440) ≡ Err k
-          → actual w (Some d) (Some e) ≡ Actual.Refused k
+          → actual w (Some d) (Some e) ≡ Err k
       unfolding actual
-      actual_finish_refuses s k a b = via_at Actual.Refused _ _ s a ∙ ap (completed s) b
+      actual_finish_refuses s k a b = via_at Err _ _ s a ∙ ap (completed s) b
 
       pub actual_both : (s f : ℕ) → next_start w (midnight_of d) ≡ Ok s → previous_finish w (midnight_of e + 1440) ≡ Ok f
-          → actual w (Some d) (Some e) ≡ Completed s (max f s)
+          → actual w (Some d) (Some e) ≡ Ok (Completed s (max f s))
       unfolding actual
-      actual_both s f a b = via_at Actual.Refused _ _ s a ∙ ap (completed s) b
+      actual_both s f a b = via_at Err _ _ s a ∙ ap (completed s) b
 
       pub actual_finished : (s f : ℕ) → next_start w (midnight_of d) ≡ Ok s → previous_finish w (midnight_of e + 1440) ≡ Ok f → s ≤ f
-          → actual w (Some d) (Some e) ≡ Completed s f
-      actual_finished s f a b l = let m : max f s ≡ f = omega arith in actual_both s f a b ∙ ap (Completed s) m
+          → actual w (Some d) (Some e) ≡ Ok (Completed s f)
+      actual_finished s f a b l = let m : max f s ≡ f = omega arith in actual_both s f a b ∙ ap (λ (x : ℕ). Ok (Completed s x)) m
 
       pub actual_raised : (s f : ℕ) → next_start w (midnight_of d) ≡ Ok s → previous_finish w (midnight_of e + 1440) ≡ Ok f → f < s
-          → actual w (Some d) (Some e) ≡ Completed s s
-      actual_raised s f a b l = let m : max f s ≡ s = omega arith in actual_both s f a b ∙ ap (Completed s) m
+          → actual w (Some d) (Some e) ≡ Ok (Completed s s)
+      actual_raised s f a b l = let m : max f s ≡ s = omega arith in actual_both s f a b ∙ ap (λ (x : ℕ). Ok (Completed s x)) m
 
 -- ---- the start of a day's work, by the day's hours: `h` is the hours of each day
 module _ (h : ℕ → List Period) (d : ℕ) (o : Ordered 0 (h d)) where

@@ -43,9 +43,9 @@ moment_of (Ok t) = Ok (Some t)
 moment_of (Err k) = Err k
 
 -- recorded work from s on, with the finish that a walk found: never before the start
-abbrev pub completed : ℕ → Result ℕ ClockError → Actual
-completed s (Ok f) = Completed s (max f s)
-completed s (Err k) = Actual.Refused k
+abbrev pub completed : ℕ → Result ℕ ClockError → Result Actual ClockError
+completed s (Ok f) = Ok (Completed s (max f s))
+completed s (Err k) = Err k
 
 module _ (w : ℕ → Bool) where
   -- 000's `place_start`: a finish milestone at the next finish, any other at the next start
@@ -96,8 +96,8 @@ module _ (w : ℕ → Bool) where
 
   -- 000's `actual`: the next start from the recorded start day on (the finish day where only that is given), and the last finish by the end of the
   -- finish day, which is not before that start
-  unfoldable pub actual : Option Date → Option Date → Actual
-  actual None None = Unstarted
-  actual (Some d) None = via Actual.Refused (next_start w (midnight_of d)) (λ s. Begun s)
-  actual None (Some e) = via Actual.Refused (next_start w (midnight_of e)) (λ s. completed s (previous_finish w (midnight_of e + 1440)))
-  actual (Some d) (Some e) = via Actual.Refused (next_start w (midnight_of d)) (λ s. completed s (previous_finish w (midnight_of e + 1440)))
+  unfoldable pub actual : Option Date → Option Date → Result Actual ClockError
+  actual None None = Ok Unstarted
+  actual (Some d) None = via Err (next_start w (midnight_of d)) (λ s. Ok (Begun s))
+  actual None (Some e) = via Err (next_start w (midnight_of e)) (λ s. completed s (previous_finish w (midnight_of e + 1440)))
+  actual (Some d) (Some e) = via Err (next_start w (midnight_of d)) (λ s. completed s (previous_finish w (midnight_of e + 1440)))

@@ -70,35 +70,37 @@ pub fn constraint_time(
 }
 
 // Work that began on a day and goes on.
-fn begun(calendar: &Calendar, start: Date) -> Actual
+fn begun(
+    calendar: &Calendar,
+    start: Date,
+) -> Result<Actual, ClockError>
     ensures { result ≡ actual (worked_by calendar.now) (Some start) None }
 {
-    match clock::next_start(calendar, start.midnight()) {
-        Ok(s) => Actual::Begun(s),
-        Err(k) => Actual::Refused(k),
-    }
+    let s = clock::next_start(calendar, start.midnight())?;
+    Ok(Actual::Begun(s))
 }
 
 // Work that began on a day and ended on another: its finish is not before its start.
-fn completed(calendar: &Calendar, start: Date, finish: Date) -> Actual
+fn completed(
+    calendar: &Calendar,
+    start: Date,
+    finish: Date,
+) -> Result<Actual, ClockError>
     ensures { result ≡ actual (worked_by calendar.now) (Some start) (Some finish) }
 {
-    match clock::next_start(calendar, start.midnight()) {
-        Ok(s) => match finish_by_day(calendar, finish) {
-            Ok(f) => {
-                if f < s {
-                    return Actual::Completed(s, s);
-                }
-                Actual::Completed(s, f)
-            }
-            Err(k) => Actual::Refused(k),
-        },
-        Err(k) => Actual::Refused(k),
+    let s = clock::next_start(calendar, start.midnight())?;
+    let f = finish_by_day(calendar, finish)?;
+    if f < s {
+        return Ok(Actual::Completed(s, s));
     }
+    Ok(Actual::Completed(s, f))
 }
 
 // What is recorded of the activity's work: with only a finish day, it began on that day.
-pub fn actual(activity: Activity, calendar: &Calendar) -> Actual
+pub fn actual(
+    activity: Activity,
+    calendar: &Calendar,
+) -> Result<Actual, ClockError>
     ensures { result ≡ actual (worked_by calendar.now) activity.actual_start activity.actual_finish }
 {
     let first = activity.actual_start;
@@ -110,7 +112,7 @@ pub fn actual(activity: Activity, calendar: &Calendar) -> Actual
         },
         None => match first {
             Some(start) => begun(calendar, start),
-            None => Actual::Unstarted,
+            None => Ok(Actual::Unstarted),
         },
     }
 }

@@ -18,7 +18,6 @@ pub enum Actual {
     Unstarted,
     Begun(u64),
     Completed(u64, u64),
-    Refused(ClockError),
 }
 
 // How far from the project's start a time may lie.

@@ -18,10 +18,10 @@ use Rattle.order.specs.Ids.{summary}
 use Rattle.passes.specs.Plan.{own, recorded, full}
 use Rattle.passes.specs.Forward.{counted, to_minutes, since_start, still_left, left_by, left_of}
 use Rattle.dates.specs.Bounds.{ActualBelow, recorded_below}
-use Rattle.remaining.specs.Rows.{start_of, finish_of, settled_by}
+use Rattle.remaining.specs.Rows.{start_of, finish_of}
 
 -- with neither day recorded work has not begun
-unstarted_by : (w : ℕ → Bool) (a b : Option Date) → status_of a b ≡ NotStarted → actual w a b ≡ Unstarted
+unstarted_by : (w : ℕ → Bool) (a b : Option Date) → status_of a b ≡ NotStarted → actual w a b ≡ Ok Unstarted
 unfolding status_of actual
 unstarted_by w None None e = refl
 unstarted_by w (Some d) None e = clash (cc)
@@ -30,15 +30,15 @@ unstarted_by w (Some d) (Some f) e = clash (cc)
 
 module _ (p : Plan) (i : ℕ) where
   -- ---- what is recorded, and the minutes
-  pub recorded_summary : summary p i ≡ true → recorded p i ≡ Unstarted
+  pub recorded_summary : summary p i ≡ true → recorded p i ≡ Ok Unstarted
   unfolding recorded
-  recorded_summary e = on_true (summary p i) Unstarted _ e
+  recorded_summary e = on_true (summary p i) (Ok Unstarted) _ e
 
   pub recorded_else : summary p i ≡ false → recorded p i ≡ actual (own p i) (p.activity i).actual_start (p.activity i).actual_finish
   unfolding recorded
-  recorded_else e = on_false (summary p i) Unstarted _ e
+  recorded_else e = on_false (summary p i) (Ok Unstarted) _ e
 
-  pub recorded_none : summary p i ≡ false → status_of (p.activity i).actual_start (p.activity i).actual_finish ≡ NotStarted → recorded p i ≡ Unstarted
+  pub recorded_none : summary p i ≡ false → status_of (p.activity i).actual_start (p.activity i).actual_finish ≡ NotStarted → recorded p i ≡ Ok Unstarted
   recorded_none e n = recorded_else e ∙ unstarted_by (own p i) (p.activity i).actual_start (p.activity i).actual_finish n
 
   pub full_summary : summary p i ≡ true → full p i ≡ 0
@@ -50,25 +50,21 @@ module _ (p : Plan) (i : ℕ) where
   full_else e = on_false (summary p i) 0 (up (p.activity i).minutes) e
 
   -- ---- the work left, by what is recorded
-  pub left_is : (x : Actual) → x ≡ recorded p i → left_of p i ≡ left_by p i x
+  pub left_is : (x : Result Actual ClockError) → x ≡ recorded p i → left_of p i ≡ left_by p i x
   unfolding left_of
   left_is x e = ap (left_by p i) (sym e)
 
-  pub left_unstarted : recorded p i ≡ Unstarted → left_of p i ≡ Ok (full p i)
-  left_unstarted e = left_is Unstarted (sym e)
+  pub left_unstarted : recorded p i ≡ Ok Unstarted → left_of p i ≡ Ok (full p i)
+  left_unstarted e = left_is (Ok Unstarted) (sym e)
 
-  pub left_begun : (x : Actual) (s : ℕ) → x ≡ Begun s → left_by p i x ≡ still_left p i s (p.activity i).remaining
-  left_begun x s e = ap (left_by p i) e
+  pub left_fresh : (x : Actual) (whole : ℕ) → x ≡ Unstarted → whole ≡ full p i → left_by p i (Ok x) ≡ Ok whole
+  left_fresh x whole e f = ap (λ (y : Actual). left_by p i (Ok y)) e ∙ ap Ok (sym f)
 
-  pub left_settled : (x : Actual) (whole : ℕ) → whole ≡ full p i → ((s : ℕ) → x ≡ Begun s → ⊥) → left_by p i x ≡ settled_by x whole
-  left_settled Unstarted whole e n = ap Ok (sym e)
-  left_settled (Begun s) whole e n = absurd (n s refl)
-  left_settled (Completed s f) whole e n = refl
-  left_settled (Actual.Refused k) whole e n = refl
+  pub left_begun : (x : Actual) (s : ℕ) → x ≡ Begun s → left_by p i (Ok x) ≡ still_left p i s (p.activity i).remaining
+  left_begun x s e = ap (λ (y : Actual). left_by p i (Ok y)) e
 
-  -- a refusal leaves none
-  pub left_answers : (x : Actual) (m : ℕ) (k : ClockError) → left_by p i x ≡ Ok m → x ≡ Actual.Refused k → ⊥
-  left_answers x m k e f = let d : Err k ≡ Ok m = sym (ap (left_by p i) f) ∙ e in clash (cc)
+  pub left_completed : (x : Actual) (s f : ℕ) → x ≡ Completed s f → left_by p i (Ok x) ≡ Ok 0
+  left_completed x s f e = ap (λ (y : Actual). left_by p i (Ok y)) e
 
   -- ---- of work under way since s
   module _ (s : ℕ) where
@@ -91,19 +87,17 @@ module _ (p : Plan) (i : ℕ) where
     since_refused d day k e b = ap (since_start p i s) e ∙ ap (λ (x : Result ℤ ClockError). counted Err x (λ n. Ok (full p i - n))) b
 
 -- ---- how much it can be, and how late what is recorded
-pub start_below : (x : Actual) → ActualBelow x → start_of x < 2 ^ 63
+pub start_below : (x : Actual) → ActualBelow (Ok x) → start_of x < 2 ^ 63
 start_below Unstarted h = omega arith
 start_below (Begun s) h = h.begun s refl
 start_below (Completed s f) h = (h.completed s f refl).0
-start_below (Actual.Refused k) h = omega arith
 
-pub finish_below : (x : Actual) → ActualBelow x → finish_of x < 2 ^ 63
+pub finish_below : (x : Actual) → ActualBelow (Ok x) → finish_of x < 2 ^ 63
 finish_below Unstarted h = omega arith
 finish_below (Begun s) h = omega arith
 finish_below (Completed s f) h = (h.completed s f refl).1
-finish_below (Actual.Refused k) h = omega arith
 
-pub is_below : (p : Plan) (i : ℕ) (x : Actual) → x ≡ recorded p i → ActualBelow x
+pub is_below : (p : Plan) (i : ℕ) (x : Result Actual ClockError) → x ≡ recorded p i → ActualBelow x
 is_below p i x e = rw e (recorded_below p i)
 
 same_left : (m n : ℕ) → ◌≡◌ {A = Result ℕ ClockError} (Ok n) (Ok m) → n ≡ m
@@ -122,8 +116,8 @@ module _ (p : Plan) (i : ℕ) (fits : full p i < 2 ^ 63) where
   still_below s (Some z) m e = omega (arith, same_left m (to_minutes p z) e)
   still_below s None m e = since_below s p.project.data_date m e
 
-  pub left_below : (x : Actual) (m : ℕ) → left_by p i x ≡ Ok m → m < 2 ^ 63
-  left_below Unstarted m e = omega (arith, same_left m (full p i) e)
-  left_below (Begun s) m e = still_below s (p.activity i).remaining m e
-  left_below (Completed s f) m e = omega (arith, same_left m 0 e)
-  left_below (Actual.Refused k) m e = clash (cc)
+  pub left_below : (x : Result Actual ClockError) (m : ℕ) → left_by p i x ≡ Ok m → m < 2 ^ 63
+  left_below (Ok Unstarted) m e = omega (arith, same_left m (full p i) e)
+  left_below (Ok (Begun s)) m e = still_below s (p.activity i).remaining m e
+  left_below (Ok (Completed s f)) m e = omega (arith, same_left m 0 e)
+  left_below (Err k) m e = clash (cc)

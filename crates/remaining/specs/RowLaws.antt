@@ -25,12 +25,11 @@ use Rattle.dates.specs.Standing.{actual_of, actual_in, Recorded}
 use Rattle.remaining.specs.Rows.{how_of, start_of, finish_of, kept, left_to, Row, Passed}
 
 -- the three cells say what is recorded
-cells_are : (x : Actual) → ((k : ClockError) → x ≡ Actual.Refused k → ⊥) → actual_of (how_of x) (start_of x) (finish_of x) ≡ x
+cells_are : (x : Actual) → actual_of (how_of x) (start_of x) (finish_of x) ≡ x
 unfolding actual_of
-cells_are Unstarted n = refl
-cells_are (Begun s) n = refl
-cells_are (Completed s f) n = refl
-cells_are (Actual.Refused k) n = absurd (n k refl)
+cells_are Unstarted = refl
+cells_are (Begun s) = refl
+cells_are (Completed s f) = refl
 
 module _ (S : State) (i : ℕ) (x : Actual) (m : ℕ) where
   how : State
@@ -48,13 +47,13 @@ module _ (S : State) (i : ℕ) (x : Actual) (m : ℕ) where
   kept_left =
       column_more i (λ j. 0) work_left ended' m ∙ ap (λ (f : ℕ → ℕ). put f i m) (column_same i (λ j. 0) work_left S ended' refl)
 
-  kept_here : ((k : ClockError) → x ≡ Actual.Refused k → ⊥) → actual_in (kept S i x m) i ≡ x
+  kept_here : actual_in (kept S i x m) i ≡ x
   unfolding kept how began ended'
-  kept_here n =
+  kept_here =
       (λ z.
       actual_of (act_same S recorded_as i (pos (how_of x)) z) (act_same how recorded_start i (pos (start_of x)) z)
       (act_same began recorded_finish i (pos (finish_of x)) z))
-      ∙ cells_are x n
+      ∙ cells_are x
 
   kept_row : (g j : ℕ) → j ≢ i → (kept S i x m).act g j ≡ S.act g j
   unfolding kept how began ended'
@@ -85,13 +84,13 @@ kept_steps S T U X Y i x h s f m t u v w eh es ef =
 
 -- ---- the two ways of a row
 module _ (p : Plan) (i : ℕ) (S : State) where
-  pub row_kept : (T : State) (x : Actual) (m : ℕ) → T ≡ kept S i x m → x ≡ recorded p i → ((k : ClockError) → x ≡ Actual.Refused k → ⊥)
+  pub row_kept : (T : State) (x : Actual) (m : ℕ) → T ≡ kept S i x m → Ok x ≡ recorded p i
       → left_of p i ≡ Ok m → Row p i S T (Ok tt)
-  row_kept T x m t e n l = record {
+  row_kept T x m t e l = record {
     left =
         ap (λ (U : State). leaves (left_to (i + 1) U)) t ∙ ap leaves (kept_left S i x m)
         ∙ sym (ap (λ (w : Result ℕ ClockError). via refused w (λ q. leaves (put (left_to i S) i q))) l);
-    here = λ d. ap (λ (U : State). actual_in U i) t ∙ kept_here S i x m n ∙ e;
+    here = λ d. ap (λ (U : State). Ok (actual_in U i)) t ∙ ap Ok (kept_here S i x m) ∙ e;
     others = λ j h. ap (λ (U : State). actual_in U j) t ∙ kept_others S i x m j h;
     frame = rw t (kept_frame S i x m);
   }
@@ -122,7 +121,7 @@ module _ (p : Plan) where
     passed_turn d = record {
       left = next ∙ ap (ended (left_to (i + 1) T)) d;
       recorded = λ j l.
-          ⊎_elim (λ (e : j ≡ i). rw e (R.here d)) (λ (n : j ≢ i). R.others j n ∙ P.recorded j (below j l n)) (eq_or_ne j i);
+          ⊎_elim (λ (e : j ≡ i). rw e (R.here d)) (λ (n : j ≢ i). ap Ok (R.others j n) ∙ P.recorded j (below j l n)) (eq_or_ne j i);
     }
       where
         below : (j : ℕ) → j < i + 1 → j ≢ i → j < i

@@ -1,5 +1,5 @@
 -- What one activity's row holds once its recorded dates are placed and its work left is found.
-use Rattle.std.specs.Prelude.{◌≡◌, ◌≢◌, ℕ, ◌+◌, ◌<◌, Result, Ok, Err}
+use Rattle.std.specs.Prelude.{◌≡◌, ◌≢◌, ℕ, ◌+◌, ◌<◌, Result, Ok}
 use Rattle.worktime.specs.declared.ClockError.{ClockError}
 use Rattle.placing.specs.declared.Actual.{Actual}
 use Rattle.placing.specs.declared.Actual.TheVariants.{Unstarted, Begun, Completed}
@@ -19,31 +19,21 @@ abbrev pub how_of : Actual → ℕ
 how_of Unstarted = 0
 how_of (Begun s) = 1
 how_of (Completed s f) = 2
-how_of (Actual.Refused k) = 0
 
 abbrev pub start_of : Actual → ℕ
 start_of Unstarted = 0
 start_of (Begun s) = s
 start_of (Completed s f) = s
-start_of (Actual.Refused k) = 0
 
 abbrev pub finish_of : Actual → ℕ
 finish_of Unstarted = 0
 finish_of (Begun s) = 0
 finish_of (Completed s f) = f
-finish_of (Actual.Refused k) = 0
 
 -- the state with what is recorded of activity i, and its work left
 unfoldable pub kept : State → ℕ → Actual → ℕ → State
 kept S i x left =
     put_act (put_act (put_act (put_act S recorded_as i (how_of x)) recorded_start i (start_of x)) recorded_finish i (finish_of x)) work_left i left
-
--- the work left of `whole` minutes where work is not under way
-abbrev pub settled_by : Actual → ℕ → Result ℕ ClockError
-settled_by Unstarted whole = Ok whole
-settled_by (Begun s) whole = Ok whole
-settled_by (Completed s f) whole = Ok 0
-settled_by (Actual.Refused k) whole = Err k
 
 -- the work left of the first n activities, and none past them
 abbrev pub left_to : ℕ → State → ℕ → ℕ
@@ -52,11 +42,11 @@ left_to n S = column n (λ i. 0) S work_left
 -- from S on activity i is done: T is what it leaves, and r what it answers
 pub record Row (p : Plan) (i : ℕ) (S T : State) (r : Result Unit ClockError) : Type 0 where
   pub left : ended (left_to (i + 1) T) r ≡ via refused (left_of p i) (λ m. leaves (put (left_to i S) i m))
-  pub here : r ≡ (Ok tt) → actual_in T i ≡ recorded p i
+  pub here : r ≡ (Ok tt) → Ok (actual_in T i) ≡ recorded p i
   pub others : (j : ℕ) → j ≢ i → actual_in T j ≡ actual_in S j
   pub frame : Frame 14 20 0 0 S T
 
 -- the first i activities are done
 pub record Passed (p : Plan) (i : ℕ) (S : State) : Type 0 where
   pub left : left_below p i ≡ leaves (left_to i S)
-  pub recorded : (j : ℕ) → j < i → actual_in S j ≡ recorded p j
+  pub recorded : (j : ℕ) → j < i → Ok (actual_in S j) ≡ recorded p j

@@ -16,7 +16,7 @@ ghost use Rattle.calendars.specs.Calendars.{IsCalendar, Places};
 ghost use Rattle.dates.specs.Columns.{left_in, ended};
 ghost use Rattle.dates.specs.Standing.{Ready, Recorded};
 ghost use Rattle.dates.specs.Bounds.{ActualBelow};
-ghost use Rattle.remaining.specs.Rows.{how_of, start_of, finish_of, settled_by, kept, Row};
+ghost use Rattle.remaining.specs.Rows.{how_of, start_of, finish_of, kept, Row};
 
 use calendar::Period;
 use placing::Actual;
@@ -79,18 +79,7 @@ fn still_left(
     }
 }
 
-// The work left of work that is not under way: all of it, or none once completed.
-fn settled(actual: Actual, whole: u64) -> Result<u64, ClockError>
-    ensures { result ≡ settled_by actual whole }
-{
-    match actual {
-        Actual::Unstarted | Actual::Begun(_) => Ok(whole),
-        Actual::Completed(_, _) => Ok(0),
-        Actual::Refused(k) => Err(k),
-    }
-}
-
-// The work left by what is recorded.
+// The work left by what is recorded: all of it where work has not begun, none once it is completed.
 fn left_of(
     sheet: &[u8],
     contents: Contents,
@@ -103,12 +92,13 @@ fn left_of(
     whole: u64,
 ) -> Result<u64, ClockError>
     requires { SheetRead sheet.now contents × (activity ≡ (plan_of sheet.now contents).activity i) × IsCalendar sheet.now contents (calendar_of (plan_of sheet.now contents) i) week at n × (whole ≡ full (plan_of sheet.now contents) i) }
-    ensures { result ≡ left_by (plan_of sheet.now contents) i actual }
+    ensures { result ≡ left_by (plan_of sheet.now contents) i (Ok actual) }
 {
-    let Actual::Begun(start) = actual else {
-        return settled(actual, whole);
-    };
-    still_left(sheet, contents, i, activity, week, at, n, start, whole)
+    match actual {
+        Actual::Unstarted => Ok(whole),
+        Actual::Begun(start) => still_left(sheet, contents, i, activity, week, at, n, start, whole),
+        Actual::Completed(_, _) => Ok(0),
+    }
 }
 
 // How far the work has come, as the memory tells it: 0 unstarted, 1 begun, 2 completed.
@@ -116,7 +106,7 @@ fn how_of(actual: Actual) -> u64
     ensures { (result ≡ how_of actual) × (result < 3) }
 {
     match actual {
-        Actual::Unstarted | Actual::Refused(_) => 0,
+        Actual::Unstarted => 0,
         Actual::Begun(_) => 1,
         Actual::Completed(_, _) => 2,
     }
@@ -127,7 +117,7 @@ fn start_of(actual: Actual) -> u64
     ensures { result ≡ start_of actual }
 {
     match actual {
-        Actual::Unstarted | Actual::Refused(_) => 0,
+        Actual::Unstarted => 0,
         Actual::Begun(start) | Actual::Completed(start, _) => start,
     }
 }
@@ -144,7 +134,7 @@ fn finish_of(actual: Actual) -> u64
 
 // Keeps what is recorded of activity `i` and the work left of it.
 fn keep(work: &mut [i64], a: usize, l: usize, i: usize, actual: Actual, left: u64)
-    requires { Room a l work.old × (i < a) × ActualBelow actual × (left < 2 ^ 63) }
+    requires { Room a l work.old × (i < a) × ActualBelow (Ok actual) × (left < 2 ^ 63) }
     ensures { (state_of a l work.new ≡ kept (state_of a l work.old) i actual left) × (length work.new ≡ length work.old) }
 {
     memory::put_act(work, a, l, i, memory::fields::RECORDED_AS, how_of(actual));
@@ -183,7 +173,7 @@ fn record_dated(
     let k = activity.calendar as usize;
     let week = calendars::week_of(sheet, contents, places, k);
     let e = calendars::exceptions_of(sheet, contents, places, k);
-    let actual = placing::dates::actual(activity, week, sheet, e.at, e.n);
+    let actual = placing::dates::actual(activity, week, sheet, e.at, e.n)?;
     let left = left_of(sheet, contents, i, activity, week, e.at, e.n, actual, whole)?;
     keep(work, contents.activities, contents.links, i, actual, left);
     Ok(())

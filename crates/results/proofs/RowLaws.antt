@@ -132,7 +132,7 @@ module _ (p : Plan) (r : Ran) where
     so_stop g h k m e l = sym (below_refused p r k (n + 1) (on ∙ sym e) m l)
 
 -- ---- the parts of a row in hand
-pub row_is : (p : Plan) (S : State) (i : ℕ) (project : Project) (kind : ActivityKind) (day_length : ℕ) (w : ℕ → Bool) (a : Actual) (t : Times)
+pub row_is : (p : Plan) (S : State) (i : ℕ) (project : Project) (kind : ActivityKind) (day_length : ℕ) (w : ℕ → Bool) (a : Result Actual ClockError) (t : Times)
     → project ≡ p.project → kind ≡ kind_of p i → day_length ≡ day_of p i → w ≡ own p i → a ≡ recorded p i → t ≡ times_in S i
     → shown_from p project kind day_length w a t ≡ row_shown p S i
 unfolding row_shown

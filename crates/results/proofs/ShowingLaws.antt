@@ -113,7 +113,7 @@ module _ (d : Days) where
   out_two a = rw a
 
 -- ---- the ways of the total float
-module _ (p : Plan) (w : ℕ → Bool) (kind : FloatKind) (a : Actual) (t : Times) where
+module _ (p : Plan) (w : ℕ → Bool) (kind : FloatKind) (a : Result Actual ClockError) (t : Times) where
   pub total_both : (f s : ℤ) → between w t.ef t.lf ≡ Ok f → between w t.es t.ls ≡ Ok s → Ok (total_by a (float_by p kind f s)) ≡ total_work p w kind a t
   unfolding total_work
   total_both f s d e = rw (d, e)
@@ -143,7 +143,7 @@ module _ (days : ℤ) (day_length : ℕ) (f : SFits w32 days) (l : day_length �
       fits_abs w64 (days *ℤ pos day_length) (omega (arith, abs_mul days (pos day_length), mul-le-mul h l))
 
 -- ---- the ways of what is shown
-module _ (p : Plan) (project : Project) (kind : ActivityKind) (day_length : ℕ) (w : ℕ → Bool) (a : Actual) (t : Times) where
+module _ (p : Plan) (project : Project) (kind : ActivityKind) (day_length : ℕ) (w : ℕ → Bool) (a : Result Actual ClockError) (t : Times) where
   pub shown_refused : (k : ClockError) → total_work p w project.float_kind a t ≡ Err k → refused k ≡ shown_from p project kind day_length w a t
   unfolding shown_from
   shown_refused k e = rw e

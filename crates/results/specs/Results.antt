@@ -1,5 +1,6 @@
 -- The results: each activity's days, floats and flags from what the passes leave, and summaries rolled up from their children.
-use Rattle.std.specs.Prelude.{Bool, true, false, ◌&&◌, ◌||◌, not, List, [], ◌∷◌, ◌++◌, ℕ, zero, suc, ◌-◌, ◌/◌, max, min, eqb, ℤ, pos}
+use Rattle.std.specs.Prelude.{Bool, true, false, ◌&&◌, ◌||◌, not, List, [], ◌∷◌, ◌++◌, ℕ, zero, suc, ◌-◌, ◌/◌, max, min, eqb, ℤ, pos, Result, Ok, Err}
+use Rattle.worktime.specs.declared.ClockError.{ClockError}
 use Rattle.worktime.specs.Walks.{reads, between}
 use Rattle.project.specs.declared.ActivityKind.{ActivityKind}
 use Rattle.project.specs.declared.ActivityKind.TheVariants.{Task, StartMilestone, FinishMilestone}
@@ -28,11 +29,11 @@ finish_minute StartMilestone m t = t
 finish_minute FinishMilestone m t = t - 1
 
 -- "status (0, 1, 2)"
-abbrev pub status_number : Actual → ℕ
-status_number Unstarted = 0
-status_number (Begun s) = 1
-status_number (Completed s f) = 2
-status_number (Actual.Refused k) = 0
+abbrev pub status_number : Result Actual ClockError → ℕ
+status_number (Ok Unstarted) = 0
+status_number (Ok (Begun s)) = 1
+status_number (Ok (Completed s f)) = 2
+status_number (Err k) = 0
 
 -- a day that is shown lies in the years that may be read
 abbrev pub shown_day : {A : Type 0} → ℕ → (ℕ → Pass A) → Pass A
@@ -43,11 +44,11 @@ abbrev pub nothing : Shown
 nothing = record { es = 0; ef = 0; ls = 0; lf = 0; total = pos 0; free = 0; critical = false; path = false; finish = 0; late = 0 }
 
 -- "A completed activity has no float"
-abbrev pub total_by : Actual → ℤ → ℤ
-total_by Unstarted z = z
-total_by (Begun s) z = z
-total_by (Completed s f) z = pos 0
-total_by (Actual.Refused k) z = z
+abbrev pub total_by : Result Actual ClockError → ℤ → ℤ
+total_by (Ok Unstarted) z = z
+total_by (Ok (Begun s)) z = z
+total_by (Ok (Completed s f)) z = pos 0
+total_by (Err k) z = z
 
 -- ---- the least and the greatest of a row of activities, and whether one has a mark
 abbrev pub least_of : (ℕ → ℕ) → ℕ → List ℕ → ℕ

@@ -61,12 +61,12 @@ critical_in LongestPath day_length total path = path
 
 -- none of these asks anything of the plan p
 module _ (p : Plan) where
-  unfoldable pub total_work : (ℕ → Bool) → FloatKind → Actual → Times → Result ℤ ClockError
+  unfoldable pub total_work : (ℕ → Bool) → FloatKind → Result Actual ClockError → Times → Result ℤ ClockError
   total_work w kind a t =
       measured Err (between w t.ef t.lf)
       (λ finish_float. measured Err (between w t.es t.ls) (λ start_float. Ok (total_by a (float_by p kind finish_float start_float))))
 
-  abbrev pub days_of : ActivityKind → Actual → Times → Days
+  abbrev pub days_of : ActivityKind → Result Actual ClockError → Times → Days
   days_of kind a t = record {
     es = start_minute kind (begun p a t.es) / 1440;
     ef = finish_minute kind t.left t.ef / 1440;
@@ -74,7 +74,7 @@ module _ (p : Plan) where
     lf = finish_minute kind t.left t.lf / 1440;
   }
 
-  abbrev pub critical_of : Actual → CriticalBy → ℕ → ℤ → Bool → Bool
+  abbrev pub critical_of : Result Actual ClockError → CriticalBy → ℕ → ℤ → Bool → Bool
   critical_of a by day_length total path = not (is_completed p a) && critical_in by day_length total path
 
   abbrev pub shown_of : Days → ℤ → Bool → Times → Shown
@@ -92,10 +92,10 @@ module _ (p : Plan) where
   }
 
   -- what is shown, once there is a total float
-  abbrev pub shown_by : Project → ActivityKind → ℕ → Actual → Times → ℤ → Pass Shown
+  abbrev pub shown_by : Project → ActivityKind → ℕ → Result Actual ClockError → Times → ℤ → Pass Shown
   shown_by project kind day_length a t total =
       readable (all_in_years (days_of kind a t))
       (leaves (shown_of (days_of kind a t) total (critical_of a project.critical_by day_length total t.path) t))
 
-  unfoldable pub shown_from : Project → ActivityKind → ℕ → (ℕ → Bool) → Actual → Times → Pass Shown
+  unfoldable pub shown_from : Project → ActivityKind → ℕ → (ℕ → Bool) → Result Actual ClockError → Times → Pass Shown
   shown_from project kind day_length w a t = measured refused (total_work w project.float_kind a t) (shown_by project kind day_length a t)

@@ -1,7 +1,7 @@
 // What is shown of each activity.
 #![tactic(auto)]
 
-ghost use Rattle.std.specs.Prelude.{◌≡◌, Bool, ℕ, ◌+◌, ◌-◌, ◌^◌, ◌≤◌, ◌<◌, pos, ◌*ℤ◌, length};
+ghost use Rattle.std.specs.Prelude.{◌≡◌, Bool, ℕ, ◌+◌, ◌-◌, ◌^◌, ◌≤◌, ◌<◌, pos, ◌*ℤ◌, length, Ok};
 ghost use Rattle.number.specs.Bit.{bit};
 ghost use Rattle.calendar.specs.Records.{Valid};
 ghost use Rattle.clock.specs.On.{worked_on};
@@ -72,11 +72,11 @@ fn float_by(kind: FloatKind, finish: i64, start: i64) -> i64
 
 // Completed work has no float.
 fn total_by(actual: Actual, total: i64) -> i64
-    ensures { result ≡ total_by actual total }
+    ensures { result ≡ total_by (Ok actual) total }
 {
     match actual {
         Actual::Completed(_, _) => 0,
-        Actual::Unstarted | Actual::Begun(_) | Actual::Refused(_) => total,
+        Actual::Unstarted | Actual::Begun(_) => total,
     }
 }
 
@@ -90,7 +90,7 @@ fn total_of(
     n: usize,
 ) -> Result<i64, ClockError>
     requires { Valid week sheet.now at n }
-    ensures { (p : Plan) → result ≡ total_work p (worked_on week sheet.now at n) kind actual t }
+    ensures { (p : Plan) → result ≡ total_work p (worked_on week sheet.now at n) kind (Ok actual) t }
 {
     let finish = clock::between(week, sheet, at, n, t.ef, t.lf)?;
     let start = clock::between(week, sheet, at, n, t.es, t.ls)?;
@@ -120,7 +120,7 @@ fn finish_minute(kind: ActivityKind, left: u64, t: u64) -> u64
 }
 
 fn days_of(kind: ActivityKind, actual: Actual, t: Times) -> Days
-    ensures { (p : Plan) → result ≡ days_of p kind actual t }
+    ensures { (p : Plan) → result ≡ days_of p kind (Ok actual) t }
 {
     let es = start_minute(kind, dates::begun_at(actual, t.es)) / 1440;
     let ef = finish_minute(kind, t.left, t.ef) / 1440;
@@ -161,13 +161,11 @@ pub fn is_critical(by: CriticalBy, day_length: u64, total: i64, path: bool) -> b
 // Completed work is not critical.
 fn critical_of(actual: Actual, by: CriticalBy, day_length: u64, total: i64, path: bool) -> bool
     requires { day_length ≤ 1440 }
-    ensures { (p : Plan) → result ≡ critical_of p actual by day_length total path }
+    ensures { (p : Plan) → result ≡ critical_of p (Ok actual) by day_length total path }
 {
     match actual {
         Actual::Completed(_, _) => false,
-        Actual::Unstarted | Actual::Begun(_) | Actual::Refused(_) => {
-            is_critical(by, day_length, total, path)
-        }
+        Actual::Unstarted | Actual::Begun(_) => is_critical(by, day_length, total, path),
     }
 }
 
@@ -184,7 +182,7 @@ fn shown_of(
     n: usize,
 ) -> Result<Shown, ClockError>
     requires { Valid week sheet.now at n × (day_length ≤ 1440) × (t.ef < 2 ^ 63) × (t.lf < 2 ^ 63) × (t.free < 2 ^ 63) }
-    ensures { ((p : Plan) → showing result ≡ shown_from p project kind day_length (worked_on week sheet.now at n) actual t) × HoldsIf result }
+    ensures { ((p : Plan) → showing result ≡ shown_from p project kind day_length (worked_on week sheet.now at n) (Ok actual) t) × HoldsIf result }
 {
     let float = project.float_kind;
     let by = project.critical_by;

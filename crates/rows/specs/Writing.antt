@@ -1,5 +1,6 @@
 -- A row of results in the parts that are written one after the other, and what its writer is lent.
-use Rattle.std.specs.Prelude.{◌≡◌, Bool, true, false, List, [], ◌∷◌, ◌++◌, ℕ, zero, suc, ◌+◌, ◌<◌, ℤ, pos, set}
+use Rattle.std.specs.Prelude.{◌≡◌, Bool, true, false, List, [], ◌∷◌, ◌++◌, ℕ, zero, suc, ◌+◌, ◌<◌, ℤ, pos, set, Result}
+use Rattle.worktime.specs.declared.ClockError.{ClockError}
 use Rattle.number.specs.Bit.{bit}
 use Rattle.number.specs.Sign.{whole_days}
 use Rattle.date.specs.Days.{signed_minute}
@@ -37,11 +38,11 @@ float_fields day_length x =
 abbrev pub minute_if : Bool → ℕ → ℤ
 minute_if b t = elim b [ true ↦ pos 0 | false ↦ signed_minute t ]
 
-abbrev pub work_fields : Bool → Actual → ℕ → ℕ → ℕ → List ℤ
+abbrev pub work_fields : Bool → Result Actual ClockError → ℕ → ℕ → ℕ → List ℤ
 work_fields b a left es ef = pos (status_number a) ∷ pos left ∷ minute_if b es ∷ minute_if b ef ∷ []
 
 -- a row by its values
-abbrev pub row_fields : ℕ → ℕ → Shown → Bool → Actual → ℕ → ℕ → ℕ → List ℤ
+abbrev pub row_fields : ℕ → ℕ → Shown → Bool → Result Actual ClockError → ℕ → ℕ → ℕ → List ℤ
 row_fields id day_length x b a left es ef = pos id ∷ (day_fields x ++ (float_fields day_length x ++ work_fields b a left es ef))
 
 -- the row of activity i, from what is shown of it and its work left, early start and finish

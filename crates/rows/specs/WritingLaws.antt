@@ -1,5 +1,6 @@
 -- A row that is written stands in its place, and the rows are the definition's.
-use Rattle.std.specs.Prelude.{◌≡◌, Bool, ltb, ℤ, set}
+use Rattle.std.specs.Prelude.{◌≡◌, Bool, ltb, ℤ, set, Result}
+use Rattle.worktime.specs.declared.ClockError.{ClockError}
 use Rattle.std.proofs.Math.Path.{refl, ap}
 use Rattle.std.proofs.Common.{sym, ◌∙◌, add-one, length-append, length-drop}
 use mathlib.Core.List.{List, [], ◌∷◌, ◌++◌}
@@ -111,7 +112,7 @@ module _ (p : Plan) (r : Ran) (S : State) where
   day_more n d l e = rw (add-one n, to_at_lem p.activities S n l, e)
 
 -- ---- a row in hand
-pub fields_are : (p : Plan) (S : State) (i id day_length : ℕ) (x : Shown) (b : Bool) (a : Actual) (m left es ef : ℕ)
+pub fields_are : (p : Plan) (S : State) (i id day_length : ℕ) (x : Shown) (b : Bool) (a : Result Actual ClockError) (m left es ef : ℕ)
     → id ≡ id_of p i → day_length ≡ day_of p i → x ≡ shown_at S i → b ≡ ltb 0 m → m ≡ bit (summary p i) → a ≡ recorded p i
     → left ≡ S.act work_left i → es ≡ S.act early_start i → ef ≡ S.act early_finish i → row_fields id day_length x b a left es ef ≡ row_in p S i
 unfolding row_in

@@ -1,7 +1,7 @@
 // The rows of results: 01's fifteen fields of each activity, written into the lent slice, and the finish day.
 #![tactic(auto)]
 
-ghost use Rattle.std.specs.Prelude.{◌≡◌, Bool, ◌++◌, ℕ, ◌+◌, ◌*◌, ◌^◌, ◌≤◌, ◌<◌, length, drop};
+ghost use Rattle.std.specs.Prelude.{◌≡◌, Bool, ◌++◌, ℕ, ◌+◌, ◌*◌, ◌^◌, ◌≤◌, ◌<◌, length, drop, Ok};
 ghost use Rattle.memory.specs.State.{Room, state_of};
 ghost use Rattle.sheet.specs.Known.{SheetRead};
 ghost use Rattle.order.specs.Plan.{plan_of};
@@ -26,10 +26,10 @@ fn signed_day_of(d: u64) -> i64
 }
 
 fn status_number(actual: Actual) -> u64
-    ensures { (result ≡ status_number actual) × (result < 3) }
+    ensures { (result ≡ status_number (Ok actual)) × (result < 3) }
 {
     match actual {
-        Actual::Unstarted | Actual::Refused(_) => 0,
+        Actual::Unstarted => 0,
         Actual::Begun(_) => 1,
         Actual::Completed(_, _) => 2,
     }
@@ -89,7 +89,7 @@ fn write_work(
     ef: u64,
 )
     requires { (at + 15 ≤ length results.old) × (left < 2 ^ 63) × (es < 2 ^ 63) × (ef < 2 ^ 63) }
-    ensures { results.new ≡ stored_from results.old at 11 (work_fields is_summary actual left es ef) }
+    ensures { results.new ≡ stored_from results.old at 11 (work_fields is_summary (Ok actual) left es ef) }
 {
     let status = status_number(actual) as i64;
     let remaining = left as i64;
@@ -115,7 +115,7 @@ fn write_fields(
     ef: u64,
 )
     requires { (at + 15 ≤ length results.old) × (id < 2 ^ 63) × (day_length ≤ 1440) × Holds x × (left < 2 ^ 63) × (es < 2 ^ 63) × (ef < 2 ^ 63) }
-    ensures { results.new ≡ stored_from results.old at 0 (row_fields id day_length x is_summary actual left es ef) }
+    ensures { results.new ≡ stored_from results.old at 0 (row_fields id day_length x is_summary (Ok actual) left es ef) }
 {
     results[at] = id as i64;
     write_days(results, at, x);

@@ -1,6 +1,7 @@
 -- Demand 3, the early starts: for a plan that fits and whose forward pass is not refused they obey the timetable rules, and in every timetable that
 -- does each activity starts at that minute or later.
-use Rattle.std.specs.Prelude.{◌≡◌, refl, true, false, ◌⊎◌, ℕ, zero, suc, ◌^◌, ◌≤◌, ◌<◌, length, get_or, ℤ, pos}
+use Rattle.std.specs.Prelude.{◌≡◌, refl, true, false, ◌⊎◌, ℕ, zero, suc, ◌^◌, ◌≤◌, ◌<◌, length, get_or, ℤ, pos, Result}
+use Rattle.worktime.specs.declared.ClockError.{ClockError}
 use Rattle.std.proofs.Common.{sym, ap, subst, ◌∙◌, inl, inr, ⊎_elim, arith}
 use Rattle.std.specs.Int.Signed.{le_z}
 use Rattle.number.specs.ZedLaws.{le_le_z, minus_is}
@@ -94,9 +95,9 @@ module _ (p : Plan) where
       where
         by : Sort p (trace.at t.q) (trace.at (suc t.q)) i (p.activity i).actual_start (p.activity i).actual_finish
             → begun p (recorded p i) (d.es i) ≡ d.es i
-        by (fresh a y m h) = ap (λ (x : Actual). begun p x (d.es i)) (recorded_actual p i z ∙ a)
+        by (fresh a y m h) = ap (λ (x : Result Actual ClockError). begun p x (d.es i)) (recorded_actual p i z ∙ a)
         by (done s f a c g) =
-            ap (λ (x : Actual). begun p x (d.es i)) (recorded_actual p i z ∙ a) ∙ sym (given i t s f ((trace.at t.q).left i) g).0
+            ap (λ (x : Result Actual ClockError). begun p x (d.es i)) (recorded_actual p i z ∙ a) ∙ sym (given i t s f ((trace.at t.q).left i) g).0
 
     -- the predecessors' dates stand when i's step comes
     preds : (i : ℕ) (t : Turn i) (k : ℕ) → k < kept p → (tie p k).to ≡ i

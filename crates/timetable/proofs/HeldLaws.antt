@@ -15,7 +15,6 @@ use Rattle.project.specs.declared.Constraint.{Constraint}
 use Rattle.project.specs.declared.Constraint.TheVariants.{StartOnOrAfter, StartOnOrBefore, FinishOnOrAfter, FinishOnOrBefore, StartOn, FinishOn, MandatoryStart, MandatoryFinish, AsLateAsPossible}
 use Rattle.network.specs.Times.{times_at, times_place}
 use Rattle.network.specs.Placed.{times_reverse}
-use Rattle.placing.specs.declared.Actual.{Actual}
 use Rattle.placing.specs.Placing.{via, midnight_of, completed, actual}
 use Rattle.order.specs.Plan.{Plan}
 use Rattle.order.specs.Ids.{summary}
@@ -61,7 +60,7 @@ module _ (p : Plan) (d : Early) where
   abbrev late : ℕ → Bool
   late i = is_late (p.activity i).constraint || is_late (p.activity i).secondary_constraint
 
-  completed_begun : (i : ℕ) (x y : Result ℕ ClockError) (l : Bool) → (not_begun p d (via Actual.Refused x (λ s. completed s y)) && l) ≡ false
+  completed_begun : (i : ℕ) (x y : Result ℕ ClockError) (l : Bool) → (not_begun p d (via Err x (λ s. completed s y)) && l) ≡ false
   completed_begun i (Ok t) (Ok u) l = refl
   completed_begun i (Ok t) (Err k) l = refl
   completed_begun i (Err k) y l = refl

@@ -132,7 +132,7 @@ module _ (p : Plan) where
       by rest (leaves g) q e = left_step n g (rest g q) (via_leaves (left_of p n) (λ m. leaves (put g n m)) f e)
       by rest (refused k) q e = let z : ◌≡◌ {A = ℕ} 0 1 = cc in absurd (omega arith)
 
-  pub left_full : (j : ℕ) {m : ℕ} → recorded p j ≡ Unstarted → left_of p j ≡ Ok m → m ≡ full p j
+  pub left_full : (j : ℕ) {m : ℕ} → recorded p j ≡ Ok Unstarted → left_of p j ≡ Ok m → m ≡ full p j
   unfolding left_of
   left_full j e h = let f = ap (left_by p j) e in cc
 

@@ -69,12 +69,12 @@ module _ (p : Plan) where
   module _ (d d' : Early) (i : ℕ) where
     -- what a step makes of an activity that fits, by its recorded days
     pub data Sort (x y : Option Date) : Type 0 where
-      fresh : actual (own p i) x y ≡ Unstarted → y ≡ None → Marks p i → forward_by p d i Unstarted ≡ leaves d' → Sort x y
-      done : (s f : ℕ) → actual (own p i) x y ≡ Completed s f → CompletedAt p i x y s f ⊥ → d' ≡ early p d i s f (d.left i) → Sort x y
+      fresh : actual (own p i) x y ≡ Ok Unstarted → y ≡ None → Marks p i → forward_by p d i (Ok Unstarted) ≡ leaves d' → Sort x y
+      done : (s f : ℕ) → actual (own p i) x y ≡ Ok (Completed s f) → CompletedAt p i x y s f ⊥ → d' ≡ early p d i s f (d.left i) → Sort x y
 
     completed_walks : (a b : Date) (x y : Result ℕ ClockError) → next_start (own p i) (midnight_of a) ≡ x → previous_finish (own p i) (evening (midnight_of b)) ≡ y
-        → forward_by p d i (via Actual.Refused x (λ s. completed s y)) ≡ leaves d'
-        → (s : ℕ) × (f : ℕ) × (via Actual.Refused x (λ s. completed s y) ≡ Completed s f) × Recorded (own p i) a b s f
+        → forward_by p d i (via Err x (λ s. completed s y)) ≡ leaves d'
+        → (s : ℕ) × (f : ℕ) × (via Err x (λ s. completed s y) ≡ Ok (Completed s f)) × Recorded (own p i) a b s f
         × (d' ≡ early p d i s f (d.left i))
     completed_walks a b (Ok t) (Ok u) q r e = (
       t,
@@ -153,14 +153,14 @@ module _ (p : Plan) where
     from_placed : (r : ℕ) → placed p d i r ≡ leaves d' → Changes
     from_placed r e = let q = placed_from r e in record { s = q.s; f = q.f; m = q.m; gives = q.gives }
 
-    step_by : (a : Actual) → forward_by p d i a ≡ leaves d' → Changes
-    step_by (Completed s f) e = record { s = s; f = f; m = d.left i; gives = cc }
-    step_by (Actual.Refused k) e = let z : ◌≡◌ {A = ℕ} 0 1 = cc in absurd (omega arith)
-    step_by Unstarted e =
+    step_by : (a : Result Actual ClockError) → forward_by p d i a ≡ leaves d' → Changes
+    step_by (Ok (Completed s f)) e = record { s = s; f = f; m = d.left i; gives = cc }
+    step_by (Err k) e = let z : ◌≡◌ {A = ℕ} 0 1 = cc in absurd (omega arith)
+    step_by (Ok Unstarted) e =
         let a = via_leaves (raised p d i (ties_into p i) (floor p)) (λ r. via refused (start_by p d i Unstarted r) (placed p d i)) d' e in
         let b = via_leaves (start_by p d i Unstarted a.0) (placed p d i) d' a.2 in
         from_placed b.0 b.2
-    step_by (Begun s) e =
+    step_by (Ok (Begun s)) e =
         let a = via_leaves (raised p d i (ties_into p i) (floor p)) (λ r. via refused (start_by p d i (Begun s) r) (placed p d i)) d' e in
         let b = via_leaves (start_by p d i (Begun s) a.0) (placed p d i) d' a.2 in
         from_placed b.0 b.2
@@ -197,7 +197,7 @@ module _ (p : Plan) where
       pub finish : IsAdvance (own p i) s (d.left i) f
       pub gives : d' ≡ early p d i s f (d.left i)
 
-    pub fresh_step : summary p i ≡ false → Marks p i → forward_by p d i Unstarted ≡ leaves d' → FreshStep
+    pub fresh_step : summary p i ≡ false → Marks p i → forward_by p d i (Ok Unstarted) ≡ leaves d' → FreshStep
     fresh_step z k e =
         let a = via_leaves (raised p d i (ties_into p i) (floor p)) (λ r. via refused (start_by p d i Unstarted r) (placed p d i)) d' e in
         let b = via_leaves (start_by p d i Unstarted a.0) (placed p d i) d' a.2 in
@@ -218,7 +218,7 @@ module _ (p : Plan) where
   -- ---- what is recorded of an activity that is no summary
   pub recorded_actual : (i : ℕ) → summary p i ≡ false → recorded p i ≡ actual (own p i) (p.activity i).actual_start (p.activity i).actual_finish
   unfolding recorded
-  recorded_actual i z = on_false (summary p i) Unstarted (actual (own p i) (p.activity i).actual_start (p.activity i).actual_finish) z
+  recorded_actual i z = on_false (summary p i) (Ok Unstarted) (actual (own p i) (p.activity i).actual_start (p.activity i).actual_finish) z
 
   pub step_sort : (d d' : Early) (i : ℕ) → i < p.activities → summary p i ≡ false → Fit p → forward p d i ≡ leaves d'
       → Sort d d' i (p.activity i).actual_start (p.activity i).actual_finish

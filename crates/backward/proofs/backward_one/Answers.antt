@@ -1,4 +1,5 @@
 -- `backward::backward_one` meets its contract, by what is recorded.
+use Rattle.std.specs.Prelude.{Ok}
 use borrow.Author.Rules.{rules}
 use mathlib.Core.List.{[], ◌∷◌}
 use mathlib.Core.Path.{◌≡◌, sym, ap, ◌∙◌}
@@ -8,7 +9,6 @@ use types.Run.{OneOf, miss}
 use denote.Enum.Declared.{tag_of}
 use Rattle.bounds.specs.ReadyLaws.{activities_are}
 use Rattle.dates.specs.Columns.{early_in, late_in}
-use Rattle.dates.specs.StandingLaws.{never_refused}
 use Rattle.passes.specs.Backward.{late}
 use Rattle.passes.specs.Dates.{leaves}
 use Rattle.order.specs.Plan.{plan_of}
@@ -23,7 +23,7 @@ use Rattle.backward.proofs.backward_one.Goals as goal
 
 pub place_unfinished-requires : goal.place_unfinished-requires
 place_unfinished-requires c =
-    (c.requires.0, c.requires.2, c.recorded_at-actual.ensures ∙ c.requires.1 c.args.i (omega (arith, c.requires.2, activities_are c.args.sheet.now c.args.contents)))
+    (c.requires.0, c.requires.2, ap Ok c.recorded_at-actual.ensures ∙ c.requires.1 c.args.i (omega (arith, c.requires.2, activities_are c.args.sheet.now c.args.contents)))
 
 pub returns-in_default : goal.returns-in_default
 returns-in_default c =
@@ -34,8 +34,8 @@ returns-in_default c =
     let b : c.args.i < p.activities = omega (arith, c.requires.2, activities_are c.args.sheet.now C) in (
       c.place_unfinished.ensures.0
           ∙ sym
-          (back_unfinished p (early_in p S) c.args.last (late_in p S c.args.last) c.args.i c.recorded_at-actual.result (a ∙ c.requires.1 c.args.i b)
-          c.in_default.not-Completed (λ k e. never_refused _ _ _ k (sym a ∙ e))),
+          (back_unfinished p (early_in p S) c.args.last (late_in p S c.args.last) c.args.i c.recorded_at-actual.result (ap Ok a ∙ c.requires.1 c.args.i b)
+          c.in_default.not-Completed),
       c.place_unfinished.ensures.1,
       c.place_unfinished.ensures.2,
     )
@@ -55,7 +55,7 @@ returns c =
     let f = finish_at c.args.sheet.now C S i c.requires.2 in
     let F : Frame 10 12 0 0 S T = rw E (stored_frame p S i _ _) in (
       ap leaves (ap (λ (U : State). late_in p U c.args.last) E ∙ stored_late p S i _ _ d c.args.last b ∙ (λ z. late p d m i (sym e z) (sym f z)))
-          ∙ sym (back_completed p d c.args.last m i _ _ (sym (c.requires.1 i b) ∙ sym c.recorded_at-actual.ensures ∙ c.in-Completed.is)),
+          ∙ sym (back_completed p d c.args.last m i _ _ (sym (c.requires.1 i b) ∙ ap Ok (sym c.recorded_at-actual.ensures ∙ c.in-Completed.is))),
       F,
       c.keep_early.ensures.1,
     )

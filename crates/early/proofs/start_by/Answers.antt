@@ -1,7 +1,7 @@
 -- `early::start_by` meets its contract. Each way out has its law.
 use Rattle.std.specs.Prelude.{Ok}
 use mathlib.Core.Path.{sym, ap, ◌∙◌}
-use Rattle.early.specs.EarlyLaws.{start_unstarted, start_begun, start_completed, start_refused}
+use Rattle.early.specs.EarlyLaws.{start_unstarted, start_begun, start_completed}
 use Rattle.early.proofs.start_by.Goals as goal
 
 pub returns-in-Unstarted : goal.returns-in-Unstarted
@@ -12,6 +12,3 @@ returns-in-Begun c = λ p d i H T q. ap Ok (c.resumed.ensures p d T) ∙ sym (st
 
 pub returns-in-Completed : goal.returns-in-Completed
 returns-in-Completed c = λ p d i H T q. sym (start_completed H _ _ _ _ c.in-Completed.is)
-
-pub returns-in-Refused : goal.returns-in-Refused
-returns-in-Refused c = λ p d i H T q. sym (start_refused H _ _ _ c.in-Refused.is)

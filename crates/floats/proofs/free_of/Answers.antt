@@ -1,4 +1,5 @@
 -- `floats::free_of` meets its contract. Each way out has its law.
+use Rattle.std.specs.Prelude.{Ok}
 use borrow.Author.Rules.{rules}
 use mathlib.Core.Path.{refl, sym, ap, ◌∙◌}
 use native.Mathlib.Omega.{arith}
@@ -48,7 +49,7 @@ returns c =
     at (c.free_by.ensures.0 p d)
     in (
       free_of_found q.0 x.i x.finish _ c.slack_of.ensures _ _ c.in_ok-slack.was _ w (calendar_worked q.3) (c.get_act-ef.ensures.0 ∙ sym (ef_at p S x.i i)) _
-          (sym c.between.ensures ∙ c.in_ok-total.was) _ (c.recorded_at-recorded.ensures ∙ q.1 x.i i) _ f
+          (sym c.between.ensures ∙ c.in_ok-total.was) _ (ap Ok c.recorded_at-recorded.ensures ∙ q.1 x.i i) _ f
           ∙ ap (λ (u : ℕ). free_of p d x.finish u x.i) c.get_act-lf.ensures.0,
       λ m e. let k = same_time refl e in omega (arith, c.free_by.ensures.1),
     )

@@ -1,5 +1,6 @@
 -- `floats::is_moved` meets its contract. Each way out has its law.
-use mathlib.Core.Path.{◌∙◌}
+use Rattle.std.specs.Prelude.{Ok}
+use mathlib.Core.Path.{ap, ◌∙◌}
 use native.Mathlib.Omega.{arith}
 use Rattle.order.specs.Plan.{plan_of}
 use Rattle.memory.specs.State.{state_of}
@@ -33,4 +34,4 @@ returns c =
     let p = plan_of x.sheet.now x.contents in
     let d = early_in p (state_of x.contents.activities x.contents.links x.work.now) in
     c.is_marked_late.ensures p d
-    ∙ moved_by_mark p d x.i x.free _ (c.get_act.ensures.0 ∙ c.requires.3) c.if-get_act-gt0.false c.if-free-eq0.false _ (c.recorded_at-recorded.ensures ∙ c.requires.4) _ c.requires.2
+    ∙ moved_by_mark p d x.i x.free _ (c.get_act.ensures.0 ∙ c.requires.3) c.if-get_act-gt0.false c.if-free-eq0.false _ (ap Ok c.recorded_at-recorded.ensures ∙ c.requires.4) _ c.requires.2

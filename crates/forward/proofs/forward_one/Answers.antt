@@ -1,5 +1,6 @@
 -- `forward::forward_one` meets its contract. Completed work is stored as it happened, any other once it is placed.
-use mathlib.Core.Path.{sym, ◌∙◌}
+use Rattle.std.specs.Prelude.{Ok}
+use mathlib.Core.Path.{sym, ap, ◌∙◌}
 use Rattle.dates.specs.Bounds.{recorded_below}
 use Rattle.dates.specs.Columns.{early_in}
 use Rattle.memory.specs.State.{state_of}
@@ -19,7 +20,7 @@ pub store-requires : goal.store-requires
 store-requires c =
     let p = plan_of c.args.sheet.now c.args.contents in
     let w = in_plan c.args.sheet.now c.args.contents _ c.requires.2 in
-    let below = (recorded_below p c.args.i).completed _ _ (sym (c.requires.1 _ w) ∙ sym c.recorded_at-recorded.ensures ∙ c.in-Completed.is) in
+    let below = (recorded_below p c.args.i).completed _ _ (sym (c.requires.1 _ w) ∙ ap Ok (sym c.recorded_at-recorded.ensures ∙ c.in-Completed.is)) in
     (c.requires.0.room, c.requires.2, below.0, below.1, c.get_act-left.ensures.1)
 
 pub returns : goal.returns

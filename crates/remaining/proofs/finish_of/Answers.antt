@@ -10,7 +10,6 @@ other : (x : Actual) → ((s f : ℕ) → x ≡ Completed s f → ⊥) → 0 ≡
 other Unstarted h = refl
 other (Begun s) h = refl
 other (Completed s f) h = absurd (h s f refl)
-other (Actual.Refused k) h = refl
 
 pub returns-in_default : goal.returns-in_default
 returns-in_default c = other c.args.actual c.in_default.not-Completed

@@ -3,6 +3,8 @@ use mathlib.Core.Path.{◌≡◌, refl, sym, ap, ◌∙◌}
 use mathlib.Core.Bool.{false}
 use mathlib.Core.List.{List}
 use Prim.Native.Nat.{ℕ}
+use Rattle.std.specs.Prelude.{Result, Ok, Err}
+use Rattle.worktime.specs.declared.ClockError.{ClockError}
 use Rattle.calendar.specs.declared.Period.{Period}
 use Rattle.sheet.specs.declared.Contents.{Contents}
 use Rattle.project.specs.declared.Activity.{Activity}
@@ -16,7 +18,7 @@ use Rattle.passes.specs.Plan.{recorded}
 use Rattle.calendars.specs.Calendars.{IsCalendar}
 use Rattle.calendars.specs.CalendarLaws.{calendar_valid, calendar_worked}
 use Rattle.number.specs.Exits.{handed_on}
-use Rattle.remaining.specs.LeftLaws.{recorded_else, left_is, left_answers, left_below, is_below}
+use Rattle.remaining.specs.LeftLaws.{recorded_else, left_is, left_below, is_below}
 use Rattle.remaining.specs.RowLaws.{row_kept, row_refused}
 use Rattle.remaining.proofs.record_dated.Goals as goal
 
@@ -32,12 +34,12 @@ module _ (s : List ℕ) (k : Contents) (i : ℕ) {a : Activity} (e : a ≡ (plan
   }
 
   recorded-is : {week : List (List Period)} {at n : ℕ} → IsCalendar s k (calendar_of (plan_of s k) i) week at n
-      → summary (plan_of s k) i ≡ false → {x : Actual} → x ≡ actual (worked_on week s at n) a.actual_start a.actual_finish → x ≡ recorded (plan_of s k) i
+      → summary (plan_of s k) i ≡ false → {x : Result Actual ClockError} → x ≡ actual (worked_on week s at n) a.actual_start a.actual_finish → x ≡ recorded (plan_of s k) i
   recorded-is C f r =
       r ∙ (λ z. actual (calendar_worked C z) (e z).actual_start (e z).actual_finish) ∙ sym (recorded_else (plan_of s k) i f)
 
-pub actual-actual-requires : goal.actual-actual-requires
-actual-actual-requires c =
+pub actual-requires : goal.actual-requires
+actual-requires c =
     let x = c.args in
     calendar_valid
     (own-calendar x.sheet.now x.contents x.i c.requires.4 c.week_of-week.ensures c.exceptions_of-e.ensures.0 c.exceptions_of-e.ensures.1)
@@ -57,11 +59,11 @@ keep-requires c =
     let y = c.args in
     let p = plan_of y.sheet.now y.contents in
     let C = own-calendar y.sheet.now y.contents y.i c.requires.4 c.week_of-week.ensures c.exceptions_of-e.ensures.0 c.exceptions_of-e.ensures.1 in
-    let x = c.actual-actual.result in (
+    let x = c.in_ok-actual.actual in (
       c.requires.2,
       c.requires.3,
-      is_below p y.i x (recorded-is y.sheet.now y.contents y.i c.requires.4 C c.requires.5 c.actual-actual.ensures),
-      left_below p y.i (rw c.requires.6 at c.requires.7) x c.in_ok-left.left (sym c.left_of.ensures ∙ c.in_ok-left.was),
+      is_below p y.i (Ok x) (sym c.in_ok-actual.was ∙ recorded-is y.sheet.now y.contents y.i c.requires.4 C c.requires.5 c.actual.ensures),
+      left_below p y.i (rw c.requires.6 at c.requires.7) (Ok x) c.in_ok-left.left (sym c.left_of.ensures ∙ c.in_ok-left.was),
     )
 
 pub returns : goal.returns
@@ -69,15 +71,22 @@ returns c =
     let y = c.args in
     let p = plan_of y.sheet.now y.contents in
     let C = own-calendar y.sheet.now y.contents y.i c.requires.4 c.week_of-week.ensures c.exceptions_of-e.ensures.0 c.exceptions_of-e.ensures.1 in
-    let x = c.actual-actual.result in
-    let e = recorded-is y.sheet.now y.contents y.i c.requires.4 C c.requires.5 c.actual-actual.ensures in
+    let x = c.in_ok-actual.actual in
+    let e = sym c.in_ok-actual.was ∙ recorded-is y.sheet.now y.contents y.i c.requires.4 C c.requires.5 c.actual.ensures in
     let m = sym c.left_of.ensures ∙ c.in_ok-left.was in
-    (row_kept p y.i _ _ x _ c.keep.ensures.0 e (λ k. left_answers p y.i x _ k m) (left_is p y.i x e ∙ m), c.keep.ensures.1)
+    (row_kept p y.i _ _ x _ c.keep.ensures.0 e (left_is p y.i (Ok x) e ∙ m), c.keep.ensures.1)
 
-pub returns-in_err-left : goal.returns-in_err-left
-returns-in_err-left c = rw (handed_on _ _ c.from_residual.ensures.1) (let y = c.args in
+pub returns-in_err-actual : goal.returns-in_err-actual
+returns-in_err-actual c = rw (handed_on _ _ c.from_residual.ensures.1) (let y = c.args in
     let p = plan_of y.sheet.now y.contents in
     let C = own-calendar y.sheet.now y.contents y.i c.requires.4 c.week_of-week.ensures c.exceptions_of-e.ensures.0 c.exceptions_of-e.ensures.1 in
-    let x = c.actual-actual.result in
-    let e = recorded-is y.sheet.now y.contents y.i c.requires.4 C c.requires.5 c.actual-actual.ensures in
-    (row_refused p y.i _ _ (left_is p y.i x e ∙ sym c.left_of.ensures ∙ c.in_err-left.was), refl))
+    let e = sym c.in_err-actual.was ∙ recorded-is y.sheet.now y.contents y.i c.requires.4 C c.requires.5 c.actual.ensures in
+    (row_refused p y.i _ _ (left_is p y.i (Err c.in_err-actual.field-0.0) e), refl))
+
+pub returns-in_err-left : goal.returns-in_err-left
+returns-in_err-left c = rw (handed_on _ _ c.from_residual-in_err-left.ensures.1) (let y = c.args in
+    let p = plan_of y.sheet.now y.contents in
+    let C = own-calendar y.sheet.now y.contents y.i c.requires.4 c.week_of-week.ensures c.exceptions_of-e.ensures.0 c.exceptions_of-e.ensures.1 in
+    let x = c.in_ok-actual.actual in
+    let e = sym c.in_ok-actual.was ∙ recorded-is y.sheet.now y.contents y.i c.requires.4 C c.requires.5 c.actual.ensures in
+    (row_refused p y.i _ _ (left_is p y.i (Ok x) e ∙ sym c.left_of.ensures ∙ c.in_err-left.was), refl))

@@ -1,6 +1,5 @@
 -- `remaining::record_one` meets its contract: each way out has its law.
 use Rattle.std.specs.Prelude.{Ok}
-use Rattle.worktime.specs.declared.ClockError.{ClockError}
 use borrow.Author.Rules.{rules}
 use mathlib.Core.Path.{◌≡◌, sym, ap, ◌∙◌}
 use mathlib.Core.Bool.{true, false}
@@ -22,19 +21,14 @@ use Rattle.project.specs.declared.Status.TheVariants.{NotStarted}
 use Rattle.project.specs.Status.{status_of}
 use Rattle.memory.specs.State.{state_of}
 use Rattle.memory.specs.Fields.{is_summary}
-use Rattle.placing.specs.declared.Actual.{Actual}
 use Rattle.placing.specs.declared.Actual.TheVariants.{Unstarted}
 use Rattle.order.specs.Plan.{Plan, plan_of}
 use Rattle.order.specs.Ids.{summary}
 use Rattle.passes.specs.Plan.{recorded, full}
 use Rattle.dates.specs.Standing.{Ready}
-use Rattle.placing.proofs.PlacingSound.{clash}
 use Rattle.remaining.specs.LeftLaws.{recorded_summary, recorded_none, full_summary, full_else, left_unstarted, is_below}
 use Rattle.remaining.specs.RowLaws.{row_kept}
 use Rattle.remaining.proofs.record_one.Goals as goal
-
-unstarted : (k : ClockError) → Unstarted ≡ Actual.Refused k → ⊥
-unstarted k e = clash (cc)
 
 -- the mark m tells summaries from others
 module _ {s : List ℕ} {x : Contents} {places : List ℕ} {t : ℕ} {xs : List ℤ} (R : Ready s x places t xs) {i m : ℕ} (l : i < x.activities) (e : m ≡ (state_of x.activities x.links xs).act is_summary i) where
@@ -54,7 +48,7 @@ module _ (p : Plan) (i : ℕ) {a : Activity} (e : a ≡ p.activity i) (n : summa
   whole_is : SFits w32 a.minutes → {m : ℕ} → m ≡ up (to_z w32 (of_z w32 a.minutes)) → m ≡ full p i
   whole_is f u = rw (to_z-of_z f) at u ∙ ap (λ (a : Activity). up a.minutes) e ∙ sym (full_else p i n)
 
-  none-recorded : {x : Status} → x ≡ status_of a.actual_start a.actual_finish → x ≡ NotStarted → recorded p i ≡ Unstarted
+  none-recorded : {x : Status} → x ≡ status_of a.actual_start a.actual_finish → x ≡ NotStarted → recorded p i ≡ Ok Unstarted
   none-recorded g h = recorded_none p i n (sym (λ z. status_of (e z).actual_start (e z).actual_finish) ∙ sym g ∙ h)
 
 pub get_act-mark-requires : goal.get_act-mark-requires
@@ -65,7 +59,7 @@ keep-requires c =
     let x = c.args in
     let p = plan_of x.sheet.now x.contents in
     let y = is-summary c.requires.0 c.requires.1 c.get_act-mark.ensures.0 c.if-mark-ne0.true in
-    (c.requires.0.room, c.requires.1, is_below p x.i Unstarted (sym (recorded_summary p x.i y)), omega arith)
+    (c.requires.0.room, c.requires.1, is_below p x.i (Ok Unstarted) (sym (recorded_summary p x.i y)), omega arith)
 
 pub returns-then-mark-ne0 : goal.returns-then-mark-ne0
 returns-then-mark-ne0 c =
@@ -73,7 +67,7 @@ returns-then-mark-ne0 c =
     let p = plan_of x.sheet.now x.contents in
     let y = is-summary c.requires.0 c.requires.1 c.get_act-mark.ensures.0 c.if-mark-ne0.true in
     let e = recorded_summary p x.i y in (
-      row_kept p x.i _ _ Unstarted 0 c.keep.ensures.0 (sym e) unstarted (left_unstarted p x.i e ∙ ap Ok (full_summary p x.i y)),
+      row_kept p x.i _ _ Unstarted 0 c.keep.ensures.0 (sym e) (left_unstarted p x.i e ∙ ap Ok (full_summary p x.i y)),
       c.keep.ensures.1,
     )
 
@@ -104,7 +98,7 @@ keep-requires-2 c =
     let p = plan_of x.sheet.now x.contents in
     let n = no-summary c.requires.0 c.requires.1 c.get_act-mark.ensures.0 c.if-mark-ne0.false in
     let r = none-recorded p x.i c.activity_of-activity.ensures n c.status_of-status.ensures c.in-NotStarted.is in
-    (c.requires.0.room, c.requires.1, is_below p x.i Unstarted (sym r), c.minutes_of-whole.ensures.1)
+    (c.requires.0.room, c.requires.1, is_below p x.i (Ok Unstarted) (sym r), c.minutes_of-whole.ensures.1)
 
 pub returns : goal.returns
 returns c =
@@ -114,6 +108,6 @@ returns c =
     let n = no-summary c.requires.0 c.requires.1 c.get_act-mark.ensures.0 c.if-mark-ne0.false in
     let r = none-recorded p x.i e n c.status_of-status.ensures c.in-NotStarted.is in
     let w = whole_is p x.i e n (record { sfits = search rules }) c.minutes_of-whole.ensures.0 in (
-      row_kept p x.i _ _ Unstarted _ c.keep-2.ensures.0 (sym r) unstarted (left_unstarted p x.i r ∙ ap Ok (sym w)),
+      row_kept p x.i _ _ Unstarted _ c.keep-2.ensures.0 (sym r) (left_unstarted p x.i r ∙ ap Ok (sym w)),
       c.keep-2.ensures.1,
     )

@@ -9,4 +9,4 @@ returns-in-Completed c = λ p. rw c.in-Completed.is
 pub returns-in-Unstarted : goal.returns-in-Unstarted
 returns-in-Unstarted c =
     let e = rw (to_z-of_z c.ranges.total) at c.is_critical.ensures in
-    λ p. ⊎_elim (λ s. rw s e) (⊎_elim (λ s. rw s.1 e) (λ s. rw s.1 e)) c.in-Unstarted.is
+    λ p. ⊎_elim (λ s. rw s e) (λ s. rw s.1 e) c.in-Unstarted.is

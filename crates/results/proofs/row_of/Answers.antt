@@ -1,4 +1,5 @@
 -- `results::row_of` meets its contract.
+use Rattle.std.specs.Prelude.{Ok}
 use mathlib.Core.Path.{◌≡◌, ap, ◌∙◌}
 use Prim.Native.Nat.{ℕ, ◌≤◌}
 use native.Mathlib.Omega.{arith}
@@ -61,6 +62,6 @@ returns c =
           (h.0.days.is k n ∙ ap p.day_length e)
           (calendar_worked (record { week_is = c.week_of-week.ensures; at_is = c.exceptions_of-e.ensures.0; n_is = c.exceptions_of-e.ensures.1 })
           ∙ ap (λ (j : ℕ). worked (p.hours j)) e)
-          (c.recorded_at-actual.ensures ∙ h.0.recorded x.i h.1) c.times_at-t.ensures.0,
+          (ap Ok c.recorded_at-actual.ensures ∙ h.0.recorded x.i h.1) c.times_at-t.ensures.0,
       c.shown_of.ensures.1,
     )

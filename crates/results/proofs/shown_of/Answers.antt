@@ -1,4 +1,5 @@
 -- `results::shown_of` meets its contract.
+use Rattle.std.specs.Prelude.{Ok}
 use borrow.Author.Rules.{rules}
 use mathlib.Core.Path.{sym, ◌∙◌}
 use mir.Facts.{to_z-of_z}
@@ -11,7 +12,7 @@ use Rattle.results.proofs.shown_of.Goals as goal
 pub returns-in_err-total : goal.returns-in_err-total
 returns-in_err-total c = rw (handed_on _ _ c.from_residual.ensures.1) ((
   (λ p.
-      shown_refused p c.args.project c.args.kind c.args.day_length _ c.args.actual c.args.t _ (sym (c.total_of.ensures p) ∙ c.in_err-total.was)),
+      shown_refused p c.args.project c.args.kind c.args.day_length _ (Ok c.args.actual) c.args.t _ (sym (c.total_of.ensures p) ∙ c.in_err-total.was)),
   tt,
 )
     )
@@ -19,7 +20,7 @@ returns-in_err-total c = rw (handed_on _ _ c.from_residual.ensures.1) ((
 pub returns-then-not-all_in_years : goal.returns-then-not-all_in_years
 returns-then-not-all_in_years c = (
   (λ p.
-      shown_out p c.args.project c.args.kind c.args.day_length _ c.args.actual c.args.t c.in_ok-total.total _ (sym (c.total_of.ensures p) ∙ c.in_ok-total.was)
+      shown_out p c.args.project c.args.kind c.args.day_length _ (Ok c.args.actual) c.args.t c.in_ok-total.total _ (sym (c.total_of.ensures p) ∙ c.in_ok-total.was)
       (c.days_of-days.ensures p) (sym c.all_in_years.ensures ∙ c.if-not-all_in_years.true)),
   tt,
 )
@@ -31,7 +32,7 @@ returns c =
     let l = days_low _ y in (
       (λ p.
           rw (to_z-of_z f)
-          (shown_in_lem p c.args.project c.args.kind c.args.day_length _ c.args.actual c.args.t c.in_ok-total.total _ _ (sym (c.total_of.ensures p) ∙ c.in_ok-total.was)
+          (shown_in_lem p c.args.project c.args.kind c.args.day_length _ (Ok c.args.actual) c.args.t c.in_ok-total.total _ _ (sym (c.total_of.ensures p) ∙ c.in_ok-total.was)
           (c.days_of-days.ensures p) y (rw (to_z-of_z f) at (c.critical_of-critical.ensures p)))),
       record { es = l.0; ef = l.1; ls = l.2; lf = l.3; free = c.requires.4; finish = c.requires.2; late = c.requires.3 },
     )

@@ -7,4 +7,4 @@ pub returns-in-Completed : goal.returns-in-Completed
 returns-in-Completed c = rw c.in-Completed.is
 
 pub returns-in-Unstarted : goal.returns-in-Unstarted
-returns-in-Unstarted c = rw (to_z-of_z c.ranges.total) (⊎_elim (λ e. rw e) (⊎_elim (λ h. rw h.1) (λ h. rw h.1)) c.in-Unstarted.is)
+returns-in-Unstarted c = rw (to_z-of_z c.ranges.total) (⊎_elim (λ e. rw e) (λ h. rw h.1) c.in-Unstarted.is)

@@ -17,7 +17,7 @@ returns c = λ p.
     let d = rw (to_z-of_z ff, to_z-of_z sf) at (c.float_by.ensures p) in
     let e = rw (to_z-of_z (record { sfits = c.float_by.type_inv })) at c.total_by.ensures in
     rw (to_z-of_z (record { sfits = c.total_by.type_inv }))
-    (ap Ok (e ∙ ap (total_by c.args.actual) d)
+    (ap Ok (e ∙ ap (total_by (Ok c.args.actual)) d)
     ∙ total_both p _ _ _ _ _ _ (sym c.between.ensures ∙ c.in_ok-finish.was) (sym c.between-2.ensures ∙ c.in_ok-start.was))
 
 pub returns-in_err-start : goal.returns-in_err-start

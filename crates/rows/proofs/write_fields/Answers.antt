@@ -1,4 +1,5 @@
 -- `rows::write_fields` meets its contract.
+use Rattle.std.specs.Prelude.{Ok}
 use mathlib.Core.Path.{◌≡◌, ap, ◌∙◌}
 use mathlib.Core.List.{List}
 use Prim.Native.Nat.{◌+◌}
@@ -37,14 +38,14 @@ write_work-requires c =
     (omega (arith, l, m, c.requires.0), c.requires.4, c.requires.5, c.requires.6)
 
 abbrev fields : goal.After-results-3-1 → List ℤ
-fields c = let x = c.args in row_fields x.id x.day_length x.x x.is_summary x.actual x.left x.es x.ef
+fields c = let x = c.args in row_fields x.id x.day_length x.x x.is_summary (Ok x.actual) x.left x.es x.ef
 
 stored : (c : goal.After-results-3-1) → c.write_work.new.results ≡ stored_from c.args.results.now c.args.at 0 (fields c)
 stored c =
     let x = c.args in
     let e : x.at ≡ x.at + 0 = omega arith in
     c.write_work.ensures
-    ∙ ap (λ (ys : List ℤ). stored_from ys x.at 11 (work_fields x.is_summary x.actual x.left x.es x.ef))
+    ∙ ap (λ (ys : List ℤ). stored_from ys x.at 11 (work_fields x.is_summary (Ok x.actual) x.left x.es x.ef))
     (c.write_floats.ensures
     ∙ ap (λ (ys : List ℤ). stored_from ys x.at 5 (float_fields x.day_length x.x))
     (c.write_days.ensures ∙ (λ z. stored_from (set x.results.now (e z) (to_z_pos w64 c.requires.1 z)) x.at 1 (day_fields x.x))))

@@ -1,4 +1,5 @@
 -- `rows::write_row` meets its contract.
+use Rattle.std.specs.Prelude.{Ok}
 use mathlib.Core.Path.{refl, ap, ◌∙◌}
 use Prim.Native.Nat.{◌*◌, ◌≤◌, ◌<◌, ◌^◌}
 use native.Mathlib.Omega.{arith}
@@ -44,5 +45,5 @@ returns c =
     c.write_fields.ensures
     ∙ ap (stored_from x.results.now (15 * x.i) 0)
     (fields_are p S x.i _ _ _ _ _ _ _ _ _ (ap (λ (a : Activity). a.id) a) (h.0.days.is k n ∙ ap p.day_length e) c.shown_at-x.ensures.0 refl
-    (c.get_act-is_summary.ensures.0 ∙ h.0.marks x.i h.1) (c.recorded_at-actual.ensures ∙ h.0.recorded x.i h.1) c.get_act-left.ensures.0
+    (c.get_act-is_summary.ensures.0 ∙ h.0.marks x.i h.1) (ap Ok c.recorded_at-actual.ensures ∙ h.0.recorded x.i h.1) c.get_act-left.ensures.0
     c.get_act-es.ensures.0 c.get_act-ef.ensures.0)

@@ -1,6 +1,6 @@
 -- `late::limits::limit_by` meets its contract, by what is recorded.
 use mathlib.Core.Path.{sym, ◌∙◌}
-use Rattle.late.specs.LimitLaws.{by_unstarted, by_begun_start, by_begun, by_completed, by_refused}
+use Rattle.late.specs.LimitLaws.{by_unstarted, by_begun_start, by_begun, by_completed}
 use Rattle.late.proofs.limits.limit_by.Goals as goal
 
 pub returns-then-bounds_start : goal.returns-then-bounds_start
@@ -14,6 +14,3 @@ returns-else-bounds_start c = λ p d l i O. c.limit-in-Begun.ensures p d l i O �
 
 pub returns-in-Completed : goal.returns-in-Completed
 returns-in-Completed c = λ p d l i O. sym (by_completed p d l i _ _ _ _ _ c.in-Completed.is)
-
-pub returns-in-Refused : goal.returns-in-Refused
-returns-in-Refused c = λ p d l i O. sym (by_refused p d l i _ _ _ _ c.in-Refused.is)
