@@ -70,10 +70,7 @@ pub fn constraint_time(
 }
 
 // Work that began on a day and goes on.
-fn begun(
-    calendar: &Calendar,
-    start: Date,
-) -> Result<Actual, ClockError>
+fn begun(calendar: &Calendar, start: Date) -> Result<Actual, ClockError>
     ensures { result ≡ actual (worked_by calendar.now) (Some start) None }
 {
     let s = clock::next_start(calendar, start.midnight())?;
@@ -81,11 +78,7 @@ fn begun(
 }
 
 // Work that began on a day and ended on another: its finish is not before its start.
-fn completed(
-    calendar: &Calendar,
-    start: Date,
-    finish: Date,
-) -> Result<Actual, ClockError>
+fn completed(calendar: &Calendar, start: Date, finish: Date) -> Result<Actual, ClockError>
     ensures { result ≡ actual (worked_by calendar.now) (Some start) (Some finish) }
 {
     let s = clock::next_start(calendar, start.midnight())?;
@@ -97,10 +90,7 @@ fn completed(
 }
 
 // What is recorded of the activity's work: with only a finish day, it began on that day.
-pub fn actual(
-    activity: Activity,
-    calendar: &Calendar,
-) -> Result<Actual, ClockError>
+pub fn actual(activity: Activity, calendar: &Calendar) -> Result<Actual, ClockError>
     ensures { result ≡ actual (worked_by calendar.now) activity.actual_start activity.actual_finish }
 {
     let first = activity.actual_start;
