@@ -18,6 +18,7 @@ ghost use Rattle.late.specs.Times.{unfinished_late};
 ghost use Rattle.backward.specs.Finish.{Marked, onward};
 ghost use Rattle.backward.specs.Stored.{stored};
 
+use calendars::PlanCalendar;
 use placing::Actual;
 use sheet::Contents;
 use worktime::ClockError;
@@ -89,17 +90,17 @@ fn keep_early(work: &mut [i64], a: usize, l: usize, i: usize)
 fn place_unfinished(
     sheet: &[u8],
     contents: Contents,
-    places: &[u64],
+    calendars: &[PlanCalendar],
     t: usize,
     work: &mut [i64],
     last: u64,
     i: usize,
     actual: Actual,
 ) -> Result<(), ClockError>
-    requires { Ready sheet.now contents places.now t work.old × (i < contents.activities) × (Ok actual ≡ recorded (plan_of sheet.now contents) i) }
+    requires { Ready sheet.now contents calendars.now t work.old × (i < contents.activities) × (Ok actual ≡ recorded (plan_of sheet.now contents) i) }
     ensures { (ended (late_in (plan_of sheet.now contents) (state_of contents.activities contents.links work.new) last) result ≡ unfinished_late (plan_of sheet.now contents) (early_in (plan_of sheet.now contents) (state_of contents.activities contents.links work.old)) (late_in (plan_of sheet.now contents) (state_of contents.activities contents.links work.old) last) i last) × Frame 10 12 0 0 (state_of contents.activities contents.links work.old) (state_of contents.activities contents.links work.new) × (length work.new ≡ length work.old) }
 {
-    let dates = late::late_of(sheet, contents, places, t, work, i, actual, last)?;
+    let dates = late::late_of(sheet, contents, calendars, t, work, i, actual, last)?;
     store_late(
         work,
         contents.activities,
@@ -115,20 +116,20 @@ fn place_unfinished(
 fn backward_one(
     sheet: &[u8],
     contents: Contents,
-    places: &[u64],
+    calendars: &[PlanCalendar],
     t: usize,
     work: &mut [i64],
     last: u64,
     i: usize,
 ) -> Result<(), ClockError>
-    requires { Ready sheet.now contents places.now t work.old × Recorded (plan_of sheet.now contents) (state_of contents.activities contents.links work.old) × (i < contents.activities) }
+    requires { Ready sheet.now contents calendars.now t work.old × Recorded (plan_of sheet.now contents) (state_of contents.activities contents.links work.old) × (i < contents.activities) }
     ensures { (ended (late_in (plan_of sheet.now contents) (state_of contents.activities contents.links work.new) last) result ≡ backward (plan_of sheet.now contents) (early_in (plan_of sheet.now contents) (state_of contents.activities contents.links work.old)) last (late_in (plan_of sheet.now contents) (state_of contents.activities contents.links work.old) last) i) × Frame 10 12 0 0 (state_of contents.activities contents.links work.old) (state_of contents.activities contents.links work.new) × (length work.new ≡ length work.old) }
 {
     let a = contents.activities;
     let l = contents.links;
     let actual = dates::recorded_at(work, a, l, i);
     let Actual::Completed(_, _) = actual else {
-        return place_unfinished(sheet, contents, places, t, work, last, i, actual);
+        return place_unfinished(sheet, contents, calendars, t, work, last, i, actual);
     };
     keep_early(work, a, l, i);
     Ok(())
@@ -138,19 +139,19 @@ fn backward_one(
 fn backward_all(
     sheet: &[u8],
     contents: Contents,
-    places: &[u64],
+    calendars: &[PlanCalendar],
     t: usize,
     work: &mut [i64],
     last: u64,
 ) -> Result<(), ClockError>
-    requires { Ready sheet.now contents places.now t work.old × Recorded (plan_of sheet.now contents) (state_of contents.activities contents.links work.old) }
+    requires { Ready sheet.now contents calendars.now t work.old × Recorded (plan_of sheet.now contents) (state_of contents.activities contents.links work.old) }
     ensures { (ended (late_in (plan_of sheet.now contents) (state_of contents.activities contents.links work.new) last) result ≡ through (backward (plan_of sheet.now contents) (early_in (plan_of sheet.now contents) (state_of contents.activities contents.links work.old)) last) (reverse (order (plan_of sheet.now contents))) (late_in (plan_of sheet.now contents) (state_of contents.activities contents.links work.old) last)) × Frame 10 12 0 0 (state_of contents.activities contents.links work.old) (state_of contents.activities contents.links work.new) × (length work.new ≡ length work.old) }
 {
     let a = contents.activities;
     let l = contents.links;
     for q in (0..a).rev() {
         let i = memory::get_act(work, a, l, q, memory::fields::ORDER_AT) as usize;
-        backward_one(sheet, contents, places, t, work, last, i)?;
+        backward_one(sheet, contents, calendars, t, work, last, i)?;
     }
     Ok(())
 }
@@ -159,17 +160,17 @@ fn backward_all(
 pub fn backward_pass(
     sheet: &[u8],
     contents: Contents,
-    places: &[u64],
+    calendars: &[PlanCalendar],
     t: usize,
     work: &mut [i64],
     last: u64,
 ) -> Result<(), ClockError>
-    requires { Ready sheet.now contents places.now t work.old × Recorded (plan_of sheet.now contents) (state_of contents.activities contents.links work.old) × (last < 2 ^ 63) }
+    requires { Ready sheet.now contents calendars.now t work.old × Recorded (plan_of sheet.now contents) (state_of contents.activities contents.links work.old) × (last < 2 ^ 63) }
     ensures { (ended (late_in (plan_of sheet.now contents) (state_of contents.activities contents.links work.new) last) result ≡ through (backward (plan_of sheet.now contents) (early_in (plan_of sheet.now contents) (state_of contents.activities contents.links work.old)) last) (reverse (order (plan_of sheet.now contents))) (record { ls = λ i. last; lf = λ i. last })) × Frame 10 12 0 0 (state_of contents.activities contents.links work.old) (state_of contents.activities contents.links work.new) × (length work.new ≡ length work.old) }
 {
     let a = contents.activities;
     let l = contents.links;
     memory::fill_act(work, a, l, memory::fields::LATE_START, last);
     memory::fill_act(work, a, l, memory::fields::LATE_FINISH, last);
-    backward_all(sheet, contents, places, t, work, last)
+    backward_all(sheet, contents, calendars, t, work, last)
 }

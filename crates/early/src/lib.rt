@@ -3,8 +3,7 @@
 #![tactic(auto)]
 
 ghost use Rattle.std.specs.Prelude.{◌≡◌, ℕ, ◌^◌, ◌<◌, max, Ok, Err, Some};
-ghost use Rattle.calendar.specs.Records.{Valid};
-ghost use Rattle.clock.specs.On.{worked_on};
+ghost use Rattle.clock.specs.On.{worked_by};
 ghost use Rattle.placing.specs.Placing.{via};
 ghost use Rattle.sheet.specs.Known.{SheetRead};
 ghost use Rattle.order.specs.Plan.{Plan, plan_of};
@@ -13,7 +12,7 @@ ghost use Rattle.passes.specs.Dates.{Early};
 ghost use Rattle.passes.specs.Forward.{counted, at_early, constrained, levelled, held, resumed, start_by, work_to, minutes_from, placed};
 ghost use Rattle.early.specs.InHand.{IsTimes, InHand, placed_as, finished_as, after_start, Fits};
 
-use calendar::Period;
+use calendar::Calendar;
 use date::Date;
 use placing::Actual;
 use project::{Activity, ActivityKind, Constraint, ProgressMode};
@@ -50,18 +49,14 @@ fn raised_to(walk: Result<u64, ClockError>, least: u64) -> Result<u64, ClockErro
 // The start by a constraint whose time is `t`: no earlier, and for a mandatory one on it, but not before the floor.
 fn at_early(
     activity: Activity,
-    week: [[Period; 8]; 7],
-    sheet: &[u8],
-    at: usize,
-    n: usize,
+    calendar: &Calendar,
     left: u64,
     times: Times,
     constraint: Constraint,
     t: u64,
     start: u64,
 ) -> Result<u64, ClockError>
-    requires { Valid week sheet.now at n }
-    ensures { (p : Plan) (d : Early) (i : ℕ) → InHand p d i activity (worked_on week sheet.now at n) left → IsTimes p times → result ≡ at_early p d i (Some constraint) t start }
+    ensures { (p : Plan) (d : Early) (i : ℕ) → InHand p d i activity (worked_by calendar.now) left → IsTimes p times → result ≡ at_early p d i (Some constraint) t start }
 {
     match constraint {
         Constraint::StartOnOrBefore(_)
@@ -69,12 +64,12 @@ fn at_early(
         | Constraint::AsLateAsPossible => Ok(start),
         Constraint::StartOnOrAfter(_) | Constraint::StartOn(_) => Ok(start.max(t)),
         Constraint::FinishOnOrAfter(_) | Constraint::FinishOn(_) => {
-            let walk = placing::start_for_finish(activity, week, sheet, at, n, left, t);
+            let walk = placing::start_for_finish(activity, calendar, left, t);
             raised_to(walk, start)
         }
         Constraint::MandatoryStart(_) => Ok(t.max(times.floor)),
         Constraint::MandatoryFinish(_) => {
-            let walk = placing::start_for_finish(activity, week, sheet, at, n, left, t);
+            let walk = placing::start_for_finish(activity, calendar, left, t);
             raised_to(walk, times.floor)
         }
     }
@@ -83,26 +78,22 @@ fn at_early(
 // The start by a constraint, whose time is bounded.
 fn constrained(
     activity: Activity,
-    week: [[Period; 8]; 7],
-    sheet: &[u8],
-    at: usize,
-    n: usize,
+    calendar: &Calendar,
     left: u64,
     times: Times,
     constraint: Option<Constraint>,
     start: u64,
 ) -> Result<u64, ClockError>
-    requires { Valid week sheet.now at n }
-    ensures { (p : Plan) (d : Early) (i : ℕ) → InHand p d i activity (worked_on week sheet.now at n) left → IsTimes p times → result ≡ constrained p d i constraint start }
+    ensures { (p : Plan) (d : Early) (i : ℕ) → InHand p d i activity (worked_by calendar.now) left → IsTimes p times → result ≡ constrained p d i constraint start }
 {
     let Some(kind) = constraint else {
         return Ok(start);
     };
-    match placing::dates::constraint_time(activity, week, sheet, at, n, constraint)? {
+    match placing::dates::constraint_time(activity, calendar, constraint)? {
         Some(x) => {
             let t = placing::bounded(times.origin, x)?;
             at_early(
-                activity, week, sheet, at, n, left, times, kind, t, start,
+                activity, calendar, left, times, kind, t, start,
             )
         }
         None => Ok(start),
@@ -112,22 +103,18 @@ fn constrained(
 // The start by the levelled start, which binds as a start on or after it does.
 fn levelled(
     activity: Activity,
-    week: [[Period; 8]; 7],
-    sheet: &[u8],
-    at: usize,
-    n: usize,
+    calendar: &Calendar,
     left: u64,
     times: Times,
     start: u64,
 ) -> Result<u64, ClockError>
-    requires { Valid week sheet.now at n }
-    ensures { (p : Plan) (d : Early) (i : ℕ) → InHand p d i activity (worked_on week sheet.now at n) left → IsTimes p times → result ≡ levelled p d i activity.levelled start }
+    ensures { (p : Plan) (d : Early) (i : ℕ) → InHand p d i activity (worked_by calendar.now) left → IsTimes p times → result ≡ levelled p d i activity.levelled start }
 {
     let day = activity.levelled;
     match day {
         Some(x) => {
             let constraint = Some(Constraint::StartOnOrAfter(x));
-            constrained(activity, week, sheet, at, n, left, times, constraint, start)
+            constrained(activity, calendar, left, times, constraint, start)
         }
         None => Ok(start),
     }
@@ -136,26 +123,22 @@ fn levelled(
 // Both constraints in turn, then the levelled start; a summary has none.
 fn held(
     activity: Activity,
-    week: [[Period; 8]; 7],
-    sheet: &[u8],
-    at: usize,
-    n: usize,
+    calendar: &Calendar,
     left: u64,
     times: Times,
     is_summary: bool,
     start: u64,
 ) -> Result<u64, ClockError>
-    requires { Valid week sheet.now at n }
-    ensures { (p : Plan) (d : Early) (i : ℕ) → InHand p d i activity (worked_on week sheet.now at n) left → IsTimes p times → is_summary ≡ summary p i → result ≡ held p d i start }
+    ensures { (p : Plan) (d : Early) (i : ℕ) → InHand p d i activity (worked_by calendar.now) left → IsTimes p times → is_summary ≡ summary p i → result ≡ held p d i start }
 {
     if is_summary {
         return Ok(start);
     }
     let first = activity.constraint;
-    let s = constrained(activity, week, sheet, at, n, left, times, first, start)?;
+    let s = constrained(activity, calendar, left, times, first, start)?;
     let second = activity.secondary_constraint;
-    let u = constrained(activity, week, sheet, at, n, left, times, second, s)?;
-    levelled(activity, week, sheet, at, n, left, times, u)
+    let u = constrained(activity, calendar, left, times, second, s)?;
+    levelled(activity, calendar, left, times, u)
 }
 
 // ---- work under way
@@ -178,21 +161,17 @@ fn resumed(times: Times, s: u64, start: u64) -> u64
 // The start from `start` on, which the links leave, by what is recorded.
 fn start_by(
     activity: Activity,
-    week: [[Period; 8]; 7],
-    sheet: &[u8],
-    at: usize,
-    n: usize,
+    calendar: &Calendar,
     left: u64,
     times: Times,
     is_summary: bool,
     recorded: Actual,
     start: u64,
 ) -> Result<u64, ClockError>
-    requires { Valid week sheet.now at n }
-    ensures { (p : Plan) (d : Early) (i : ℕ) → InHand p d i activity (worked_on week sheet.now at n) left → IsTimes p times → is_summary ≡ summary p i → result ≡ start_by p d i recorded start }
+    ensures { (p : Plan) (d : Early) (i : ℕ) → InHand p d i activity (worked_by calendar.now) left → IsTimes p times → is_summary ≡ summary p i → result ≡ start_by p d i recorded start }
 {
     match recorded {
-        Actual::Unstarted => held(activity, week, sheet, at, n, left, times, is_summary, start),
+        Actual::Unstarted => held(activity, calendar, left, times, is_summary, start),
         Actual::Begun(s) => Ok(resumed(times, s, start)),
         Actual::Completed(_, _) => Ok(start),
     }
@@ -211,23 +190,20 @@ fn counted(work: Result<i64, ClockError>) -> Result<u64, ClockError>
 // The work from `s` to the evening of an expected finish.
 fn work_to(
     activity: Activity,
-    week: [[Period; 8]; 7],
-    sheet: &[u8],
-    at: usize,
-    n: usize,
+    calendar: &Calendar,
     left: u64,
     times: Times,
     s: u64,
     expected: Option<Date>,
 ) -> Result<u64, ClockError>
-    requires { Valid week sheet.now at n × (left < 2 ^ 63) }
-    ensures { ((p : Plan) (d : Early) (i : ℕ) → InHand p d i activity (worked_on week sheet.now at n) left → IsTimes p times → result ≡ work_to p d i s expected) × ((m : ℕ) → result ≡ Ok m → m < 2 ^ 63) }
+    requires { (left < 2 ^ 63) }
+    ensures { ((p : Plan) (d : Early) (i : ℕ) → InHand p d i activity (worked_by calendar.now) left → IsTimes p times → result ≡ work_to p d i s expected) × ((m : ℕ) → result ≡ Ok m → m < 2 ^ 63) }
 {
     match expected {
         Some(x) => {
-            let e = clock::previous_finish(week, sheet, at, n, x.midnight() + 1440)?;
+            let e = clock::previous_finish(calendar, x.midnight() + 1440)?;
             let b = placing::bounded(times.origin, e)?;
-            let work = clock::between(week, sheet, at, n, s, b.max(s));
+            let work = clock::between(calendar, s, b.max(s));
             counted(work)
         }
         None => Ok(left),
@@ -237,17 +213,14 @@ fn work_to(
 // The minutes from `s` on: of tasks that are no summaries an expected finish resets them.
 fn minutes_from(
     activity: Activity,
-    week: [[Period; 8]; 7],
-    sheet: &[u8],
-    at: usize,
-    n: usize,
+    calendar: &Calendar,
     left: u64,
     times: Times,
     is_summary: bool,
     s: u64,
 ) -> Result<u64, ClockError>
-    requires { Valid week sheet.now at n × (left < 2 ^ 63) }
-    ensures { ((p : Plan) (d : Early) (i : ℕ) → InHand p d i activity (worked_on week sheet.now at n) left → IsTimes p times → is_summary ≡ summary p i → result ≡ minutes_from p d i s) × ((m : ℕ) → result ≡ Ok m → m < 2 ^ 63) }
+    requires { (left < 2 ^ 63) }
+    ensures { ((p : Plan) (d : Early) (i : ℕ) → InHand p d i activity (worked_by calendar.now) left → IsTimes p times → is_summary ≡ summary p i → result ≡ minutes_from p d i s) × ((m : ℕ) → result ≡ Ok m → m < 2 ^ 63) }
 {
     if is_summary {
         return Ok(left);
@@ -255,7 +228,7 @@ fn minutes_from(
     match activity.kind {
         ActivityKind::Task => {
             let expected = activity.expected_finish;
-            work_to(activity, week, sheet, at, n, left, times, s, expected)
+            work_to(activity, calendar, left, times, s, expected)
         }
         ActivityKind::StartMilestone | ActivityKind::FinishMilestone => Ok(left),
     }
@@ -266,18 +239,15 @@ fn minutes_from(
 // The activity from `s` on with `m` minutes of work.
 fn finished(
     activity: Activity,
-    week: [[Period; 8]; 7],
-    sheet: &[u8],
-    at: usize,
-    n: usize,
+    calendar: &Calendar,
     times: Times,
     s: u64,
     m: u64,
 ) -> Result<Placement, ClockError>
-    requires { Valid week sheet.now at n × (s < 2 ^ 63) × (m < 2 ^ 63) × (times.origin < 2 ^ 43) }
-    ensures { ((p : Plan) (d : Early) (i : ℕ) → IsTimes p times → placed_as p d i result ≡ finished_as p d i (worked_on week sheet.now at n) s m) × Fits result }
+    requires { (s < 2 ^ 63) × (m < 2 ^ 63) × (times.origin < 2 ^ 43) }
+    ensures { ((p : Plan) (d : Early) (i : ℕ) → IsTimes p times → placed_as p d i result ≡ finished_as p d i (worked_by calendar.now) s m) × Fits result }
 {
-    let g = placing::finish_of(activity, week, sheet, at, n, m, s)?;
+    let g = placing::finish_of(activity, calendar, m, s)?;
     let f = placing::bounded(times.origin, g)?;
     Ok(Placement {
         start: s,
@@ -289,44 +259,38 @@ fn finished(
 // The activity at the first place from `start` on.
 fn placed(
     activity: Activity,
-    week: [[Period; 8]; 7],
-    sheet: &[u8],
-    at: usize,
-    n: usize,
+    calendar: &Calendar,
     left: u64,
     times: Times,
     is_summary: bool,
     start: u64,
 ) -> Result<Placement, ClockError>
-    requires { Valid week sheet.now at n × (left < 2 ^ 63) × (times.origin < 2 ^ 43) }
-    ensures { ((p : Plan) (d : Early) (i : ℕ) → InHand p d i activity (worked_on week sheet.now at n) left → IsTimes p times → is_summary ≡ summary p i → placed_as p d i result ≡ placed p d i start) × Fits result }
+    requires { (left < 2 ^ 63) × (times.origin < 2 ^ 43) }
+    ensures { ((p : Plan) (d : Early) (i : ℕ) → InHand p d i activity (worked_by calendar.now) left → IsTimes p times → is_summary ≡ summary p i → placed_as p d i result ≡ placed p d i start) × Fits result }
 {
-    let t = placing::place_start(activity, week, sheet, at, n, start)?;
+    let t = placing::place_start(activity, calendar, start)?;
     let s = placing::bounded(times.origin, t)?;
-    let m = minutes_from(activity, week, sheet, at, n, left, times, is_summary, s)?;
-    finished(activity, week, sheet, at, n, times, s, m)
+    let m = minutes_from(activity, calendar, left, times, is_summary, s)?;
+    finished(activity, calendar, times, s, m)
 }
 
 // The early dates of an activity whose links leave it `start`: completed work apart.
 pub fn place(
     activity: Activity,
-    week: [[Period; 8]; 7],
-    sheet: &[u8],
-    at: usize,
-    n: usize,
+    calendar: &Calendar,
     left: u64,
     times: Times,
     is_summary: bool,
     recorded: Actual,
     start: u64,
 ) -> Result<Placement, ClockError>
-    requires { Valid week sheet.now at n × (left < 2 ^ 63) × (times.origin < 2 ^ 43) }
-    ensures { ((p : Plan) (d : Early) (i : ℕ) → InHand p d i activity (worked_on week sheet.now at n) left → IsTimes p times → is_summary ≡ summary p i → placed_as p d i result ≡ after_start p d i recorded start) × Fits result }
+    requires { (left < 2 ^ 63) × (times.origin < 2 ^ 43) }
+    ensures { ((p : Plan) (d : Early) (i : ℕ) → InHand p d i activity (worked_by calendar.now) left → IsTimes p times → is_summary ≡ summary p i → placed_as p d i result ≡ after_start p d i recorded start) × Fits result }
 {
     let u = start_by(
-        activity, week, sheet, at, n, left, times, is_summary, recorded, start,
+        activity, calendar, left, times, is_summary, recorded, start,
     )?;
-    placed(activity, week, sheet, at, n, left, times, is_summary, u)
+    placed(activity, calendar, left, times, is_summary, u)
 }
 
 // The times of the project.

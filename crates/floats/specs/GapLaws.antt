@@ -20,6 +20,7 @@ use Rattle.passes.specs.Plan.{own, tie, ties_out, recorded, begun}
 use Rattle.passes.specs.Dates.{Early}
 use Rattle.passes.specs.Forward.{forward_bound}
 use Rattle.passes.specs.Floats.{target_of, measured, free_by}
+use Rattle.calendars.specs.declared.plan_calendar.PlanCalendar.{PlanCalendar}
 use Rattle.dates.specs.declared.Tie.{Tie}
 use Rattle.dates.specs.Columns.{early_in}
 use Rattle.dates.specs.Standing.{as_tie, tie_in, actual_in, Ready, Recorded}
@@ -38,7 +39,7 @@ target_read p S StartToStart j = refl
 target_read p S FinishToFinish j = refl
 target_read p S StartToFinish j = refl
 
-module _ {s : List ℕ} {c : Contents} {places : List ℕ} {t : ℕ} {xs : List ℤ} (R : Ready s c places t xs) where
+module _ {s : List ℕ} {c : Contents} {calendars : List PlanCalendar} {t : ℕ} {xs : List ℤ} (R : Ready s c calendars t xs) where
   abbrev p : Plan
   p = plan_of s c
 

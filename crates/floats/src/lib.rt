@@ -3,8 +3,7 @@
 
 ghost use Rattle.std.specs.Prelude.{◌≡◌, ◌&&◌, reverse, ℕ, ◌^◌, ◌<◌, ltb, length, Ok};
 ghost use Rattle.number.specs.Bit.{bit};
-ghost use Rattle.calendar.specs.Records.{Valid};
-ghost use Rattle.clock.specs.On.{worked_on};
+ghost use Rattle.clock.specs.On.{worked_by};
 ghost use Rattle.memory.specs.State.{Room, state_of};
 ghost use Rattle.memory.specs.Fields.{is_summary, late_finish, early_start, early_finish};
 ghost use Rattle.topology.specs.Frame.{Frame};
@@ -16,12 +15,13 @@ ghost use Rattle.order.specs.Checks.{order};
 ghost use Rattle.passes.specs.Plan.{tie, ties_out, recorded};
 ghost use Rattle.passes.specs.Dates.{Early, through};
 ghost use Rattle.passes.specs.Floats.{is_late, target_of, free_by, holds_late, held_move, freed, free_float};
-ghost use Rattle.calendars.specs.Calendars.{IsCalendar};
+ghost use Rattle.calendars.specs.Calendars.{InPlan};
 ghost use Rattle.dates.specs.Columns.{early_in, late_in, free_in, ended};
 ghost use Rattle.dates.specs.Standing.{actual_in, Ready, Recorded};
 ghost use Rattle.floats.specs.Slack.{freed_in, Own, marked_late, start_moved, dates_moved, stored, gap_by, least_slack, slack_of, From, free_of};
 
-use calendar::Period;
+use calendar::Calendar;
+use calendars::PlanCalendar;
 use placing::Actual;
 use project::{Activity, Constraint, RelationshipType};
 use sheet::Contents;
@@ -66,44 +66,36 @@ fn free_by(actual: Actual, slack: i64, total: i64) -> u64
 // The held activity's new start: moved by its float on its OWN calendar, or back by its work from its finish moved so.
 fn held_start(
     activity: Activity,
-    week: [[Period; 8]; 7],
-    sheet: &[u8],
-    at: usize,
-    n: usize,
+    calendar: &Calendar,
     es: u64,
     ef: u64,
     left: u64,
     free: u64,
 ) -> Result<u64, ClockError>
-    requires { Valid week sheet.now at n }
-    ensures { result ≡ start_moved (worked_on week sheet.now at n) activity.kind es ef left free }
+    ensures { result ≡ start_moved (worked_by calendar.now) activity.kind es ef left free }
 {
-    let t = clock::advance(week, sheet, at, n, es, free)?;
-    let moved = placing::place_start(activity, week, sheet, at, n, t)?;
+    let t = clock::advance(calendar, es, free)?;
+    let moved = placing::place_start(activity, calendar, t)?;
     if left == 0 {
         return Ok(moved);
     }
-    let f = clock::advance(week, sheet, at, n, ef, free)?;
-    clock::retreat(week, sheet, at, n, f, left)
+    let f = clock::advance(calendar, ef, free)?;
+    clock::retreat(calendar, f, left)
 }
 
 // The held late move: the new start, and the new finish counted from it on the held activity's OWN calendar.
 fn held_move(
     activity: Activity,
-    week: [[Period; 8]; 7],
-    sheet: &[u8],
-    at: usize,
-    n: usize,
+    calendar: &Calendar,
     es: u64,
     ef: u64,
     left: u64,
     free: u64,
 ) -> Result<Moved, ClockError>
-    requires { Valid week sheet.now at n }
-    ensures { result ≡ dates_moved (worked_on week sheet.now at n) activity.kind es ef left free }
+    ensures { result ≡ dates_moved (worked_by calendar.now) activity.kind es ef left free }
 {
-    let s = held_start(activity, week, sheet, at, n, es, ef, left, free)?;
-    let f = placing::finish_of(activity, week, sheet, at, n, left, s)?;
+    let s = held_start(activity, calendar, es, ef, left, free)?;
+    let f = placing::finish_of(activity, calendar, left, s)?;
     Ok(Moved {
         start: s,
         finish: f,
@@ -128,45 +120,41 @@ fn target_field(kind: RelationshipType) -> usize
 fn gap_at(
     sheet: &[u8],
     contents: Contents,
-    places: &[u64],
+    calendars: &[PlanCalendar],
     t: usize,
     work: &[i64],
     k: usize,
     start: u64,
     finish: u64,
-    week: [[Period; 8]; 7],
-    at: usize,
-    n: usize,
+    calendar: &Calendar,
 ) -> Result<i64, ClockError>
-    requires { Ready sheet.now contents places.now t work.now × (k < t) × Valid week sheet.now at n }
-    ensures { result ≡ gap_by (plan_of sheet.now contents) (worked_on week sheet.now at n) (tie (plan_of sheet.now contents) k) start finish ((early_in (plan_of sheet.now contents) (state_of contents.activities contents.links work.now)).es (tie (plan_of sheet.now contents) k).to) ((early_in (plan_of sheet.now contents) (state_of contents.activities contents.links work.now)).ef (tie (plan_of sheet.now contents) k).to) }
+    requires { Ready sheet.now contents calendars.now t work.now × (k < t) }
+    ensures { result ≡ gap_by (plan_of sheet.now contents) (worked_by calendar.now) (tie (plan_of sheet.now contents) k) start finish ((early_in (plan_of sheet.now contents) (state_of contents.activities contents.links work.now)).es (tie (plan_of sheet.now contents) k).to) ((early_in (plan_of sheet.now contents) (state_of contents.activities contents.links work.now)).ef (tie (plan_of sheet.now contents) k).to) }
 {
     let a = contents.activities;
     let l = contents.links;
     let tie = dates::tie_at(work, a, l, k);
-    let b = bounds::forward_bound(sheet, contents, places, tie, start, finish)?;
+    let b = bounds::forward_bound(sheet, contents, calendars, tie, start, finish)?;
     let kind = tie.kind;
     let field = target_field(kind);
     let target = memory::get_act(work, a, l, tie.to, field);
-    clock::between(week, sheet, at, n, b, target)
+    clock::between(calendar, b, target)
 }
 
 // The least of `slack` and of what stands before each successor of activity `i`.
 fn least_slack(
     sheet: &[u8],
     contents: Contents,
-    places: &[u64],
+    calendars: &[PlanCalendar],
     t: usize,
     work: &[i64],
     i: usize,
     start: u64,
     finish: u64,
-    week: [[Period; 8]; 7],
-    at: usize,
-    n: usize,
+    calendar: &Calendar,
     slack: i64,
 ) -> Result<i64, ClockError>
-    requires { Ready sheet.now contents places.now t work.now × (i < contents.activities) × IsCalendar sheet.now contents (calendar_of (plan_of sheet.now contents) i) week at n × From (plan_of sheet.now contents) (early_in (plan_of sheet.now contents) (state_of contents.activities contents.links work.now)) i start finish }
+    requires { Ready sheet.now contents calendars.now t work.now × (i < contents.activities) × InPlan sheet.now contents (calendar_of (plan_of sheet.now contents) i) calendar.now × From (plan_of sheet.now contents) (early_in (plan_of sheet.now contents) (state_of contents.activities contents.links work.now)) i start finish }
     ensures { result ≡ least_slack (plan_of sheet.now contents) (early_in (plan_of sheet.now contents) (state_of contents.activities contents.links work.now)) i (ties_out (plan_of sheet.now contents) i) slack }
 {
     let a = contents.activities;
@@ -176,7 +164,7 @@ fn least_slack(
     // A `while`: the next link is read from the memory, so no range has the links.
     while k < t {
         let gap = gap_at(
-            sheet, contents, places, t, work, k, start, finish, week, at, n,
+            sheet, contents, calendars, t, work, k, start, finish, calendar,
         )?;
         least = number::sign::min(least, gap);
         k = memory::get_link(work, a, l, k, memory::fields::NEXT_OUT) as usize;
@@ -188,16 +176,14 @@ fn least_slack(
 fn slack_of(
     sheet: &[u8],
     contents: Contents,
-    places: &[u64],
+    calendars: &[PlanCalendar],
     t: usize,
     work: &[i64],
     finish: u64,
     i: usize,
-    week: [[Period; 8]; 7],
-    at: usize,
-    n: usize,
+    calendar: &Calendar,
 ) -> Result<i64, ClockError>
-    requires { Ready sheet.now contents places.now t work.now × Recorded (plan_of sheet.now contents) (state_of contents.activities contents.links work.now) × (i < contents.activities) × IsCalendar sheet.now contents (calendar_of (plan_of sheet.now contents) i) week at n }
+    requires { Ready sheet.now contents calendars.now t work.now × Recorded (plan_of sheet.now contents) (state_of contents.activities contents.links work.now) × (i < contents.activities) × InPlan sheet.now contents (calendar_of (plan_of sheet.now contents) i) calendar.now }
     ensures { result ≡ slack_of (plan_of sheet.now contents) (early_in (plan_of sheet.now contents) (state_of contents.activities contents.links work.now)) finish i }
 {
     let a = contents.activities;
@@ -206,9 +192,9 @@ fn slack_of(
     let es = memory::get_act(work, a, l, i, memory::fields::EARLY_START);
     let start = dates::begun_at(recorded, es);
     let ef = memory::get_act(work, a, l, i, memory::fields::EARLY_FINISH);
-    let slack = clock::between(week, sheet, at, n, ef, finish)?;
+    let slack = clock::between(calendar, ef, finish)?;
     least_slack(
-        sheet, contents, places, t, work, i, start, ef, week, at, n, slack,
+        sheet, contents, calendars, t, work, i, start, ef, calendar, slack,
     )
 }
 
@@ -216,24 +202,22 @@ fn slack_of(
 fn free_of(
     sheet: &[u8],
     contents: Contents,
-    places: &[u64],
+    calendars: &[PlanCalendar],
     t: usize,
     work: &[i64],
     finish: u64,
     i: usize,
-    week: [[Period; 8]; 7],
-    at: usize,
-    n: usize,
+    calendar: &Calendar,
 ) -> Result<u64, ClockError>
-    requires { Ready sheet.now contents places.now t work.now × Recorded (plan_of sheet.now contents) (state_of contents.activities contents.links work.now) × (i < contents.activities) × IsCalendar sheet.now contents (calendar_of (plan_of sheet.now contents) i) week at n }
+    requires { Ready sheet.now contents calendars.now t work.now × Recorded (plan_of sheet.now contents) (state_of contents.activities contents.links work.now) × (i < contents.activities) × InPlan sheet.now contents (calendar_of (plan_of sheet.now contents) i) calendar.now }
     ensures { (result ≡ free_of (plan_of sheet.now contents) (early_in (plan_of sheet.now contents) (state_of contents.activities contents.links work.now)) finish ((state_of contents.activities contents.links work.now).act late_finish i) i) × ((m : ℕ) → result ≡ Ok m → m < 2 ^ 63) }
 {
     let a = contents.activities;
     let l = contents.links;
-    let slack = slack_of(sheet, contents, places, t, work, finish, i, week, at, n)?;
+    let slack = slack_of(sheet, contents, calendars, t, work, finish, i, calendar)?;
     let ef = memory::get_act(work, a, l, i, memory::fields::EARLY_FINISH);
     let lf = memory::get_act(work, a, l, i, memory::fields::LATE_FINISH);
-    let total = clock::between(week, sheet, at, n, ef, lf)?;
+    let total = clock::between(calendar, ef, lf)?;
     let recorded = dates::recorded_at(work, a, l, i);
     Ok(free_by(recorded, slack, total))
 }
@@ -281,12 +265,10 @@ fn hold_late(
     work: &mut [i64],
     i: usize,
     activity: Activity,
-    week: [[Period; 8]; 7],
-    at: usize,
-    n: usize,
+    calendar: &Calendar,
     free: u64,
 ) -> Result<(), ClockError>
-    requires { SheetRead sheet.now contents × Room contents.activities contents.links work.old × (i < contents.activities) × Own sheet.now contents i activity week at n }
+    requires { SheetRead sheet.now contents × Room contents.activities contents.links work.old × (i < contents.activities) × Own sheet.now contents i activity calendar.now }
     ensures { (ended (freed_in (plan_of sheet.now contents) (state_of contents.activities contents.links work.new)) result ≡ held_move (plan_of sheet.now contents) (early_in (plan_of sheet.now contents) (state_of contents.activities contents.links work.old)) i free (free_in (plan_of sheet.now contents) (state_of contents.activities contents.links work.old))) × Frame 12 16 0 0 (state_of contents.activities contents.links work.old) (state_of contents.activities contents.links work.new) × (length work.new ≡ length work.old) }
 {
     let a = contents.activities;
@@ -294,7 +276,7 @@ fn hold_late(
     let es = memory::get_act(work, a, l, i, memory::fields::EARLY_START);
     let ef = memory::get_act(work, a, l, i, memory::fields::EARLY_FINISH);
     let left = memory::get_act(work, a, l, i, memory::fields::WORK_LEFT);
-    let moved = held_move(activity, week, sheet, at, n, es, ef, left, free)?;
+    let moved = held_move(activity, calendar, es, ef, left, free)?;
     store_move(work, a, l, i, moved.start, moved.finish);
     Ok(())
 }
@@ -306,16 +288,14 @@ fn use_float(
     work: &mut [i64],
     i: usize,
     activity: Activity,
-    week: [[Period; 8]; 7],
-    at: usize,
-    n: usize,
+    calendar: &Calendar,
     free: u64,
 ) -> Result<(), ClockError>
-    requires { SheetRead sheet.now contents × Room contents.activities contents.links work.old × (i < contents.activities) × Own sheet.now contents i activity week at n × ((state_of contents.activities contents.links work.old).act is_summary i ≡ bit (summary (plan_of sheet.now contents) i)) × (Ok (actual_in (state_of contents.activities contents.links work.old) i) ≡ recorded (plan_of sheet.now contents) i) × (free < 2 ^ 63) }
+    requires { SheetRead sheet.now contents × Room contents.activities contents.links work.old × (i < contents.activities) × Own sheet.now contents i activity calendar.now × ((state_of contents.activities contents.links work.old).act is_summary i ≡ bit (summary (plan_of sheet.now contents) i)) × (Ok (actual_in (state_of contents.activities contents.links work.old) i) ≡ recorded (plan_of sheet.now contents) i) × (free < 2 ^ 63) }
     ensures { (ended (freed_in (plan_of sheet.now contents) (state_of contents.activities contents.links work.new)) result ≡ freed (plan_of sheet.now contents) (early_in (plan_of sheet.now contents) (state_of contents.activities contents.links work.old)) i free (free_in (plan_of sheet.now contents) (state_of contents.activities contents.links work.old))) × Frame 12 16 0 0 (state_of contents.activities contents.links work.old) (state_of contents.activities contents.links work.new) × (length work.new ≡ length work.old) }
 {
     if is_moved(sheet, contents, work, i, activity, free) {
-        return hold_late(sheet, contents, work, i, activity, week, at, n, free);
+        return hold_late(sheet, contents, work, i, activity, calendar, free);
     }
     memory::put_act(
         work,
@@ -332,40 +312,39 @@ fn use_float(
 fn free_at(
     sheet: &[u8],
     contents: Contents,
-    places: &[u64],
+    calendars: &[PlanCalendar],
     t: usize,
     work: &mut [i64],
     finish: u64,
     i: usize,
 ) -> Result<(), ClockError>
-    requires { Ready sheet.now contents places.now t work.old × Recorded (plan_of sheet.now contents) (state_of contents.activities contents.links work.old) × (i < contents.activities) }
+    requires { Ready sheet.now contents calendars.now t work.old × Recorded (plan_of sheet.now contents) (state_of contents.activities contents.links work.old) × (i < contents.activities) }
     ensures { ((e : ℕ) → ended (freed_in (plan_of sheet.now contents) (state_of contents.activities contents.links work.new)) result ≡ free_float (plan_of sheet.now contents) finish (late_in (plan_of sheet.now contents) (state_of contents.activities contents.links work.old) e) (freed_in (plan_of sheet.now contents) (state_of contents.activities contents.links work.old)) i) × Frame 12 16 0 0 (state_of contents.activities contents.links work.old) (state_of contents.activities contents.links work.new) × (length work.new ≡ length work.old) }
 {
     let activity = dates::activity_of(sheet, contents, i);
     let k = activity.calendar as usize;
-    let week = calendars::week_of(sheet, contents, places, k);
-    let e = calendars::exceptions_of(sheet, contents, places, k);
-    let free = free_of(sheet, contents, places, t, work, finish, i, week, e.at, e.n)?;
-    use_float(sheet, contents, work, i, activity, week, e.at, e.n, free)
+    let calendar = calendars::calendar_of(sheet, contents, calendars, k);
+    let free = free_of(sheet, contents, calendars, t, work, finish, i, &calendar)?;
+    use_float(sheet, contents, work, i, activity, &calendar, free)
 }
 
 // The free float of each activity, successors first.
 fn free_each(
     sheet: &[u8],
     contents: Contents,
-    places: &[u64],
+    calendars: &[PlanCalendar],
     t: usize,
     work: &mut [i64],
     finish: u64,
 ) -> Result<(), ClockError>
-    requires { Ready sheet.now contents places.now t work.old × Recorded (plan_of sheet.now contents) (state_of contents.activities contents.links work.old) }
+    requires { Ready sheet.now contents calendars.now t work.old × Recorded (plan_of sheet.now contents) (state_of contents.activities contents.links work.old) }
     ensures { ((e : ℕ) → ended (freed_in (plan_of sheet.now contents) (state_of contents.activities contents.links work.new)) result ≡ through (free_float (plan_of sheet.now contents) finish (late_in (plan_of sheet.now contents) (state_of contents.activities contents.links work.old) e)) (reverse (order (plan_of sheet.now contents))) (freed_in (plan_of sheet.now contents) (state_of contents.activities contents.links work.old))) × Frame 12 16 0 0 (state_of contents.activities contents.links work.old) (state_of contents.activities contents.links work.new) × (length work.new ≡ length work.old) }
 {
     let a = contents.activities;
     let l = contents.links;
     for q in (0..a).rev() {
         let i = memory::get_act(work, a, l, q, memory::fields::ORDER_AT) as usize;
-        free_at(sheet, contents, places, t, work, finish, i)?;
+        free_at(sheet, contents, calendars, t, work, finish, i)?;
     }
     Ok(())
 }
@@ -374,12 +353,12 @@ fn free_each(
 pub fn free_pass(
     sheet: &[u8],
     contents: Contents,
-    places: &[u64],
+    calendars: &[PlanCalendar],
     t: usize,
     work: &mut [i64],
     finish: u64,
 ) -> Result<(), ClockError>
-    requires { Ready sheet.now contents places.now t work.old × Recorded (plan_of sheet.now contents) (state_of contents.activities contents.links work.old) }
+    requires { Ready sheet.now contents calendars.now t work.old × Recorded (plan_of sheet.now contents) (state_of contents.activities contents.links work.old) }
     ensures { ((e : ℕ) → ended (freed_in (plan_of sheet.now contents) (state_of contents.activities contents.links work.new)) result ≡ through (free_float (plan_of sheet.now contents) finish (late_in (plan_of sheet.now contents) (state_of contents.activities contents.links work.old) e)) (reverse (order (plan_of sheet.now contents))) (record { early = early_in (plan_of sheet.now contents) (state_of contents.activities contents.links work.old); free = λ i. 0 })) × Frame 12 16 0 0 (state_of contents.activities contents.links work.old) (state_of contents.activities contents.links work.new) × (length work.new ≡ length work.old) }
 {
     memory::fill_act(
@@ -389,5 +368,5 @@ pub fn free_pass(
         memory::fields::FREE_FLOAT,
         0,
     );
-    free_each(sheet, contents, places, t, work, finish)
+    free_each(sheet, contents, calendars, t, work, finish)
 }

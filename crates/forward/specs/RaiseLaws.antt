@@ -18,6 +18,7 @@ use Rattle.order.specs.Ties.{calendar_of}
 use Rattle.passes.specs.Plan.{ties_into}
 use Rattle.passes.specs.Dates.{Early}
 use Rattle.passes.specs.Forward.{link_start, raised}
+use Rattle.calendars.specs.declared.plan_calendar.PlanCalendar.{PlanCalendar}
 use Rattle.calendars.specs.Calendars.{IsCalendar}
 use Rattle.calendars.specs.CalendarLaws.{calendar_worked}
 use Rattle.dates.specs.Columns.{early_in}
@@ -42,7 +43,7 @@ module _ (s : List ℕ) (c : Contents) (t : ℕ) (xs : List ℤ) (i floor : ℕ)
   abbrev pub Raising : ℕ → ℕ → Type 0
   Raising start k = Cursor (raise_step plan dates i) Ok (state.link to_field) t i floor start k
 
-  module _ {places : List ℕ} (R : Ready s c places t xs) where
+  module _ {calendars : List PlanCalendar} (R : Ready s c calendars t xs) where
     pub raising_start : i < c.activities → (k : ℕ) → k ≡ state.act first_in i → Raising floor k
     raising_start l k e =
         rw e

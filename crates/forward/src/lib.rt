@@ -2,8 +2,7 @@
 #![tactic(auto)]
 
 ghost use Rattle.std.specs.Prelude.{◌≡◌, ℕ, ◌^◌, ◌<◌, max, length, Ok, Err};
-ghost use Rattle.calendar.specs.Records.{Valid};
-ghost use Rattle.clock.specs.On.{worked_on};
+ghost use Rattle.clock.specs.On.{worked_by};
 ghost use Rattle.placing.specs.Placing.{via};
 ghost use Rattle.memory.specs.State.{Room, state_of, put_act};
 ghost use Rattle.memory.specs.Fields.{early_start, early_finish, work_left};
@@ -15,13 +14,14 @@ ghost use Rattle.passes.specs.Plan.{ties_into};
 ghost use Rattle.passes.specs.Dates.{through};
 ghost use Rattle.passes.specs.Forward.{link_start, raised, forward};
 ghost use Rattle.passes.specs.Run.{forward_pass};
-ghost use Rattle.calendars.specs.Calendars.{IsCalendar};
+ghost use Rattle.calendars.specs.Calendars.{InPlan};
 ghost use Rattle.dates.specs.Columns.{early_in, left_in, ended};
 ghost use Rattle.dates.specs.Standing.{Ready, Recorded};
 ghost use Rattle.early.specs.InHand.{InHand, placed_as, Fits};
 ghost use Rattle.forward.specs.Linked.{after_links, Settled};
 
-use calendar::Period;
+use calendar::Calendar;
+use calendars::PlanCalendar;
 use early::Placement;
 use placing::Actual;
 use project::Activity;
@@ -32,45 +32,41 @@ use worktime::ClockError;
 fn link_start(
     sheet: &[u8],
     contents: Contents,
-    places: &[u64],
+    calendars: &[PlanCalendar],
     t: usize,
     work: &[i64],
     k: usize,
     activity: Activity,
-    week: [[Period; 8]; 7],
-    at: usize,
-    n: usize,
+    calendar: &Calendar,
     left: u64,
 ) -> Result<u64, ClockError>
-    requires { Ready sheet.now contents places.now t work.now × Recorded (plan_of sheet.now contents) (state_of contents.activities contents.links work.now) × (k < t) × Valid week sheet.now at n }
-    ensures { (i : ℕ) → InHand (plan_of sheet.now contents) (early_in (plan_of sheet.now contents) (state_of contents.activities contents.links work.now)) i activity (worked_on week sheet.now at n) left → result ≡ link_start (plan_of sheet.now contents) (early_in (plan_of sheet.now contents) (state_of contents.activities contents.links work.now)) i k }
+    requires { Ready sheet.now contents calendars.now t work.now × Recorded (plan_of sheet.now contents) (state_of contents.activities contents.links work.now) × (k < t) }
+    ensures { (i : ℕ) → InHand (plan_of sheet.now contents) (early_in (plan_of sheet.now contents) (state_of contents.activities contents.links work.now)) i activity (worked_by calendar.now) left → result ≡ link_start (plan_of sheet.now contents) (early_in (plan_of sheet.now contents) (state_of contents.activities contents.links work.now)) i k }
 {
-    let b = bounds::link_bound(sheet, contents, places, t, work, k)?;
+    let b = bounds::link_bound(sheet, contents, calendars, t, work, k)?;
     let tie = dates::tie_at(work, contents.activities, contents.links, k);
     let kind = tie.kind;
-    bounds::start_for(activity, week, sheet, at, n, left, kind, b)
+    bounds::start_for(activity, calendar, left, kind, b)
 }
 
 // `start`, raised by that start.
 fn raised_by(
     sheet: &[u8],
     contents: Contents,
-    places: &[u64],
+    calendars: &[PlanCalendar],
     t: usize,
     work: &[i64],
     k: usize,
     activity: Activity,
-    week: [[Period; 8]; 7],
-    at: usize,
-    n: usize,
+    calendar: &Calendar,
     left: u64,
     start: u64,
 ) -> Result<u64, ClockError>
-    requires { Ready sheet.now contents places.now t work.now × Recorded (plan_of sheet.now contents) (state_of contents.activities contents.links work.now) × (k < t) × Valid week sheet.now at n }
-    ensures { (i : ℕ) → InHand (plan_of sheet.now contents) (early_in (plan_of sheet.now contents) (state_of contents.activities contents.links work.now)) i activity (worked_on week sheet.now at n) left → result ≡ via Err (link_start (plan_of sheet.now contents) (early_in (plan_of sheet.now contents) (state_of contents.activities contents.links work.now)) i k) (λ s. Ok (max start s)) }
+    requires { Ready sheet.now contents calendars.now t work.now × Recorded (plan_of sheet.now contents) (state_of contents.activities contents.links work.now) × (k < t) }
+    ensures { (i : ℕ) → InHand (plan_of sheet.now contents) (early_in (plan_of sheet.now contents) (state_of contents.activities contents.links work.now)) i activity (worked_by calendar.now) left → result ≡ via Err (link_start (plan_of sheet.now contents) (early_in (plan_of sheet.now contents) (state_of contents.activities contents.links work.now)) i k) (λ s. Ok (max start s)) }
 {
     let s = link_start(
-        sheet, contents, places, t, work, k, activity, week, at, n, left,
+        sheet, contents, calendars, t, work, k, activity, calendar, left,
     )?;
     Ok(start.max(s))
 }
@@ -79,18 +75,16 @@ fn raised_by(
 fn raise(
     sheet: &[u8],
     contents: Contents,
-    places: &[u64],
+    calendars: &[PlanCalendar],
     t: usize,
     work: &[i64],
     i: usize,
     activity: Activity,
-    week: [[Period; 8]; 7],
-    at: usize,
-    n: usize,
+    calendar: &Calendar,
     left: u64,
     floor: u64,
 ) -> Result<u64, ClockError>
-    requires { Ready sheet.now contents places.now t work.now × Recorded (plan_of sheet.now contents) (state_of contents.activities contents.links work.now) × (i < contents.activities) × Valid week sheet.now at n × InHand (plan_of sheet.now contents) (early_in (plan_of sheet.now contents) (state_of contents.activities contents.links work.now)) i activity (worked_on week sheet.now at n) left }
+    requires { Ready sheet.now contents calendars.now t work.now × Recorded (plan_of sheet.now contents) (state_of contents.activities contents.links work.now) × (i < contents.activities) × InHand (plan_of sheet.now contents) (early_in (plan_of sheet.now contents) (state_of contents.activities contents.links work.now)) i activity (worked_by calendar.now) left }
     ensures { result ≡ raised (plan_of sheet.now contents) (early_in (plan_of sheet.now contents) (state_of contents.activities contents.links work.now)) i (ties_into (plan_of sheet.now contents) i) floor }
 {
     let a = contents.activities;
@@ -100,7 +94,7 @@ fn raise(
     // A `while`: the next link is read from the memory, so no range has the links.
     while k < t {
         let s = raised_by(
-            sheet, contents, places, t, work, k, activity, week, at, n, left, start,
+            sheet, contents, calendars, t, work, k, activity, calendar, left, start,
         )?;
         start = s;
         k = memory::get_link(work, a, l, k, memory::fields::NEXT_INTO) as usize;
@@ -112,17 +106,15 @@ fn raise(
 fn early_with(
     sheet: &[u8],
     contents: Contents,
-    places: &[u64],
+    calendars: &[PlanCalendar],
     t: usize,
     work: &[i64],
     i: usize,
     recorded: Actual,
     activity: Activity,
-    week: [[Period; 8]; 7],
-    at: usize,
-    n: usize,
+    calendar: &Calendar,
 ) -> Result<Placement, ClockError>
-    requires { Ready sheet.now contents places.now t work.now × Recorded (plan_of sheet.now contents) (state_of contents.activities contents.links work.now) × (i < contents.activities) × (activity ≡ (plan_of sheet.now contents).activity i) × IsCalendar sheet.now contents (calendar_of (plan_of sheet.now contents) i) week at n }
+    requires { Ready sheet.now contents calendars.now t work.now × Recorded (plan_of sheet.now contents) (state_of contents.activities contents.links work.now) × (i < contents.activities) × (activity ≡ (plan_of sheet.now contents).activity i) × InPlan sheet.now contents (calendar_of (plan_of sheet.now contents) i) calendar.now }
     ensures { (placed_as (plan_of sheet.now contents) (early_in (plan_of sheet.now contents) (state_of contents.activities contents.links work.now)) i result ≡ after_links (plan_of sheet.now contents) (early_in (plan_of sheet.now contents) (state_of contents.activities contents.links work.now)) i recorded) × Fits result }
 {
     let a = contents.activities;
@@ -133,23 +125,18 @@ fn early_with(
     let start = raise(
         sheet,
         contents,
-        places,
+        calendars,
         t,
         work,
         i,
         activity,
-        week,
-        at,
-        n,
+        calendar,
         left,
         times.floor,
     )?;
     early::place(
         activity,
-        week,
-        sheet,
-        at,
-        n,
+        calendar,
         left,
         times,
         0 < mark,
@@ -162,21 +149,20 @@ fn early_with(
 fn early_of(
     sheet: &[u8],
     contents: Contents,
-    places: &[u64],
+    calendars: &[PlanCalendar],
     t: usize,
     work: &[i64],
     i: usize,
     recorded: Actual,
 ) -> Result<Placement, ClockError>
-    requires { Ready sheet.now contents places.now t work.now × Recorded (plan_of sheet.now contents) (state_of contents.activities contents.links work.now) × (i < contents.activities) }
+    requires { Ready sheet.now contents calendars.now t work.now × Recorded (plan_of sheet.now contents) (state_of contents.activities contents.links work.now) × (i < contents.activities) }
     ensures { (placed_as (plan_of sheet.now contents) (early_in (plan_of sheet.now contents) (state_of contents.activities contents.links work.now)) i result ≡ after_links (plan_of sheet.now contents) (early_in (plan_of sheet.now contents) (state_of contents.activities contents.links work.now)) i recorded) × Fits result }
 {
     let activity = dates::activity_of(sheet, contents, i);
     let k = activity.calendar as usize;
-    let week = calendars::week_of(sheet, contents, places, k);
-    let e = calendars::exceptions_of(sheet, contents, places, k);
+    let calendar = calendars::calendar_of(sheet, contents, calendars, k);
     early_with(
-        sheet, contents, places, t, work, i, recorded, activity, week, e.at, e.n,
+        sheet, contents, calendars, t, work, i, recorded, activity, &calendar,
     )
 }
 
@@ -210,19 +196,19 @@ fn settle(
 fn forward_one(
     sheet: &[u8],
     contents: Contents,
-    places: &[u64],
+    calendars: &[PlanCalendar],
     t: usize,
     work: &mut [i64],
     i: usize,
 ) -> Result<(), ClockError>
-    requires { Ready sheet.now contents places.now t work.old × Recorded (plan_of sheet.now contents) (state_of contents.activities contents.links work.old) × (i < contents.activities) }
+    requires { Ready sheet.now contents calendars.now t work.old × Recorded (plan_of sheet.now contents) (state_of contents.activities contents.links work.old) × (i < contents.activities) }
     ensures { (ended (early_in (plan_of sheet.now contents) (state_of contents.activities contents.links work.new)) result ≡ forward (plan_of sheet.now contents) (early_in (plan_of sheet.now contents) (state_of contents.activities contents.links work.old)) i) × Frame 12 15 0 0 (state_of contents.activities contents.links work.old) (state_of contents.activities contents.links work.new) × (length work.new ≡ length work.old) }
 {
     let a = contents.activities;
     let l = contents.links;
     let recorded = dates::recorded_at(work, a, l, i);
     let Actual::Completed(s, f) = recorded else {
-        let placement = early_of(sheet, contents, places, t, work, i, recorded);
+        let placement = early_of(sheet, contents, calendars, t, work, i, recorded);
         return settle(work, a, l, i, placement);
     };
     let left = memory::get_act(work, a, l, i, memory::fields::WORK_LEFT);
@@ -234,18 +220,18 @@ fn forward_one(
 fn forward_all(
     sheet: &[u8],
     contents: Contents,
-    places: &[u64],
+    calendars: &[PlanCalendar],
     t: usize,
     work: &mut [i64],
 ) -> Result<(), ClockError>
-    requires { Ready sheet.now contents places.now t work.old × Recorded (plan_of sheet.now contents) (state_of contents.activities contents.links work.old) }
+    requires { Ready sheet.now contents calendars.now t work.old × Recorded (plan_of sheet.now contents) (state_of contents.activities contents.links work.old) }
     ensures { (ended (early_in (plan_of sheet.now contents) (state_of contents.activities contents.links work.new)) result ≡ through (forward (plan_of sheet.now contents)) (order (plan_of sheet.now contents)) (early_in (plan_of sheet.now contents) (state_of contents.activities contents.links work.old))) × Frame 12 15 0 0 (state_of contents.activities contents.links work.old) (state_of contents.activities contents.links work.new) × (length work.new ≡ length work.old) }
 {
     let a = contents.activities;
     let l = contents.links;
     for q in 0..a {
         let i = memory::get_act(work, a, l, q, memory::fields::ORDER_AT) as usize;
-        forward_one(sheet, contents, places, t, work, i)?;
+        forward_one(sheet, contents, calendars, t, work, i)?;
     }
     Ok(())
 }
@@ -254,11 +240,11 @@ fn forward_all(
 pub fn forward_pass(
     sheet: &[u8],
     contents: Contents,
-    places: &[u64],
+    calendars: &[PlanCalendar],
     t: usize,
     work: &mut [i64],
 ) -> Result<(), ClockError>
-    requires { Ready sheet.now contents places.now t work.old × Recorded (plan_of sheet.now contents) (state_of contents.activities contents.links work.old) }
+    requires { Ready sheet.now contents calendars.now t work.old × Recorded (plan_of sheet.now contents) (state_of contents.activities contents.links work.old) }
     ensures { (ended (early_in (plan_of sheet.now contents) (state_of contents.activities contents.links work.new)) result ≡ forward_pass (plan_of sheet.now contents) (left_in (plan_of sheet.now contents) (state_of contents.activities contents.links work.old))) × Frame 12 15 0 0 (state_of contents.activities contents.links work.old) (state_of contents.activities contents.links work.new) × (length work.new ≡ length work.old) }
 {
     let a = contents.activities;
@@ -266,5 +252,5 @@ pub fn forward_pass(
     let origin = dates::origin_of(sheet, contents);
     memory::fill_act(work, a, l, memory::fields::EARLY_START, origin);
     memory::fill_act(work, a, l, memory::fields::EARLY_FINISH, origin);
-    forward_all(sheet, contents, places, t, work)
+    forward_all(sheet, contents, calendars, t, work)
 }

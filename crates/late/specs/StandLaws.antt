@@ -15,6 +15,7 @@ use Rattle.order.specs.Ties as ties
 use Rattle.passes.specs.Plan.{own, tie, ties_out, origin}
 use Rattle.passes.specs.Dates.{Early, Late, refused}
 use Rattle.passes.specs.Backward.{over_lag, link_finish, lowered, held_late, placed_late}
+use Rattle.calendars.specs.declared.plan_calendar.PlanCalendar.{PlanCalendar}
 use Rattle.dates.specs.declared.Tie.{Tie}
 use Rattle.dates.specs.Columns.{early_in, late_in}
 use Rattle.dates.specs.ColumnLaws.{column_at}
@@ -36,7 +37,7 @@ module _ (p : Plan) (d : Early) (l : Late) (i last : ℕ) where
   pub unfinished_placed : (f g : ℕ) → lowered p d l i (ties_out p i) last ≡ Ok f → held_late p d l i f ≡ Ok g → unfinished_late p d l i last ≡ placed_late p d l i g
   unfinished_placed f g e h = via_at refused _ _ f e ∙ via_at refused _ _ g h
 
-module _ {s : List ℕ} {c : Contents} {places : List ℕ} {t : ℕ} {xs : List ℤ} (R : Ready s c places t xs) where
+module _ {s : List ℕ} {c : Contents} {calendars : List PlanCalendar} {t : ℕ} {xs : List ℤ} (R : Ready s c calendars t xs) where
   abbrev p : Plan
   p = plan_of s c
 

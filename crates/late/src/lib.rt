@@ -2,8 +2,7 @@
 #![tactic(auto)]
 
 ghost use Rattle.std.specs.Prelude.{◌≡◌, ℕ, ◌^◌, ◌<◌, Ok};
-ghost use Rattle.calendar.specs.Records.{Valid};
-ghost use Rattle.clock.specs.On.{worked_on};
+ghost use Rattle.clock.specs.On.{worked_by};
 ghost use Rattle.memory.specs.State.{state_of};
 ghost use Rattle.order.specs.Plan.{Plan, plan_of, week_of_calendar};
 ghost use Rattle.passes.specs.Plan.{recorded};
@@ -14,7 +13,7 @@ ghost use Rattle.dates.specs.Columns.{early_in, late_in};
 ghost use Rattle.dates.specs.Standing.{Ready};
 ghost use Rattle.late.specs.Times.{dated, unfinished_late, Fitting};
 
-use calendar::Period;
+use calendars::PlanCalendar;
 use placing::Actual;
 use project::Activity;
 use sheet::Contents;
@@ -88,10 +87,10 @@ fn place_late(
     let n = unfinished.n;
     let left = unfinished.left;
     let origin = unfinished.origin;
-    let t = placing::place_finish(activity, week, sheet, at, n, left, latest)?;
+    let t = placing::place_finish(activity, calendar, left, latest)?;
     let b = placing::bounded(origin, t)?;
     let f = lift(week, sheet, unfinished, early, latest, b)?;
-    let u = placing::start_of(activity, week, sheet, at, n, left, f)?;
+    let u = placing::start_of(activity, calendar, left, f)?;
     let s = placing::bounded(origin, u)?;
     Ok(LateDates {
         start: s,
@@ -103,7 +102,7 @@ fn place_late(
 fn late_from(
     sheet: &[u8],
     contents: Contents,
-    places: &[u64],
+    calendars: &[PlanCalendar],
     t: usize,
     work: &[i64],
     mine: usize,
@@ -113,7 +112,7 @@ fn late_from(
     actual: Actual,
     last: u64,
 ) -> Result<LateDates, ClockError>
-    requires { Ready sheet.now contents places.now t work.now × (i < contents.activities) × Valid week sheet.now unfinished.at unfinished.n × IsUnfinished (plan_of sheet.now contents) (early_in (plan_of sheet.now contents) (state_of contents.activities contents.links work.now)) i (worked_on week sheet.now unfinished.at unfinished.n) unfinished × (unfinished.origin < 2 ^ 43) × (Ok actual ≡ recorded (plan_of sheet.now contents) i) × (week ≡ week_of_calendar sheet.now contents mine) }
+    requires { Ready sheet.now contents calendars.now t work.now × (i < contents.activities) × Valid week sheet.now unfinished.at unfinished.n × IsUnfinished (plan_of sheet.now contents) (early_in (plan_of sheet.now contents) (state_of contents.activities contents.links work.now)) i (worked_on week sheet.now unfinished.at unfinished.n) unfinished × (unfinished.origin < 2 ^ 43) × (Ok actual ≡ recorded (plan_of sheet.now contents) i) × (week ≡ week_of_calendar sheet.now contents mine) }
     ensures { (dated (plan_of sheet.now contents) (early_in (plan_of sheet.now contents) (state_of contents.activities contents.links work.now)) (late_in (plan_of sheet.now contents) (state_of contents.activities contents.links work.now) last) i result ≡ unfinished_late (plan_of sheet.now contents) (early_in (plan_of sheet.now contents) (state_of contents.activities contents.links work.now)) (late_in (plan_of sheet.now contents) (state_of contents.activities contents.links work.now) last) i last) × Fitting result }
 {
     let a = contents.activities;
@@ -121,7 +120,7 @@ fn late_from(
     let mark = memory::get_act(work, a, l, i, memory::fields::IS_SUMMARY);
     let early = memory::get_act(work, a, l, i, memory::fields::EARLY_FINISH);
     let f = links::lower(
-        sheet, contents, places, t, work, mine, week, unfinished, i, last,
+        sheet, contents, calendars, t, work, mine, week, unfinished, i, last,
     )?;
     let g = limits::hold_late(week, sheet, unfinished, mark == 1, actual, f)?;
     place_late(week, sheet, unfinished, early, g)
@@ -131,20 +130,19 @@ fn late_from(
 pub fn late_of(
     sheet: &[u8],
     contents: Contents,
-    places: &[u64],
+    calendars: &[PlanCalendar],
     t: usize,
     work: &[i64],
     i: usize,
     actual: Actual,
     last: u64,
 ) -> Result<LateDates, ClockError>
-    requires { Ready sheet.now contents places.now t work.now × (i < contents.activities) × (Ok actual ≡ recorded (plan_of sheet.now contents) i) }
+    requires { Ready sheet.now contents calendars.now t work.now × (i < contents.activities) × (Ok actual ≡ recorded (plan_of sheet.now contents) i) }
     ensures { (dated (plan_of sheet.now contents) (early_in (plan_of sheet.now contents) (state_of contents.activities contents.links work.now)) (late_in (plan_of sheet.now contents) (state_of contents.activities contents.links work.now) last) i result ≡ unfinished_late (plan_of sheet.now contents) (early_in (plan_of sheet.now contents) (state_of contents.activities contents.links work.now)) (late_in (plan_of sheet.now contents) (state_of contents.activities contents.links work.now) last) i last) × Fitting result }
 {
     let activity = dates::activity_of(sheet, contents, i);
     let k = activity.calendar as usize;
-    let week = calendars::week_of(sheet, contents, places, k);
-    let e = calendars::exceptions_of(sheet, contents, places, k);
+    let calendar = calendars::calendar_of(sheet, contents, calendars, k);
     let left = memory::get_act(
         work,
         contents.activities,
@@ -161,6 +159,6 @@ pub fn late_of(
         origin: origin,
     };
     late_from(
-        sheet, contents, places, t, work, k, week, unfinished, i, actual, last,
+        sheet, contents, calendars, t, work, k, week, unfinished, i, actual, last,
     )
 }

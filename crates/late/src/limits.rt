@@ -1,7 +1,6 @@
 // What constraints leave of an activity's latest finish.
 ghost use Rattle.std.specs.Prelude.{◌≡◌, true, false, ℕ, min, Ok, Err, Some};
-ghost use Rattle.calendar.specs.Records.{Valid};
-ghost use Rattle.clock.specs.On.{worked_on};
+ghost use Rattle.clock.specs.On.{worked_by};
 ghost use Rattle.placing.specs.Placing.{via, finish_for_start_by};
 ghost use Rattle.order.specs.Plan.{Plan};
 ghost use Rattle.order.specs.Ids.{summary};
@@ -11,7 +10,6 @@ ghost use Rattle.passes.specs.Backward.{at_late, limited, limited_by, held_late}
 ghost use Rattle.late.specs.Unfinished.{IsUnfinished};
 
 use crate::Unfinished;
-use calendar::Period;
 use placing::Actual;
 use project::Constraint;
 use worktime::ClockError;

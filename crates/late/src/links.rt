@@ -1,8 +1,7 @@
 // What the links out of an activity leave of its latest finish.
 ghost use Rattle.std.specs.Prelude.{◌≡◌, ℕ, ◌+◌, ◌^◌, ◌<◌};
 ghost use Rattle.number.specs.Zed.{up, dn};
-ghost use Rattle.calendar.specs.Records.{Valid};
-ghost use Rattle.clock.specs.On.{worked_on};
+ghost use Rattle.clock.specs.On.{worked_by};
 ghost use Rattle.memory.specs.State.{Room, state_of};
 ghost use Rattle.memory.specs.Fields.{late_start, late_finish};
 ghost use Rattle.sheet.specs.Known.{SheetRead};
@@ -17,8 +16,8 @@ ghost use Rattle.dates.specs.Standing.{Ready};
 ghost use Rattle.late.specs.Unfinished.{IsUnfinished};
 ghost use Rattle.late.specs.Times.{times_of, target_of, finish_by};
 
+use calendars::PlanCalendar;
 use crate::{LateDates, Unfinished};
-use calendar::Period;
 use project::RelationshipType;
 use sheet::Contents;
 use worktime::ClockError;
@@ -27,67 +26,66 @@ use worktime::ClockError;
 fn over_lag(
     sheet: &[u8],
     contents: Contents,
-    places: &[u64],
+    calendars: &[PlanCalendar],
     k: usize,
     lag: i64,
     x: u64,
 ) -> Result<u64, ClockError>
-    requires { SheetRead sheet.now contents × Places sheet.now contents places.now × (up lag + dn lag < 2 ^ 63) }
+    requires { SheetRead sheet.now contents × Places sheet.now contents calendars.now × (up lag + dn lag < 2 ^ 63) }
     ensures { (d : Early) (l : Late) (t : Tie) → t.calendar ≡ k → t.lag ≡ lag → result ≡ over_lag (plan_of sheet.now contents) d l t x }
 {
     if lag == 0 {
         return Ok(x);
     }
-    let week = calendars::week_of(sheet, contents, places, k);
-    let e = calendars::exceptions_of(sheet, contents, places, k);
+    let calendar = calendars::calendar_of(sheet, contents, calendars, k);
     let at = e.at;
     let n = e.n;
     let back = number::sign::negate(lag);
-    let v = clock::shift(week, sheet, at, n, x, back)?;
-    clock::next_start(week, sheet, at, n, v)
+    let v = clock::shift(calendar, x, back)?;
+    clock::next_start(calendar, v)
 }
 
 // The week of calendar `k`: the one in hand where it is that of calendar `mine`.
 fn week_for(
     sheet: &[u8],
     contents: Contents,
-    places: &[u64],
+    calendars: &[PlanCalendar],
     mine: usize,
     week: [[Period; 8]; 7],
     k: usize,
 ) -> [[Period; 8]; 7]
-    requires { SheetRead sheet.now contents × Places sheet.now contents places.now × (week ≡ week_of_calendar sheet.now contents mine) }
+    requires { SheetRead sheet.now contents × Places sheet.now contents calendars.now × (week ≡ week_of_calendar sheet.now contents mine) }
     ensures { result ≡ week_of_calendar sheet.now contents k }
 {
     if k == mine {
         return week;
     }
-    calendars::week_of(sheet, contents, places, k)
+    calendars::week_of(sheet, contents, calendars, k)
 }
 
 // The late times of activity `j`, a link's successor, each moved to its own next start; the week of calendar `mine` is in hand.
 fn successor_times(
     sheet: &[u8],
     contents: Contents,
-    places: &[u64],
+    calendars: &[PlanCalendar],
     work: &[i64],
     j: usize,
     mine: usize,
     hand: [[Period; 8]; 7],
 ) -> Result<LateDates, ClockError>
-    requires { SheetRead sheet.now contents × Places sheet.now contents places.now × Room contents.activities contents.links work.now × (j < contents.activities) × (hand ≡ week_of_calendar sheet.now contents mine) }
+    requires { SheetRead sheet.now contents × Places sheet.now contents calendars.now × Room contents.activities contents.links work.now × (j < contents.activities) × (hand ≡ week_of_calendar sheet.now contents mine) }
     ensures { result ≡ times_of (own (plan_of sheet.now contents) j) ((state_of contents.activities contents.links work.now).act late_start j) ((state_of contents.activities contents.links work.now).act late_finish j) }
 {
     let activity = dates::activity_of(sheet, contents, j);
     let k = activity.calendar as usize;
-    let week = week_for(sheet, contents, places, mine, hand, k);
-    let e = calendars::exceptions_of(sheet, contents, places, k);
+    let week = week_for(sheet, contents, calendars, mine, hand, k);
+    let e = calendars::exceptions_of(sheet, contents, calendars, k);
     let a = contents.activities;
     let l = contents.links;
     let start = memory::get_act(work, a, l, j, memory::fields::LATE_START);
     let finish = memory::get_act(work, a, l, j, memory::fields::LATE_FINISH);
-    let s = placing::latest_same(activity, week, sheet, e.at, e.n, start)?;
-    let f = placing::latest_same(activity, week, sheet, e.at, e.n, finish)?;
+    let s = placing::latest_same(activity, &calendar, start)?;
+    let f = placing::latest_same(activity, &calendar, finish)?;
     Ok(LateDates {
         start: s,
         finish: f,
@@ -135,7 +133,7 @@ fn finish_by(
 fn link_finish(
     sheet: &[u8],
     contents: Contents,
-    places: &[u64],
+    calendars: &[PlanCalendar],
     t: usize,
     work: &[i64],
     mine: usize,
@@ -143,14 +141,14 @@ fn link_finish(
     unfinished: Unfinished,
     k: usize,
 ) -> Result<u64, ClockError>
-    requires { Ready sheet.now contents places.now t work.now × (k < t) × Valid week sheet.now unfinished.at unfinished.n × (week ≡ week_of_calendar sheet.now contents mine) }
+    requires { Ready sheet.now contents calendars.now t work.now × (k < t) × Valid week sheet.now unfinished.at unfinished.n × (week ≡ week_of_calendar sheet.now contents mine) }
     ensures { (i last : ℕ) → IsUnfinished (plan_of sheet.now contents) (early_in (plan_of sheet.now contents) (state_of contents.activities contents.links work.now)) i (worked_on week sheet.now unfinished.at unfinished.n) unfinished → result ≡ link_finish (plan_of sheet.now contents) (early_in (plan_of sheet.now contents) (state_of contents.activities contents.links work.now)) (late_in (plan_of sheet.now contents) (state_of contents.activities contents.links work.now) last) i k }
 {
     let tie = dates::tie_at(work, contents.activities, contents.links, k);
     let kind = tie.kind;
-    let times = successor_times(sheet, contents, places, work, tie.to, mine, week)?;
+    let times = successor_times(sheet, contents, calendars, work, tie.to, mine, week)?;
     let x = target(kind, times.start, times.finish);
-    let v = over_lag(sheet, contents, places, tie.calendar, tie.lag, x)?;
+    let v = over_lag(sheet, contents, calendars, tie.calendar, tie.lag, x)?;
     let f = finish_by(week, sheet, unfinished, kind, v)?;
     placing::bounded(unfinished.origin, f)
 }
@@ -159,7 +157,7 @@ fn link_finish(
 pub fn lower(
     sheet: &[u8],
     contents: Contents,
-    places: &[u64],
+    calendars: &[PlanCalendar],
     t: usize,
     work: &[i64],
     mine: usize,
@@ -168,7 +166,7 @@ pub fn lower(
     i: usize,
     last: u64,
 ) -> Result<u64, ClockError>
-    requires { Ready sheet.now contents places.now t work.now × (i < contents.activities) × Valid week sheet.now unfinished.at unfinished.n × IsUnfinished (plan_of sheet.now contents) (early_in (plan_of sheet.now contents) (state_of contents.activities contents.links work.now)) i (worked_on week sheet.now unfinished.at unfinished.n) unfinished × (week ≡ week_of_calendar sheet.now contents mine) }
+    requires { Ready sheet.now contents calendars.now t work.now × (i < contents.activities) × Valid week sheet.now unfinished.at unfinished.n × IsUnfinished (plan_of sheet.now contents) (early_in (plan_of sheet.now contents) (state_of contents.activities contents.links work.now)) i (worked_on week sheet.now unfinished.at unfinished.n) unfinished × (week ≡ week_of_calendar sheet.now contents mine) }
     ensures { result ≡ lowered (plan_of sheet.now contents) (early_in (plan_of sheet.now contents) (state_of contents.activities contents.links work.now)) (late_in (plan_of sheet.now contents) (state_of contents.activities contents.links work.now) last) i (ties_out (plan_of sheet.now contents) i) last }
 {
     let a = contents.activities;
@@ -177,7 +175,7 @@ pub fn lower(
     let mut k = memory::get_act(work, a, l, i, memory::fields::FIRST_OUT) as usize;
     // A `while`: the next link is read from the memory, so no range has the links.
     while k < t {
-        let f = link_finish(sheet, contents, places, t, work, mine, week, unfinished, k)?;
+        let f = link_finish(sheet, contents, calendars, t, work, mine, week, unfinished, k)?;
         latest = latest.min(f);
         k = memory::get_link(work, a, l, k, memory::fields::NEXT_OUT) as usize;
     }

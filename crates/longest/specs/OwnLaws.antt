@@ -19,6 +19,7 @@ use Rattle.order.specs.Ties as ties
 use Rattle.passes.specs.Plan.{origin, own, tie, kind_of, recorded}
 use Rattle.passes.specs.Forward.{start_for}
 use Rattle.passes.specs.Floats.{is_completed}
+use Rattle.calendars.specs.declared.plan_calendar.PlanCalendar.{PlanCalendar}
 use Rattle.calendars.specs.Calendars.{IsCalendar}
 use Rattle.calendars.specs.CalendarLaws.{calendar_valid, calendar_worked}
 use Rattle.dates.specs.Columns.{early_in}
@@ -45,7 +46,7 @@ module _ {s : List ℕ} {c : Contents} {i : ℕ} {activity : Activity} {week : L
   pub own_place : (u : ℕ) (r : Result ℕ ClockError) → r ≡ place_start (worked_on week s at n) activity.kind u → r ≡ place_start (own (plan_of s c) i) (kind_of (plan_of s c) i) u
   own_place u r e = e ∙ (λ z. place_start (sym own_worked z) (sym own_kind z) u)
 
-module _ {s : List ℕ} {c : Contents} {places : List ℕ} {t : ℕ} {xs : List ℤ} (L : Lent s c places t xs) where
+module _ {s : List ℕ} {c : Contents} {calendars : List PlanCalendar} {t : ℕ} {xs : List ℤ} (L : Lent s c calendars t xs) where
   abbrev p : Plan
   p = plan_of s c
 

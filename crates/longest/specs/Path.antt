@@ -12,12 +12,13 @@ use Rattle.passes.specs.Plan.{own, tie, kind_of}
 use Rattle.passes.specs.Dates.{Early, Pass, refused, put}
 use Rattle.passes.specs.Forward.{link_bound, start_for}
 use Rattle.passes.specs.Floats.{drives}
+use Rattle.calendars.specs.declared.plan_calendar.PlanCalendar.{PlanCalendar}
 use Rattle.calendars.specs.Calendars.{IsCalendar}
 use Rattle.dates.specs.Standing.{Ready, Recorded}
 
 -- what the passes are lent, with what is recorded of work
-pub record Lent (s : List ℕ) (c : Contents) (places : List ℕ) (t : ℕ) (xs : List ℤ) : Type 0 where
-  pub ready : Ready s c places t xs
+pub record Lent (s : List ℕ) (c : Contents) (calendars : List PlanCalendar) (t : ℕ) (xs : List ℤ) : Type 0 where
+  pub ready : Ready s c calendars t xs
   pub recorded : Recorded (plan_of s c) (state_of c.activities c.links xs)
 
 -- activity i in hand, with its own calendar

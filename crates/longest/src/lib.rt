@@ -14,7 +14,8 @@ ghost use Rattle.dates.specs.Columns.{early_in, path_in, ended};
 ghost use Rattle.dates.specs.Standing.{Standing, Ready, Recorded};
 ghost use Rattle.longest.specs.Path.{Lent, Own, driven, bound_start, marks};
 
-use calendar::Period;
+use calendar::Calendar;
+use calendars::PlanCalendar;
 use placing::Actual;
 use project::{Activity, RelationshipType};
 use sheet::Contents;
@@ -61,48 +62,44 @@ fn mark_last(work: &mut [i64], a: usize, l: usize, finish: u64)
 fn bound_start(
     sheet: &[u8],
     contents: Contents,
-    places: &[u64],
+    calendars: &[PlanCalendar],
     t: usize,
     work: &[i64],
     activity: Activity,
-    week: [[Period; 8]; 7],
-    at: usize,
-    n: usize,
+    calendar: &Calendar,
     i: usize,
     k: usize,
 ) -> Result<u64, ClockError>
-    requires { Lent sheet.now contents places.now t work.now × Own sheet.now contents i activity week at n × (i < contents.activities) × (k < t) }
+    requires { Lent sheet.now contents calendars.now t work.now × Own sheet.now contents i activity calendar.now × (i < contents.activities) × (k < t) }
     ensures { result ≡ bound_start (plan_of sheet.now contents) (early_in (plan_of sheet.now contents) (state_of contents.activities contents.links work.now)) i k }
 {
-    let b = bounds::link_bound(sheet, contents, places, t, work, k)?;
+    let b = bounds::link_bound(sheet, contents, calendars, t, work, k)?;
     let a = contents.activities;
     let l = contents.links;
     let left = memory::get_act(work, a, l, i, memory::fields::WORK_LEFT);
     let code = memory::get_link(work, a, l, k, memory::fields::KIND);
     let kind = RelationshipType::from(code);
-    let s = bounds::start_for(activity, week, sheet, at, n, left, kind, b)?;
-    placing::place_start(activity, week, sheet, at, n, s)
+    let s = bounds::start_for(activity, calendar, left, kind, b)?;
+    placing::place_start(activity, calendar, s)
 }
 
 // Whether link `k` sets the start of activity `i`: its bound places it where it is, and its predecessor is not completed.
 fn drives(
     sheet: &[u8],
     contents: Contents,
-    places: &[u64],
+    calendars: &[PlanCalendar],
     t: usize,
     work: &[i64],
     activity: Activity,
-    week: [[Period; 8]; 7],
-    at: usize,
-    n: usize,
+    calendar: &Calendar,
     i: usize,
     k: usize,
 ) -> Result<bool, ClockError>
-    requires { Lent sheet.now contents places.now t work.now × Own sheet.now contents i activity week at n × (i < contents.activities) × (k < t) }
+    requires { Lent sheet.now contents calendars.now t work.now × Own sheet.now contents i activity calendar.now × (i < contents.activities) × (k < t) }
     ensures { (go : Bool → Pass (ℕ → Bool)) → driven result go ≡ drives (plan_of sheet.now contents) (early_in (plan_of sheet.now contents) (state_of contents.activities contents.links work.now)) i k go }
 {
     let u = bound_start(
-        sheet, contents, places, t, work, activity, week, at, n, i, k,
+        sheet, contents, calendars, t, work, activity, calendar, i, k,
     )?;
     let a = contents.activities;
     let l = contents.links;
@@ -118,21 +115,19 @@ fn drives(
 fn mark_link(
     sheet: &[u8],
     contents: Contents,
-    places: &[u64],
+    calendars: &[PlanCalendar],
     t: usize,
     work: &mut [i64],
     activity: Activity,
-    week: [[Period; 8]; 7],
-    at: usize,
-    n: usize,
+    calendar: &Calendar,
     i: usize,
     k: usize,
 ) -> Result<(), ClockError>
-    requires { Lent sheet.now contents places.now t work.old × Own sheet.now contents i activity week at n × (i < contents.activities) × (k < t) }
+    requires { Lent sheet.now contents calendars.now t work.old × Own sheet.now contents i activity calendar.now × (i < contents.activities) × (k < t) }
     ensures { ((other : ℕ → Bool) (go : (ℕ → Bool) → Pass (ℕ → Bool)) → after (ended (path_in (plan_of sheet.now contents) (state_of contents.activities contents.links work.new) other) result) go ≡ marks (plan_of sheet.now contents) (early_in (plan_of sheet.now contents) (state_of contents.activities contents.links work.old)) i (path_in (plan_of sheet.now contents) (state_of contents.activities contents.links work.old) other) k go) × Frame 16 17 0 0 (state_of contents.activities contents.links work.old) (state_of contents.activities contents.links work.new) × (length work.new ≡ length work.old) }
 {
     let sets = drives(
-        sheet, contents, places, t, work, activity, week, at, n, i, k,
+        sheet, contents, calendars, t, work, activity, calendar, i, k,
     )?;
     if sets {
         let a = contents.activities;
@@ -147,16 +142,14 @@ fn mark_link(
 fn mark_links(
     sheet: &[u8],
     contents: Contents,
-    places: &[u64],
+    calendars: &[PlanCalendar],
     t: usize,
     work: &mut [i64],
     activity: Activity,
-    week: [[Period; 8]; 7],
-    at: usize,
-    n: usize,
+    calendar: &Calendar,
     i: usize,
 ) -> Result<(), ClockError>
-    requires { Lent sheet.now contents places.now t work.old × Own sheet.now contents i activity week at n × (i < contents.activities) }
+    requires { Lent sheet.now contents calendars.now t work.old × Own sheet.now contents i activity calendar.now × (i < contents.activities) }
     ensures { ((other : ℕ → Bool) → ended (path_in (plan_of sheet.now contents) (state_of contents.activities contents.links work.new) other) result ≡ marked (plan_of sheet.now contents) (early_in (plan_of sheet.now contents) (state_of contents.activities contents.links work.old)) i (ties_into (plan_of sheet.now contents) i) (path_in (plan_of sheet.now contents) (state_of contents.activities contents.links work.old) other)) × Frame 16 17 0 0 (state_of contents.activities contents.links work.old) (state_of contents.activities contents.links work.new) × (length work.new ≡ length work.old) }
 {
     let a = contents.activities;
@@ -165,7 +158,7 @@ fn mark_links(
     // A `while`: the next link is read from the memory, so no range has the links.
     while k < t {
         mark_link(
-            sheet, contents, places, t, work, activity, week, at, n, i, k,
+            sheet, contents, calendars, t, work, activity, calendar, i, k,
         )?;
         k = memory::get_link(work, a, l, k, memory::fields::NEXT_INTO) as usize;
     }
@@ -178,12 +171,12 @@ fn mark_links(
 fn on_path(
     sheet: &[u8],
     contents: Contents,
-    places: &[u64],
+    calendars: &[PlanCalendar],
     t: usize,
     work: &mut [i64],
     i: usize,
 ) -> Result<(), ClockError>
-    requires { Lent sheet.now contents places.now t work.old × (i < contents.activities) }
+    requires { Lent sheet.now contents calendars.now t work.old × (i < contents.activities) }
     ensures { ((other : ℕ → Bool) → ended (path_in (plan_of sheet.now contents) (state_of contents.activities contents.links work.new) other) result ≡ on_path (plan_of sheet.now contents) (early_in (plan_of sheet.now contents) (state_of contents.activities contents.links work.old)) (path_in (plan_of sheet.now contents) (state_of contents.activities contents.links work.old) other) i) × Frame 16 17 0 0 (state_of contents.activities contents.links work.old) (state_of contents.activities contents.links work.new) × (length work.new ≡ length work.old) }
 {
     let a = contents.activities;
@@ -193,18 +186,15 @@ fn on_path(
     }
     let activity = dates::activity_of(sheet, contents, i);
     let calendar = activity.calendar as usize;
-    let week = calendars::week_of(sheet, contents, places, calendar);
-    let exceptions = calendars::exceptions_of(sheet, contents, places, calendar);
+    let calendar = calendars::calendar_of(sheet, contents, calendars, calendar);
     mark_links(
         sheet,
         contents,
-        places,
+        calendars,
         t,
         work,
         activity,
-        week,
-        exceptions.at,
-        exceptions.n,
+        &calendar,
         i,
     )
 }
@@ -213,18 +203,18 @@ fn on_path(
 fn path_back(
     sheet: &[u8],
     contents: Contents,
-    places: &[u64],
+    calendars: &[PlanCalendar],
     t: usize,
     work: &mut [i64],
 ) -> Result<(), ClockError>
-    requires { Lent sheet.now contents places.now t work.old }
+    requires { Lent sheet.now contents calendars.now t work.old }
     ensures { ((other : ℕ → Bool) → ended (path_in (plan_of sheet.now contents) (state_of contents.activities contents.links work.new) other) result ≡ through (on_path (plan_of sheet.now contents) (early_in (plan_of sheet.now contents) (state_of contents.activities contents.links work.old))) (reverse (order (plan_of sheet.now contents))) (path_in (plan_of sheet.now contents) (state_of contents.activities contents.links work.old) other)) × Frame 16 17 0 0 (state_of contents.activities contents.links work.old) (state_of contents.activities contents.links work.new) × (length work.new ≡ length work.old) }
 {
     let a = contents.activities;
     let l = contents.links;
     for q in (0..a).rev() {
         let i = memory::get_act(work, a, l, q, memory::fields::ORDER_AT) as usize;
-        on_path(sheet, contents, places, t, work, i)?;
+        on_path(sheet, contents, calendars, t, work, i)?;
     }
     Ok(())
 }
@@ -233,16 +223,16 @@ fn path_back(
 pub fn path_pass(
     sheet: &[u8],
     contents: Contents,
-    places: &[u64],
+    calendars: &[PlanCalendar],
     t: usize,
     work: &mut [i64],
     finish: u64,
 ) -> Result<(), ClockError>
-    requires { Ready sheet.now contents places.now t work.old × Recorded (plan_of sheet.now contents) (state_of contents.activities contents.links work.old) }
+    requires { Ready sheet.now contents calendars.now t work.old × Recorded (plan_of sheet.now contents) (state_of contents.activities contents.links work.old) }
     ensures { (ended (path_in (plan_of sheet.now contents) (state_of contents.activities contents.links work.new) (last_ones (plan_of sheet.now contents) (early_in (plan_of sheet.now contents) (state_of contents.activities contents.links work.old)) finish)) result ≡ path_pass (plan_of sheet.now contents) finish (early_in (plan_of sheet.now contents) (state_of contents.activities contents.links work.old))) × Frame 16 17 0 0 (state_of contents.activities contents.links work.old) (state_of contents.activities contents.links work.new) × (length work.new ≡ length work.old) }
 {
     let a = contents.activities;
     let l = contents.links;
     mark_last(work, a, l, finish);
-    path_back(sheet, contents, places, t, work)
+    path_back(sheet, contents, calendars, t, work)
 }

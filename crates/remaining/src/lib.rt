@@ -12,13 +12,14 @@ ghost use Rattle.order.specs.Ties.{calendar_of};
 ghost use Rattle.passes.specs.Plan.{full};
 ghost use Rattle.passes.specs.Forward.{since_start, still_left, left_by};
 ghost use Rattle.passes.specs.Run.{remaining};
-ghost use Rattle.calendars.specs.Calendars.{IsCalendar, Places};
+ghost use Rattle.calendars.specs.Calendars.{InPlan, Places};
 ghost use Rattle.dates.specs.Columns.{left_in, ended};
 ghost use Rattle.dates.specs.Standing.{Ready, Recorded};
 ghost use Rattle.dates.specs.Bounds.{ActualBelow};
 ghost use Rattle.remaining.specs.Rows.{how_of, start_of, finish_of, kept, Row};
 
-use calendar::Period;
+use calendar::Calendar;
+use calendars::PlanCalendar;
 use placing::Actual;
 use project::{Activity, Status};
 use sheet::Contents;
@@ -39,20 +40,18 @@ fn since_start(
     sheet: &[u8],
     contents: Contents,
     i: usize,
-    week: [[Period; 8]; 7],
-    at: usize,
-    n: usize,
+    calendar: &Calendar,
     start: u64,
     whole: u64,
 ) -> Result<u64, ClockError>
-    requires { SheetRead sheet.now contents × IsCalendar sheet.now contents (calendar_of (plan_of sheet.now contents) i) week at n × (whole ≡ full (plan_of sheet.now contents) i) }
+    requires { SheetRead sheet.now contents × InPlan sheet.now contents (calendar_of (plan_of sheet.now contents) i) calendar.now × (whole ≡ full (plan_of sheet.now contents) i) }
     ensures { result ≡ since_start (plan_of sheet.now contents) i start (plan_of sheet.now contents).project.data_date }
 {
     match project::fields::read_optional_date(sheet, 5) {
         None => Ok(whole),
         Some(day) => {
             let by = day.midnight().max(start);
-            let done = clock::between(week, sheet, at, n, start, by)?;
+            let done = clock::between(calendar, start, by)?;
             Ok(whole.saturating_sub(number::sign::upward(done)))
         }
     }
@@ -64,18 +63,16 @@ fn still_left(
     contents: Contents,
     i: usize,
     activity: Activity,
-    week: [[Period; 8]; 7],
-    at: usize,
-    n: usize,
+    calendar: &Calendar,
     start: u64,
     whole: u64,
 ) -> Result<u64, ClockError>
-    requires { SheetRead sheet.now contents × (activity ≡ (plan_of sheet.now contents).activity i) × IsCalendar sheet.now contents (calendar_of (plan_of sheet.now contents) i) week at n × (whole ≡ full (plan_of sheet.now contents) i) }
+    requires { SheetRead sheet.now contents × (activity ≡ (plan_of sheet.now contents).activity i) × InPlan sheet.now contents (calendar_of (plan_of sheet.now contents) i) calendar.now × (whole ≡ full (plan_of sheet.now contents) i) }
     ensures { result ≡ still_left (plan_of sheet.now contents) i start ((plan_of sheet.now contents).activity i).remaining }
 {
     match activity.remaining {
         Some(minutes) => Ok(minutes_of(minutes).min(MOST)),
-        None => since_start(sheet, contents, i, week, at, n, start, whole),
+        None => since_start(sheet, contents, i, calendar, start, whole),
     }
 }
 
@@ -85,18 +82,16 @@ fn left_of(
     contents: Contents,
     i: usize,
     activity: Activity,
-    week: [[Period; 8]; 7],
-    at: usize,
-    n: usize,
+    calendar: &Calendar,
     actual: Actual,
     whole: u64,
 ) -> Result<u64, ClockError>
-    requires { SheetRead sheet.now contents × (activity ≡ (plan_of sheet.now contents).activity i) × IsCalendar sheet.now contents (calendar_of (plan_of sheet.now contents) i) week at n × (whole ≡ full (plan_of sheet.now contents) i) }
+    requires { SheetRead sheet.now contents × (activity ≡ (plan_of sheet.now contents).activity i) × InPlan sheet.now contents (calendar_of (plan_of sheet.now contents) i) calendar.now × (whole ≡ full (plan_of sheet.now contents) i) }
     ensures { result ≡ left_by (plan_of sheet.now contents) i (Ok actual) }
 {
     match actual {
         Actual::Unstarted => Ok(whole),
-        Actual::Begun(start) => still_left(sheet, contents, i, activity, week, at, n, start, whole),
+        Actual::Begun(start) => still_left(sheet, contents, i, activity, calendar, start, whole),
         Actual::Completed(_, _) => Ok(0),
     }
 }
@@ -161,20 +156,19 @@ fn keep(work: &mut [i64], a: usize, l: usize, i: usize, actual: Actual, left: u6
 fn record_dated(
     sheet: &[u8],
     contents: Contents,
-    places: &[u64],
+    calendars: &[PlanCalendar],
     work: &mut [i64],
     i: usize,
     activity: Activity,
     whole: u64,
 ) -> Result<(), ClockError>
-    requires { SheetRead sheet.now contents × Places sheet.now contents places.now × Room contents.activities contents.links work.old × (i < contents.activities) × (activity ≡ (plan_of sheet.now contents).activity i) × (summary (plan_of sheet.now contents) i ≡ false) × (whole ≡ full (plan_of sheet.now contents) i) × (whole < 2 ^ 63) }
+    requires { SheetRead sheet.now contents × Places sheet.now contents calendars.now × Room contents.activities contents.links work.old × (i < contents.activities) × (activity ≡ (plan_of sheet.now contents).activity i) × (summary (plan_of sheet.now contents) i ≡ false) × (whole ≡ full (plan_of sheet.now contents) i) × (whole < 2 ^ 63) }
     ensures { Row (plan_of sheet.now contents) i (state_of contents.activities contents.links work.old) (state_of contents.activities contents.links work.new) result × (length work.new ≡ length work.old) }
 {
     let k = activity.calendar as usize;
-    let week = calendars::week_of(sheet, contents, places, k);
-    let e = calendars::exceptions_of(sheet, contents, places, k);
-    let actual = placing::dates::actual(activity, week, sheet, e.at, e.n)?;
-    let left = left_of(sheet, contents, i, activity, week, e.at, e.n, actual, whole)?;
+    let calendar = calendars::calendar_of(sheet, contents, calendars, k);
+    let actual = placing::dates::actual(activity, &calendar)?;
+    let left = left_of(sheet, contents, i, activity, &calendar, actual, whole)?;
     keep(work, contents.activities, contents.links, i, actual, left);
     Ok(())
 }
@@ -183,12 +177,12 @@ fn record_dated(
 fn record_one(
     sheet: &[u8],
     contents: Contents,
-    places: &[u64],
+    calendars: &[PlanCalendar],
     t: usize,
     work: &mut [i64],
     i: usize,
 ) -> Result<(), ClockError>
-    requires { Ready sheet.now contents places.now t work.old × (i < contents.activities) }
+    requires { Ready sheet.now contents calendars.now t work.old × (i < contents.activities) }
     ensures { Row (plan_of sheet.now contents) i (state_of contents.activities contents.links work.old) (state_of contents.activities contents.links work.new) result × (length work.new ≡ length work.old) }
 {
     let a = contents.activities;
@@ -204,7 +198,7 @@ fn record_one(
     let last = activity.actual_finish;
     let status = project::status_of(first, last);
     let Status::NotStarted = status else {
-        return record_dated(sheet, contents, places, work, i, activity, whole);
+        return record_dated(sheet, contents, calendars, work, i, activity, whole);
     };
     keep(work, a, l, i, Actual::Unstarted, whole);
     Ok(())
@@ -214,15 +208,15 @@ fn record_one(
 pub fn remaining(
     sheet: &[u8],
     contents: Contents,
-    places: &[u64],
+    calendars: &[PlanCalendar],
     t: usize,
     work: &mut [i64],
 ) -> Result<(), ClockError>
-    requires { Ready sheet.now contents places.now t work.old }
+    requires { Ready sheet.now contents calendars.now t work.old }
     ensures { (ended (left_in (plan_of sheet.now contents) (state_of contents.activities contents.links work.new)) result ≡ remaining (plan_of sheet.now contents)) × (result ≡ (Ok tt) → Recorded (plan_of sheet.now contents) (state_of contents.activities contents.links work.new)) × Frame 14 20 0 0 (state_of contents.activities contents.links work.old) (state_of contents.activities contents.links work.new) × (length work.new ≡ length work.old) }
 {
     for i in 0..contents.activities {
-        record_one(sheet, contents, places, t, work, i)?;
+        record_one(sheet, contents, calendars, t, work, i)?;
     }
     Ok(())
 }

@@ -18,6 +18,7 @@ use Rattle.passes.specs.Plan.{own, kind_of, recorded}
 use Rattle.passes.specs.Dates.{Pass, leaves, refused}
 use Rattle.passes.specs.Floats.{day_of}
 use Rattle.passes.specs.Run.{Ran}
+use Rattle.calendars.specs.declared.plan_calendar.PlanCalendar.{PlanCalendar}
 use Rattle.calendars.specs.Calendars.{Lengths}
 use Rattle.dates.specs.Columns.{ended}
 use Rattle.dates.specs.Standing.{Ready, Recorded}
@@ -34,8 +35,8 @@ use Rattle.results.specs.Row.{ToShow, row_shown}
 use Rattle.results.specs.RowLaws.{shown_next}
 
 -- ---- what is lent
-module _ {s : List ℕ} {c : Contents} {places lengths : List ℕ} {xs : List ℤ} where
-  pub to_show : {t : ℕ} → Ready s c places t xs → Lengths (plan_of s c) lengths → Recorded (plan_of s c) (state_of c.activities c.links xs) → ToShow s c places lengths xs
+module _ {s : List ℕ} {c : Contents} {calendars : List PlanCalendar} {xs : List ℤ} where
+  pub to_show : {t : ℕ} → Ready s c calendars t xs → Lengths (plan_of s c) calendars → Recorded (plan_of s c) (state_of c.activities c.links xs) → ToShow s c calendars xs
   unfolding plan_of
   to_show R L D = record {
     read = R.read;
@@ -48,7 +49,7 @@ module _ {s : List ℕ} {c : Contents} {places lengths : List ℕ} {xs : List �
 
   -- it stays where only later fields change
   pub to_show_kept : {lo hi : ℕ} {ys : List ℤ} → 20 ≤ lo → Frame lo hi 0 0 (state_of c.activities c.links xs) (state_of c.activities c.links ys)
-      → length ys ≡ length xs → ToShow s c places lengths xs → ToShow s c places lengths ys
+      → length ys ≡ length xs → ToShow s c calendars xs → ToShow s c calendars ys
   to_show_kept {lo} {hi} {ys} l F e W = record {
     read = W.read;
     room = omega (arith, W.room);

@@ -8,6 +8,7 @@ use Rattle.order.specs.Ties.{calendar_of}
 use Rattle.passes.specs.Plan.{own, kind_of, recorded}
 use Rattle.passes.specs.Dates.{Pass}
 use Rattle.passes.specs.Floats.{day_of}
+use Rattle.calendars.specs.declared.plan_calendar.PlanCalendar.{PlanCalendar}
 use Rattle.calendars.specs.Calendars.{Places, Lengths}
 use Rattle.dates.specs.Standing.{Recorded}
 use Rattle.results.specs.declared.Shown.{Shown}
@@ -15,11 +16,11 @@ use Rattle.results.specs.View.{times_in}
 use Rattle.results.specs.Showing.{shown_from}
 
 -- a sheet that was read, its calendars' places and day lengths, each activity's calendar among them, and the recorded work in the memory
-pub record ToShow (s : List ℕ) (c : Contents) (places lengths : List ℕ) (xs : List ℤ) : Type 0 where
+pub record ToShow (s : List ℕ) (c : Contents) (calendars : List PlanCalendar) (xs : List ℤ) : Type 0 where
   pub read : SheetRead s c
   pub room : Room c.activities c.links xs
-  pub located : Places s c places
-  pub days : Lengths (plan_of s c) lengths
+  pub located : Places s c calendars
+  pub days : Lengths (plan_of s c) calendars
   pub named : (i : ℕ) → i < c.activities → calendar_of (plan_of s c) i < c.calendars
   pub recorded : Recorded (plan_of s c) (state_of c.activities c.links xs)
 

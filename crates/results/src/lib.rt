@@ -3,8 +3,7 @@
 
 ghost use Rattle.std.specs.Prelude.{◌≡◌, Bool, ℕ, ◌+◌, ◌-◌, ◌^◌, ◌≤◌, ◌<◌, pos, ◌*ℤ◌, length, Ok};
 ghost use Rattle.number.specs.Bit.{bit};
-ghost use Rattle.calendar.specs.Records.{Valid};
-ghost use Rattle.clock.specs.On.{worked_on};
+ghost use Rattle.clock.specs.On.{worked_by};
 ghost use Rattle.memory.specs.State.{Room, state_of};
 ghost use Rattle.order.specs.Plan.{Plan, plan_of};
 ghost use Rattle.passes.specs.Floats.{float_by};
@@ -16,7 +15,8 @@ ghost use Rattle.results.specs.RowLaws.{shown_next};
 ghost use Rattle.results.specs.View.{ran_in, shown_to, shown_at, days_in, times_in, put_days, put_floats, put_bounds, put_shown};
 ghost use Rattle.results.specs.Showing.{Holds, DaysHold, HoldsIf, showing, all_in_years, critical_in, total_work, days_of, critical_of, shown_from};
 
-use calendar::Period;
+use calendar::Calendar;
+use calendars::PlanCalendar;
 use placing::Actual;
 use project::{ActivityKind, CriticalBy, FloatKind, Project};
 use sheet::Contents;
@@ -84,16 +84,12 @@ fn total_of(
     kind: FloatKind,
     actual: Actual,
     t: Times,
-    week: [[Period; 8]; 7],
-    sheet: &[u8],
-    at: usize,
-    n: usize,
+    calendar: &Calendar,
 ) -> Result<i64, ClockError>
-    requires { Valid week sheet.now at n }
-    ensures { (p : Plan) → result ≡ total_work p (worked_on week sheet.now at n) kind (Ok actual) t }
+    ensures { (p : Plan) → result ≡ total_work p (worked_by calendar.now) kind (Ok actual) t }
 {
-    let finish = clock::between(week, sheet, at, n, t.ef, t.lf)?;
-    let start = clock::between(week, sheet, at, n, t.es, t.ls)?;
+    let finish = clock::between(calendar, t.ef, t.lf)?;
+    let start = clock::between(calendar, t.es, t.ls)?;
     Ok(total_by(actual, float_by(kind, finish, start)))
 }
 
@@ -176,17 +172,14 @@ fn shown_of(
     day_length: u64,
     actual: Actual,
     t: Times,
-    week: [[Period; 8]; 7],
-    sheet: &[u8],
-    at: usize,
-    n: usize,
+    calendar: &Calendar,
 ) -> Result<Shown, ClockError>
-    requires { Valid week sheet.now at n × (day_length ≤ 1440) × (t.ef < 2 ^ 63) × (t.lf < 2 ^ 63) × (t.free < 2 ^ 63) }
-    ensures { ((p : Plan) → showing result ≡ shown_from p project kind day_length (worked_on week sheet.now at n) (Ok actual) t) × HoldsIf result }
+    requires { (day_length ≤ 1440) × (t.ef < 2 ^ 63) × (t.lf < 2 ^ 63) × (t.free < 2 ^ 63) }
+    ensures { ((p : Plan) → showing result ≡ shown_from p project kind day_length (worked_by calendar.now) (Ok actual) t) × HoldsIf result }
 {
     let float = project.float_kind;
     let by = project.critical_by;
-    let total = total_of(float, actual, t, week, sheet, at, n)?;
+    let total = total_of(float, actual, t, calendar)?;
     let days = days_of(kind, actual, t);
     if !all_in_years(days) {
         return Err(ClockError::TooLong);
@@ -322,39 +315,36 @@ pub fn put_shown(work: &mut [i64], a: usize, l: usize, i: usize, x: Shown)
 fn row_of(
     sheet: &[u8],
     contents: Contents,
-    places: &[u64],
-    lengths: &[u64],
+    calendars: &[PlanCalendar],
     project: Project,
     work: &[i64],
     i: usize,
 ) -> Result<Shown, ClockError>
-    requires { ToShow sheet.now contents places.now lengths.now work.now × (i < contents.activities) × (project ≡ (plan_of sheet.now contents).project) }
+    requires { ToShow sheet.now contents calendars.now work.now × (i < contents.activities) × (project ≡ (plan_of sheet.now contents).project) }
     ensures { (showing result ≡ row_shown (plan_of sheet.now contents) (state_of contents.activities contents.links work.now) i) × HoldsIf result }
 {
     let activity = dates::activity_of(sheet, contents, i);
     let kind = activity.kind;
     let k = activity.calendar as usize;
-    let week = calendars::week_of(sheet, contents, places, k);
-    let e = calendars::exceptions_of(sheet, contents, places, k);
+    let calendar = calendars::calendar_of(sheet, contents, calendars, k);
     let actual = dates::recorded_at(work, contents.activities, contents.links, i);
     let t = times_at(work, contents.activities, contents.links, i);
-    shown_of(project, kind, lengths[k], actual, t, week, sheet, e.at, e.n)
+    shown_of(project, kind, calendars[k].day_length, actual, t, &calendar)
 }
 
 // Puts what is shown of activity `i` into its row.
 fn show_one(
     sheet: &[u8],
     contents: Contents,
-    places: &[u64],
-    lengths: &[u64],
+    calendars: &[PlanCalendar],
     project: Project,
     work: &mut [i64],
     i: usize,
 ) -> Result<(), ClockError>
-    requires { ToShow sheet.now contents places.now lengths.now work.old × (i < contents.activities) × (project ≡ (plan_of sheet.now contents).project) }
+    requires { ToShow sheet.now contents calendars.now work.old × (i < contents.activities) × (project ≡ (plan_of sheet.now contents).project) }
     ensures { (ended (shown_to (i + 1) (state_of contents.activities contents.links work.new)) result ≡ shown_next (row_shown (plan_of sheet.now contents) (state_of contents.activities contents.links work.old) i) (shown_to i (state_of contents.activities contents.links work.old)) i) × Frame 20 30 0 0 (state_of contents.activities contents.links work.old) (state_of contents.activities contents.links work.new) × (length work.new ≡ length work.old) }
 {
-    let x = row_of(sheet, contents, places, lengths, project, work, i)?;
+    let x = row_of(sheet, contents, calendars, project, work, i)?;
     put_shown(work, contents.activities, contents.links, i, x);
     Ok(())
 }
@@ -363,16 +353,15 @@ fn show_one(
 pub fn show_all(
     sheet: &[u8],
     contents: Contents,
-    places: &[u64],
-    lengths: &[u64],
+    calendars: &[PlanCalendar],
     work: &mut [i64],
 ) -> Result<(), ClockError>
-    requires { ToShow sheet.now contents places.now lengths.now work.old }
+    requires { ToShow sheet.now contents calendars.now work.old }
     ensures { ((e : ℕ) (other : ℕ → Bool) → ended (shown_to contents.activities (state_of contents.activities contents.links work.new)) result ≡ shown_below (plan_of sheet.now contents) (ran_in (plan_of sheet.now contents) (state_of contents.activities contents.links work.old) e other) contents.activities) × Frame 20 30 0 0 (state_of contents.activities contents.links work.old) (state_of contents.activities contents.links work.new) × (length work.new ≡ length work.old) }
 {
     let project = project::records::read_project(sheet, 0);
     for i in 0..contents.activities {
-        show_one(sheet, contents, places, lengths, project, work, i)?;
+        show_one(sheet, contents, calendars, project, work, i)?;
     }
     Ok(())
 }

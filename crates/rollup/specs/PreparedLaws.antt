@@ -18,6 +18,7 @@ use Rattle.order.specs.ParentLaws.{parent_le}
 use Rattle.order.specs.Ids.{parent_of, summary}
 use Rattle.passes.specs.Dates.{Pass, after, through}
 use Rattle.passes.specs.Run.{Ran}
+use Rattle.calendars.specs.declared.plan_calendar.PlanCalendar.{PlanCalendar}
 use Rattle.dates.specs.Columns.{ended}
 use Rattle.dates.specs.Standing.{Ready}
 use Rattle.dates.specs.FineLaws.{checked_fine}
@@ -115,7 +116,7 @@ to_roll_kept p {lo} {hi} {S} {T} l F W = record {
 pub keys_in : (p : Plan) (S : State) → ToRoll p S → KeysIn parent p.activities S
 keys_in p S W j b = omega (arith, W.parents j b, W.within j b)
 
-pub to_roll : {s : List ℕ} {c : Contents} {places : List ℕ} {t : ℕ} {xs : List ℤ} → Ready s c places t xs → ToRoll (plan_of s c) (state_of c.activities c.links xs)
+pub to_roll : {s : List ℕ} {c : Contents} {calendars : List PlanCalendar} {t : ℕ} {xs : List ℤ} → Ready s c calendars t xs → ToRoll (plan_of s c) (state_of c.activities c.links xs)
 to_roll {s} {c} R = record {
   parents = R.standing.parents;
   marks = R.standing.marks;

@@ -24,6 +24,7 @@ ghost use Rattle.rollup.specs.Rolling.{Deep, ToRoll, summed_pass};
 ghost use Rattle.rollup.specs.Depths.{depth_key, DepthsTo};
 ghost use Rattle.rollup.specs.Roll.{joined, child_sum};
 
+use calendars::PlanCalendar;
 use project::Project;
 use results::Shown;
 use sheet::Contents;
@@ -141,22 +142,20 @@ fn sum_children(work: &[i64], a: usize, l: usize, s: usize, first: usize) -> Sho
 fn summed_of(
     sheet: &[u8],
     contents: Contents,
-    places: &[u64],
-    lengths: &[u64],
+    calendars: &[PlanCalendar],
     project: Project,
     s: usize,
     x: Shown,
 ) -> Result<Shown, ClockError>
-    requires { SheetRead sheet.now contents × Places sheet.now contents places.now × Lengths (plan_of sheet.now contents) lengths.now × (s < contents.activities) × (calendar_of (plan_of sheet.now contents) s < contents.calendars) × (project ≡ (plan_of sheet.now contents).project) × Holds x }
+    requires { SheetRead sheet.now contents × Places sheet.now contents calendars.now × Lengths (plan_of sheet.now contents) calendars.now × (s < contents.activities) × (calendar_of (plan_of sheet.now contents) s < contents.calendars) × (project ≡ (plan_of sheet.now contents).project) × Holds x }
     ensures { (showing result ≡ summed_pass (plan_of sheet.now contents) s x) × HoldsIf result }
 {
     let by = project.critical_by;
     let activity = dates::activity_of(sheet, contents, s);
     let k = activity.calendar as usize;
-    let week = calendars::week_of(sheet, contents, places, k);
-    let e = calendars::exceptions_of(sheet, contents, places, k);
-    let total = clock::between(week, sheet, e.at, e.n, x.finish, x.late)?;
-    let critical = results::is_critical(by, lengths[k], total, x.path);
+    let calendar = calendars::calendar_of(sheet, contents, calendars, k);
+    let total = clock::between(&calendar, x.finish, x.late)?;
+    let critical = results::is_critical(by, calendars[k].day_length, total, x.path);
     Ok(Shown {
         total,
         free: 0,
@@ -169,13 +168,12 @@ fn summed_of(
 fn roll_one(
     sheet: &[u8],
     contents: Contents,
-    places: &[u64],
-    lengths: &[u64],
+    calendars: &[PlanCalendar],
     project: Project,
     work: &mut [i64],
     s: usize,
 ) -> Result<(), ClockError>
-    requires { ToShow sheet.now contents places.now lengths.now work.old × Deep (plan_of sheet.now contents) (state_of contents.activities contents.links work.old) × (s < contents.activities) × (project ≡ (plan_of sheet.now contents).project) }
+    requires { ToShow sheet.now contents calendars.now work.old × Deep (plan_of sheet.now contents) (state_of contents.activities contents.links work.old) × (s < contents.activities) × (project ≡ (plan_of sheet.now contents).project) }
     ensures { ((q : Ran) → ended (shown_in (plan_of sheet.now contents) (state_of contents.activities contents.links work.new)) result ≡ rolled (plan_of sheet.now contents) q (shown_in (plan_of sheet.now contents) (state_of contents.activities contents.links work.old)) s) × Frame 20 30 0 0 (state_of contents.activities contents.links work.old) (state_of contents.activities contents.links work.new) × (length work.new ≡ length work.old) }
 {
     let first = memory::get_act(
@@ -189,7 +187,7 @@ fn roll_one(
         return Ok(());
     }
     let x = sum_children(work, contents.activities, contents.links, s, first);
-    let y = summed_of(sheet, contents, places, lengths, project, s, x)?;
+    let y = summed_of(sheet, contents, calendars, project, s, x)?;
     results::put_shown(work, contents.activities, contents.links, s, y);
     Ok(())
 }
@@ -199,13 +197,12 @@ fn roll_one(
 fn roll_depth(
     sheet: &[u8],
     contents: Contents,
-    places: &[u64],
-    lengths: &[u64],
+    calendars: &[PlanCalendar],
     project: Project,
     work: &mut [i64],
     d: usize,
 ) -> Result<(), ClockError>
-    requires { ToShow sheet.now contents places.now lengths.now work.old × Deep (plan_of sheet.now contents) (state_of contents.activities contents.links work.old) × (0 < d) × (d ≤ contents.activities) × (project ≡ (plan_of sheet.now contents).project) }
+    requires { ToShow sheet.now contents calendars.now work.old × Deep (plan_of sheet.now contents) (state_of contents.activities contents.links work.old) × (0 < d) × (d ≤ contents.activities) × (project ≡ (plan_of sheet.now contents).project) }
     ensures { ((q : Ran) → ended (shown_in (plan_of sheet.now contents) (state_of contents.activities contents.links work.new)) result ≡ through (rolled (plan_of sheet.now contents) q) (summaries_at (plan_of sheet.now contents) q d contents.activities) (shown_in (plan_of sheet.now contents) (state_of contents.activities contents.links work.old))) × Frame 20 30 0 0 (state_of contents.activities contents.links work.old) (state_of contents.activities contents.links work.new) × (length work.new ≡ length work.old) }
 {
     let mut k = memory::get_act(
@@ -217,7 +214,7 @@ fn roll_depth(
     ) as usize;
     // As in `sum_children`, the next comes from the memory, which `roll_one` writes to meanwhile.
     while k < contents.activities {
-        roll_one(sheet, contents, places, lengths, project, work, k)?;
+        roll_one(sheet, contents, calendars, project, work, k)?;
         k = memory::get_act(
             work,
             contents.activities,
@@ -232,16 +229,15 @@ fn roll_depth(
 fn roll_all(
     sheet: &[u8],
     contents: Contents,
-    places: &[u64],
-    lengths: &[u64],
+    calendars: &[PlanCalendar],
     project: Project,
     work: &mut [i64],
 ) -> Result<(), ClockError>
-    requires { ToShow sheet.now contents places.now lengths.now work.old × Deep (plan_of sheet.now contents) (state_of contents.activities contents.links work.old) × (project ≡ (plan_of sheet.now contents).project) }
+    requires { ToShow sheet.now contents calendars.now work.old × Deep (plan_of sheet.now contents) (state_of contents.activities contents.links work.old) × (project ≡ (plan_of sheet.now contents).project) }
     ensures { ((q : Ran) → ended (shown_in (plan_of sheet.now contents) (state_of contents.activities contents.links work.new)) result ≡ through (rolled (plan_of sheet.now contents) q) (deepest_first (plan_of sheet.now contents) q contents.activities) (shown_in (plan_of sheet.now contents) (state_of contents.activities contents.links work.old))) × Frame 20 30 0 0 (state_of contents.activities contents.links work.old) (state_of contents.activities contents.links work.new) × (length work.new ≡ length work.old) }
 {
     for d in (0..contents.activities).rev() {
-        roll_depth(sheet, contents, places, lengths, project, work, d + 1)?;
+        roll_depth(sheet, contents, calendars, project, work, d + 1)?;
     }
     Ok(())
 }
@@ -272,30 +268,28 @@ fn prepare(work: &mut [i64], a: usize, l: usize)
 fn roll_up(
     sheet: &[u8],
     contents: Contents,
-    places: &[u64],
-    lengths: &[u64],
+    calendars: &[PlanCalendar],
     work: &mut [i64],
 ) -> Result<(), ClockError>
-    requires { ToShow sheet.now contents places.now lengths.now work.old × ToRoll (plan_of sheet.now contents) (state_of contents.activities contents.links work.old) }
+    requires { ToShow sheet.now contents calendars.now work.old × ToRoll (plan_of sheet.now contents) (state_of contents.activities contents.links work.old) }
     ensures { ((q : Ran) → ended (shown_in (plan_of sheet.now contents) (state_of contents.activities contents.links work.new)) result ≡ through (rolled (plan_of sheet.now contents) q) (deepest_first (plan_of sheet.now contents) q contents.activities) (shown_in (plan_of sheet.now contents) (state_of contents.activities contents.links work.old))) × Frame 20 35 0 0 (state_of contents.activities contents.links work.old) (state_of contents.activities contents.links work.new) × (length work.new ≡ length work.old) }
 {
     let project = project::records::read_project(sheet, 0);
     prepare(work, contents.activities, contents.links);
-    roll_all(sheet, contents, places, lengths, project, work)
+    roll_all(sheet, contents, calendars, project, work)
 }
 
 // The results: what is shown of each activity, and summaries rolled up from their children. `t` links are kept.
 pub fn results(
     sheet: &[u8],
     contents: Contents,
-    places: &[u64],
-    lengths: &[u64],
+    calendars: &[PlanCalendar],
     t: usize,
     work: &mut [i64],
 ) -> Result<(), ClockError>
-    requires { Ready sheet.now contents places.now t work.old × Recorded (plan_of sheet.now contents) (state_of contents.activities contents.links work.old) × Lengths (plan_of sheet.now contents) lengths.now }
+    requires { Ready sheet.now contents calendars.now t work.old × Recorded (plan_of sheet.now contents) (state_of contents.activities contents.links work.old) × Lengths (plan_of sheet.now contents) calendars.now }
     ensures { ((e : ℕ) (other : ℕ → Bool) → ended (shown_in (plan_of sheet.now contents) (state_of contents.activities contents.links work.new)) result ≡ results (plan_of sheet.now contents) (ran_in (plan_of sheet.now contents) (state_of contents.activities contents.links work.old) e other)) × Frame 20 35 0 0 (state_of contents.activities contents.links work.old) (state_of contents.activities contents.links work.new) × (length work.new ≡ length work.old) }
 {
-    results::show_all(sheet, contents, places, lengths, work)?;
-    roll_up(sheet, contents, places, lengths, work)
+    results::show_all(sheet, contents, calendars, work)?;
+    roll_up(sheet, contents, calendars, work)
 }

@@ -14,6 +14,7 @@ use Rattle.order.specs.Ids.{id_of, summary}
 use Rattle.order.specs.Ties.{calendar_of}
 use Rattle.passes.specs.Plan.{recorded}
 use Rattle.passes.specs.Floats.{day_of}
+use Rattle.calendars.specs.declared.plan_calendar.PlanCalendar.{PlanCalendar}
 use Rattle.calendars.specs.Calendars.{Lengths}
 use Rattle.dates.specs.Standing.{Recorded}
 use Rattle.results.specs.declared.Shown.{Shown}
@@ -57,10 +58,10 @@ rows_in p S zero = []
 rows_in p S (suc n) = rows_in p S n ++ row_in p S n
 
 -- a sheet that was read, day lengths, each activity's calendar among them, and in the memory the summaries' marks and the recorded work
-pub record ToWrite (s : List ℕ) (c : Contents) (lengths : List ℕ) (xs : List ℤ) : Type 0 where
+pub record ToWrite (s : List ℕ) (c : Contents) (calendars : List PlanCalendar) (xs : List ℤ) : Type 0 where
   pub read : SheetRead s c
   pub room : Room c.activities c.links xs
-  pub days : Lengths (plan_of s c) lengths
+  pub days : Lengths (plan_of s c) calendars
   pub named : (i : ℕ) → i < c.activities → calendar_of (plan_of s c) i < c.calendars
   pub marks : (i : ℕ) → i < c.activities → (state_of c.activities c.links xs).act is_summary i ≡ bit (summary (plan_of s c) i)
   pub recorded : Recorded (plan_of s c) (state_of c.activities c.links xs)

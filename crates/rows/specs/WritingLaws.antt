@@ -20,6 +20,7 @@ use Rattle.order.specs.Ids.{id_of, summary}
 use Rattle.passes.specs.Plan.{origin, recorded}
 use Rattle.passes.specs.Floats.{day_of}
 use Rattle.passes.specs.Run.{Ran}
+use Rattle.calendars.specs.declared.plan_calendar.PlanCalendar.{PlanCalendar}
 use Rattle.calendars.specs.Calendars.{Lengths}
 use Rattle.dates.specs.ColumnLaws.{column_at}
 use Rattle.dates.specs.Standing.{Ready, Recorded}
@@ -32,8 +33,8 @@ use Rattle.results.specs.ViewLaws.{to_at_lem}
 use Rattle.rows.specs.Writing.{stored_from, row_fields, row_with, row_in, rows_in, ToWrite}
 
 -- ---- what is lent
-pub to_write : {s : List ℕ} {c : Contents} {places lengths : List ℕ} {t : ℕ} {xs : List ℤ} → Ready s c places t xs → Lengths (plan_of s c) lengths
-    → Recorded (plan_of s c) (state_of c.activities c.links xs) → ToWrite s c lengths xs
+pub to_write : {s : List ℕ} {c : Contents} {calendars : List PlanCalendar} {t : ℕ} {xs : List ℤ} → Ready s c calendars t xs → Lengths (plan_of s c) calendars
+    → Recorded (plan_of s c) (state_of c.activities c.links xs) → ToWrite s c calendars xs
 unfolding plan_of
 to_write {s} {c} R L D = record {
   read = R.read;

@@ -12,6 +12,7 @@ ghost use Rattle.results.specs.View.{ran_in, shown_in};
 ghost use Rattle.results.specs.Showing.{Holds};
 ghost use Rattle.rows.specs.Writing.{ToWrite, stored_from, day_fields, float_fields, minute_if, work_fields, row_fields, row_in};
 
+use calendars::PlanCalendar;
 use placing::Actual;
 use results::Shown;
 use sheet::Contents;
@@ -127,12 +128,12 @@ fn write_fields(
 fn write_row(
     sheet: &[u8],
     contents: Contents,
-    lengths: &[u64],
+    calendars: &[PlanCalendar],
     work: &[i64],
     results: &mut [i64],
     i: usize,
 )
-    requires { ToWrite sheet.now contents lengths.now work.now × (i < contents.activities) × (15 * i + 15 ≤ length results.old) }
+    requires { ToWrite sheet.now contents calendars.now work.now × (i < contents.activities) × (15 * i + 15 ≤ length results.old) }
     ensures { results.new ≡ stored_from results.old (15 * i) 0 (row_in (plan_of sheet.now contents) (state_of contents.activities contents.links work.now) i) }
 {
     let a = contents.activities;
@@ -150,7 +151,7 @@ fn write_row(
         results,
         15 * i,
         id,
-        lengths[k],
+        calendars[k].day_length,
         x,
         is_summary,
         actual,
@@ -164,15 +165,15 @@ fn write_row(
 pub fn write_rows(
     sheet: &[u8],
     contents: Contents,
-    lengths: &[u64],
+    calendars: &[PlanCalendar],
     work: &[i64],
     results: &mut [i64],
 )
-    requires { ToWrite sheet.now contents lengths.now work.now × (15 * contents.activities ≤ length results.old) }
+    requires { ToWrite sheet.now contents calendars.now work.now × (15 * contents.activities ≤ length results.old) }
     ensures { (e : ℕ) (other : ℕ → Bool) → results.new ≡ rows_below (plan_of sheet.now contents) (ran_in (plan_of sheet.now contents) (state_of contents.activities contents.links work.now) e other) (shown_in (plan_of sheet.now contents) (state_of contents.activities contents.links work.now)) contents.activities ++ drop (15 * contents.activities) results.old }
 {
     for i in 0..contents.activities {
-        write_row(sheet, contents, lengths, work, results, i);
+        write_row(sheet, contents, calendars, work, results, i);
     }
 }
 

@@ -17,6 +17,7 @@ ghost use Rattle.sched.specs.Answers.{refusal_number, refusal_id};
 ghost use Rattle.sched.specs.Outcome.{Lent, planned, outcome};
 ghost use Rattle.sched.specs.CallLaws.{ended_with, zeros, LentAs, AcceptedAs};
 
+use calendars::PlanCalendar;
 use judges::SheetError;
 use order::PlanError;
 use sheet::Contents;
@@ -129,17 +130,17 @@ fn refuse(names: &mut [u32], work: &mut [i64], error: ClockError) -> Result<Acce
 fn accept(
     sheet: &[u8],
     contents: Contents,
-    lengths: &[u64],
+    calendars: &[PlanCalendar],
     results: &mut [i64],
     work: &mut [i64],
     ignored: usize,
     ends: u64,
 ) -> Accepted
-    requires { ToWrite sheet.now contents lengths.now work.old × (15 * contents.activities ≤ length results.old) }
+    requires { ToWrite sheet.now contents calendars.now work.old × (15 * contents.activities ≤ length results.old) }
     ensures { ((e : ℕ) (other : ℕ → Bool) → AcceptedAs (plan_of sheet.now contents) (ran_in (plan_of sheet.now contents) (state_of contents.activities contents.links work.old) e other) (shown_in (plan_of sheet.now contents) (state_of contents.activities contents.links work.old)) ignored ends results.old results.new result) × (work.new ≡ zeros work.old) }
 {
     let day = rows::finish_day(sheet, contents, work);
-    rows::write_rows(sheet, contents, lengths, work, results);
+    rows::write_rows(sheet, contents, calendars, work, results);
     cells::clear(work);
     Accepted {
         finish_day: day,
@@ -153,8 +154,7 @@ fn accept(
 fn show_plan(
     sheet: &[u8],
     contents: Contents,
-    places: &[u64],
-    lengths: &[u64],
+    calendars: &[PlanCalendar],
     t: usize,
     last: u64,
     ignored: usize,
@@ -163,12 +163,12 @@ fn show_plan(
     names: &mut [u32],
     work: &mut [i64],
 ) -> Result<Accepted, Refusal>
-    requires { Ready sheet.now contents places.now t work.old × Recorded (plan_of sheet.now contents) (state_of contents.activities contents.links work.old) × Lengths (plan_of sheet.now contents) lengths.now × (15 * contents.activities ≤ length results.old) × (ignored ≡ length (ignored_links (plan_of sheet.now contents))) × (ends ≡ open_ends (plan_of sheet.now contents)) × RanTo (plan_of sheet.now contents) (state_of contents.activities contents.links work.old) last }
+    requires { Ready sheet.now contents calendars.now t work.old × Recorded (plan_of sheet.now contents) (state_of contents.activities contents.links work.old) × Lengths (plan_of sheet.now contents) calendars.now × (15 * contents.activities ≤ length results.old) × (ignored ≡ length (ignored_links (plan_of sheet.now contents))) × (ends ≡ open_ends (plan_of sheet.now contents)) × RanTo (plan_of sheet.now contents) (state_of contents.activities contents.links work.old) last }
     ensures { (m : Lent) → LentAs m (plan_of sheet.now contents) results.old names.old work.old → ended_with result results.new names.new work.new ≡ planned m (plan_of sheet.now contents) }
 {
     // No `?`: names and memory are cleared before the refusal goes on.
-    match rollup::results(sheet, contents, places, lengths, t, work) {
-        Ok(()) => Ok(accept(sheet, contents, lengths, results, work, ignored, ends)),
+    match rollup::results(sheet, contents, calendars, t, work) {
+        Ok(()) => Ok(accept(sheet, contents, calendars, results, work, ignored, ends)),
         Err(e) => refuse(names, work, e),
     }
 }
@@ -177,8 +177,7 @@ fn show_plan(
 fn run_plan(
     sheet: &[u8],
     contents: Contents,
-    places: &[u64],
-    lengths: &[u64],
+    calendars: &[PlanCalendar],
     t: usize,
     ignored: usize,
     ends: u64,
@@ -186,13 +185,13 @@ fn run_plan(
     names: &mut [u32],
     work: &mut [i64],
 ) -> Result<Accepted, Refusal>
-    requires { Ready sheet.now contents places.now t work.old × Lengths (plan_of sheet.now contents) lengths.now × (15 * contents.activities ≤ length results.old) × (ignored ≡ length (ignored_links (plan_of sheet.now contents))) × (ends ≡ open_ends (plan_of sheet.now contents)) }
+    requires { Ready sheet.now contents calendars.now t work.old × Lengths (plan_of sheet.now contents) calendars.now × (15 * contents.activities ≤ length results.old) × (ignored ≡ length (ignored_links (plan_of sheet.now contents))) × (ends ≡ open_ends (plan_of sheet.now contents)) }
     ensures { (m : Lent) → LentAs m (plan_of sheet.now contents) results.old names.old work.old → ended_with result results.new names.new work.new ≡ planned m (plan_of sheet.now contents) }
 {
     // No `?`: names and memory are cleared before the refusal goes on.
-    match run::run(sheet, contents, places, t, work) {
+    match run::run(sheet, contents, calendars, t, work) {
         Ok(last) => show_plan(
-            sheet, contents, places, lengths, t, last, ignored, ends, results, names, work,
+            sheet, contents, calendars, t, last, ignored, ends, results, names, work,
         ),
         Err(error) => refuse(names, work, error),
     }
@@ -202,21 +201,19 @@ fn run_plan(
 fn plan_at(
     sheet: &[u8],
     contents: Contents,
-    places: &[u64],
-    lengths: &[u64],
+    calendars: &[PlanCalendar],
     results: &mut [i64],
     names: &mut [u32],
     work: &mut [i64],
 ) -> Result<Accepted, Refusal>
-    requires { SheetRead sheet.now contents × Places sheet.now contents places.now × Lengths (plan_of sheet.now contents) lengths.now × (15 * contents.activities ≤ length results.old) × (max (contents.activities + 1) contents.links ≤ length names.old) × Room contents.activities contents.links work.old }
+    requires { SheetRead sheet.now contents × Places sheet.now contents calendars.now × Lengths (plan_of sheet.now contents) calendars.now × (15 * contents.activities ≤ length results.old) × (max (contents.activities + 1) contents.links ≤ length names.old) × Room contents.activities contents.links work.old }
     ensures { ended_with result results.new names.new work.new ≡ planned (record { results = results.old; names = names.old; work = work.old }) (plan_of sheet.now contents) }
 {
-    let counts = checks::check_plan(sheet, contents, places, lengths, names, work)?;
+    let counts = checks::check_plan(sheet, contents, calendars, names, work)?;
     run_plan(
         sheet,
         contents,
-        places,
-        lengths,
+        calendars,
         counts.kept,
         counts.ignored,
         counts.open_ends,
@@ -239,8 +236,8 @@ fn plan_sheet(
 {
     let mut places = [0u64; 450];
     let mut lengths = [0u64; 16];
-    calendars::locate(sheet, contents, &mut places, &mut lengths);
-    plan_at(sheet, contents, &places, &lengths, results, names, work)
+    calendars::locate(sheet, contents, &mut calendars, &mut calendars);
+    plan_at(sheet, contents, &calendars, &calendars, results, names, work)
 }
 
 // The scheduling call.

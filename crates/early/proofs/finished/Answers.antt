@@ -6,7 +6,7 @@ use Rattle.early.specs.EarlyLaws.{finished_at, finished_far, finished_refused, a
 use Rattle.early.proofs.finished.Goals as goal
 
 pub returns : goal.returns
-returns c = (λ p d i T. sym (finished_at p d i _ _ _ c.finish_of.ensures _ _ c.in_ok-g.was T.origin_is c.bounded.ensures _ c.in_ok-f.was), at_fits _ _ _ c.requires.1 (bounded_below _ _ c.requires.3 (sym c.bounded.ensures ∙ c.in_ok-f.was)) c.requires.2)
+returns c = (λ p d i T. sym (finished_at p d i _ _ _ c.finish_of.ensures _ _ c.in_ok-g.was T.origin_is c.bounded.ensures _ c.in_ok-f.was), at_fits _ _ _ c.requires.0 (bounded_below _ _ c.requires.2 (sym c.bounded.ensures ∙ c.in_ok-f.was)) c.requires.1)
 
 pub returns-in_err-f : goal.returns-in_err-f
 returns-in_err-f c = rw (handed_on _ _ c.from_residual-in_err-f.ensures.1) ((λ p d i T. sym (finished_far p d i _ _ _ c.finish_of.ensures _ _ c.in_ok-g.was T.origin_is c.bounded.ensures _ c.in_err-f.was), refused_fits _))

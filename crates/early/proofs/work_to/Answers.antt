@@ -17,4 +17,4 @@ pub returns-in_err-e-in-Some : goal.returns-in_err-e-in-Some
 returns-in_err-e-in-Some c = rw (handed_on _ _ c.from_residual.ensures.1) ((λ p d i H T. sym (work_refused H _ _ _ c.in-Some.is _ c.midnight.ensures.0 c.previous_finish.ensures _ c.in_err-e-in-Some.was), refused_below _))
 
 pub returns-in-None : goal.returns-in-None
-returns-in-None c = (λ p d i H T. sym (work_unexpected H _ _ c.in-None.is), at_below _ c.requires.1)
+returns-in-None c = (λ p d i H T. sym (work_unexpected H _ _ c.in-None.is), at_below _ c.requires)

@@ -7,7 +7,7 @@ use Prim.Native.Nat.{ℕ, ◌<◌}
 use mir.Syntax.{w64}
 use mir.Facts.{to_z-of_z}
 use Rattle.worktime.specs.Reads.{at_or_refused}
-use Rattle.clock.specs.On.{worked_on}
+use Rattle.clock.specs.On.{worked_by}
 use Rattle.memory.specs.State.{state_of}
 use Rattle.order.specs.Plan.{plan_of}
 use Rattle.calendars.specs.CalendarLaws.{calendar_valid, calendar_worked}
@@ -42,7 +42,7 @@ returns c =
     let p = plan_of x.sheet.now x.contents in
     let S = state_of x.contents.activities x.contents.links x.work.now in
     let d = early_in p S in
-    let w = worked_on x.week x.sheet.now x.at x.n in
+    let w = worked_by x.calendar.now in
     let i : x.i < p.activities = omega (arith, activities_are x.sheet.now x.contents, q.2) in
     let f =
     rw (to_z-of_z {w = w64} {z = c.in_ok-slack.slack} (record { sfits = search rules }), to_z-of_z {w = w64} {z = c.in_ok-total.total} (record { sfits = search rules }))
@@ -60,7 +60,7 @@ returns-in_err-total c = rw (handed_on _ _ c.from_residual-in_err-total.ensures.
     let p = plan_of x.sheet.now x.contents in
     let S = state_of x.contents.activities x.contents.links x.work.now in
     let d = early_in p S in
-    let w = worked_on x.week x.sheet.now x.at x.n in
+    let w = worked_by x.calendar.now in
     let i : x.i < p.activities = omega (arith, activities_are x.sheet.now x.contents, q.2) in (
       free_of_late q.0 x.i x.finish _ c.slack_of.ensures _ _ c.in_ok-slack.was _ w (calendar_worked q.3) (c.get_act-ef.ensures.0 ∙ sym (ef_at p S x.i i)) _
           (sym c.between.ensures ∙ c.in_err-total.was)

@@ -1,7 +1,7 @@
 -- `floats::gap_at` meets its contract. Each way out has its law.
 use mathlib.Core.Path.{◌∙◌}
 use native.Mathlib.Omega.{arith}
-use Rattle.clock.specs.On.{worked_on}
+use Rattle.clock.specs.On.{worked_by}
 use Rattle.order.specs.Plan.{plan_of}
 use Rattle.bounds.specs.ReadyLaws.{kept_within}
 use Rattle.bounds.specs.LinkLaws.{to_in, lead_fits}
@@ -20,17 +20,17 @@ get_act-target-requires c =
     let q = c.requires in (q.0.room, to_in q.0 _ q.1 _ c.tie_at-tie.ensures, c.target_field-field.ensures.1)
 
 pub between-requires : goal.between-requires
-between-requires c = c.requires.2
+between-requires c = c.args.calendar.now.valid
 
 pub returns : goal.returns
 returns c =
     let x = c.args in
-    let w = worked_on x.week x.sheet.now x.at x.n in
+    let w = worked_by x.calendar.now in
     c.between.ensures
     ∙ gap_between c.requires.0 x.k c.requires.1 _ c.tie_at-tie.ensures w x.start x.finish _ c.forward_bound.ensures _ _ _ c.in_ok-b.was
     (c.target_field-field.ensures.0 (plan_of x.sheet.now x.contents)) c.get_act-target.ensures.0
 
 pub returns-in_err-b : goal.returns-in_err-b
 returns-in_err-b c = rw (handed_on _ _ c.from_residual.ensures.1) (let x = c.args in
-    let w = worked_on x.week x.sheet.now x.at x.n in
+    let w = worked_by x.calendar.now in
     gap_refused c.requires.0 x.k c.requires.1 _ c.tie_at-tie.ensures w x.start x.finish _ c.forward_bound.ensures _ c.in_err-b.was)

@@ -4,7 +4,7 @@ use mathlib.Core.Path.{sym, ◌∙◌}
 use native.Mathlib.Omega.{arith}
 use mir.Facts.{to_z-of_z}
 use mir.Syntax.{w64}
-use Rattle.clock.specs.On.{worked_on}
+use Rattle.clock.specs.On.{worked_by}
 use Rattle.calendars.specs.CalendarLaws.{calendar_valid, calendar_worked}
 use Rattle.bounds.specs.ReadyLaws.{kept_within}
 use Rattle.number.specs.Exits.{handed_on}
@@ -25,7 +25,7 @@ gap_at-requires c = let q = c.requires in (q.0, c.loop-k-test.true, calendar_val
 pub returns-in_err-gap : goal.returns-in_err-gap
 returns-in_err-gap c = rw (handed_on _ _ c.from_residual.ensures.1) (let x = c.args in
     let q = c.requires in
-    let w = worked_on x.week x.sheet.now x.at x.n in
+    let w = worked_by x.calendar.now in
     let L = c.loop-k in
     let C = rw (to_z-of_z c.ranges.slack) at L.invariant in
     slack_stop q.0 x.i x.slack C c.loop-k-test.true _ (sym (c.gap_at.ensures ∙ gap_own q.0 x.i L.k x.start x.finish w (calendar_worked q.2) q.3) ∙ c.in_err-gap.was))
@@ -43,7 +43,7 @@ pub loop-k-preserved : goal.loop-k-preserved
 loop-k-preserved c =
     let x = c.args in
     let q = c.requires in
-    let w = worked_on x.week x.sheet.now x.at x.n in
+    let w = worked_by x.calendar.now in
     let L = c.loop-k in
     let C = rw (to_z-of_z c.ranges.slack) at L.invariant in
     let g = rw (to_z-of_z {w = w64} {z = c.in_ok-gap.gap} (record { sfits = search rules })) at c.min-least.ensures in

@@ -4,7 +4,7 @@ use mathlib.Core.Path.{sym, ◌∙◌}
 use native.Mathlib.Omega.{arith}
 use mir.Syntax.{w64}
 use mir.Facts.{to_z-of_z}
-use Rattle.clock.specs.On.{worked_on}
+use Rattle.clock.specs.On.{worked_by}
 use Rattle.memory.specs.State.{state_of}
 use Rattle.order.specs.Plan.{plan_of}
 use Rattle.calendars.specs.CalendarLaws.{calendar_valid, calendar_worked}
@@ -38,7 +38,7 @@ returns c =
     let q = c.requires in
     let p = plan_of x.sheet.now x.contents in
     let S = state_of x.contents.activities x.contents.links x.work.now in
-    let w = worked_on x.week x.sheet.now x.at x.n in
+    let w = worked_by x.calendar.now in
     let l = ef_at p S x.i (omega (arith, activities_are x.sheet.now x.contents, q.2)) in
     let e = rw (to_z-of_z {w = w64} {z = c.in_ok-slack.slack} (record { sfits = search rules })) at c.least_slack.ensures in
     e ∙ slack_found q.0 x.i x.finish _ w (calendar_worked q.3) (c.get_act-ef.ensures.0 ∙ sym l) _ (sym c.between.ensures ∙ c.in_ok-slack.was)
@@ -48,6 +48,6 @@ returns-in_err-slack c = rw (handed_on _ _ c.from_residual.ensures.1) (let x = c
     let q = c.requires in
     let p = plan_of x.sheet.now x.contents in
     let S = state_of x.contents.activities x.contents.links x.work.now in
-    let w = worked_on x.week x.sheet.now x.at x.n in
+    let w = worked_by x.calendar.now in
     let l = ef_at p S x.i (omega (arith, activities_are x.sheet.now x.contents, q.2)) in
     slack_refused q.0 x.i x.finish _ w (calendar_worked q.3) (c.get_act-ef.ensures.0 ∙ sym l) _ (sym c.between.ensures ∙ c.in_err-slack.was))

@@ -15,10 +15,10 @@ loop-k-init c =
 
 pub raised_by-requires : goal.raised_by-requires
 raised_by-requires c =
-    (c.requires.0, c.requires.1, c.loop-k-test.true, c.requires.3)
+    (c.requires.0, c.requires.1, c.loop-k-test.true, c.args.calendar.now.valid)
 
 pub returns-in_err-s : goal.returns-in_err-s
-returns-in_err-s c = rw (handed_on _ _ c.from_residual.ensures.1) (raising_stop c.args.sheet.now c.args.contents c.args.t c.args.work.now c.args.i c.args.floor c.requires.0 c.loop-k.invariant c.loop-k-test.true (c.raised_by.ensures _ c.requires.4) _ c.in_err-s.was)
+returns-in_err-s c = rw (handed_on _ _ c.from_residual.ensures.1) (raising_stop c.args.sheet.now c.args.contents c.args.t c.args.work.now c.args.i c.args.floor c.requires.0 c.loop-k.invariant c.loop-k-test.true (c.raised_by.ensures _ c.requires.3) _ c.in_err-s.was)
 
 pub get_link-k-requires : goal.get_link-k-requires
 get_link-k-requires c =
@@ -30,7 +30,7 @@ loop-k-smaller c =
 
 pub loop-k-preserved : goal.loop-k-preserved
 loop-k-preserved c =
-    raising_turn c.args.sheet.now c.args.contents c.args.t c.args.work.now c.args.i c.args.floor c.requires.0 c.loop-k.invariant c.loop-k-test.true (c.raised_by.ensures _ c.requires.4) _ c.in_ok-s.was _ c.get_link-k.ensures.0
+    raising_turn c.args.sheet.now c.args.contents c.args.t c.args.work.now c.args.i c.args.floor c.requires.0 c.loop-k.invariant c.loop-k-test.true (c.raised_by.ensures _ c.requires.3) _ c.in_ok-s.was _ c.get_link-k.ensures.0
 
 pub returns : goal.returns
 returns c =

@@ -16,13 +16,13 @@ pub get_act-early-requires : goal.get_act-early-requires
 get_act-early-requires c = (c.requires.0.room, c.requires.1, omega arith)
 
 pub lower-requires : goal.lower-requires
-lower-requires c = let p = c.requires in (p.0, p.1, p.2, p.3, p.6)
+lower-requires c = let p = c.requires in (p.0, p.1, c.args.calendar.now.valid, p.2, p.5)
 
 pub hold_late-requires : goal.hold_late-requires
-hold_late-requires c = c.requires.2
+hold_late-requires c = c.args.calendar.now.valid
 
 pub place_late-requires : goal.place_late-requires
-place_late-requires c = (c.requires.2, c.requires.4, c.get_act-early.ensures.1)
+place_late-requires c = (c.args.calendar.now.valid, c.requires.3, c.get_act-early.ensures.1)
 
 pub returns : goal.returns
 returns c =
@@ -33,8 +33,8 @@ returns c =
     let m = late_in p S c.args.last in
     let i = c.args.i in
     let q = c.get_act-early.ensures.0 ∙ sym (early_at R i c.requires.1) in
-    let h = c.hold_late.ensures p d m i c.requires.3 (summary_at R i _ c.requires.1 c.get_act-mark.ensures.0) c.requires.5 in (
-      c.place_late.ensures.0 p d m i c.requires.3 q ∙ sym (unfinished_placed p d m i c.args.last _ _ (sym c.lower.ensures ∙ c.in_ok-f.was) (sym h ∙ c.in_ok-g.was)),
+    let h = c.hold_late.ensures p d m i c.requires.2 (summary_at R i _ c.requires.1 c.get_act-mark.ensures.0) c.requires.4 in (
+      c.place_late.ensures.0 p d m i c.requires.2 q ∙ sym (unfinished_placed p d m i c.args.last _ _ (sym c.lower.ensures ∙ c.in_ok-f.was) (sym h ∙ c.in_ok-g.was)),
       c.place_late.ensures.1,
     )
 
@@ -45,7 +45,7 @@ returns-in_err-g c = rw (handed_on _ _ c.from_residual-in_err-g.ensures.1) (let 
     let d = early_in p S in
     let m = late_in p S c.args.last in
     let i = c.args.i in
-    let h = c.hold_late.ensures p d m i c.requires.3 (summary_at R i _ c.requires.1 c.get_act-mark.ensures.0) c.requires.5 in
+    let h = c.hold_late.ensures p d m i c.requires.2 (summary_at R i _ c.requires.1 c.get_act-mark.ensures.0) c.requires.4 in
     (sym (unfinished_held p d m i c.args.last _ _ (sym c.lower.ensures ∙ c.in_ok-f.was) (sym h ∙ c.in_err-g.was)), fitting_refused _))
 
 pub returns-in_err-f : goal.returns-in_err-f

@@ -25,13 +25,14 @@ use Rattle.placing.specs.declared.Actual.TheVariants.{Unstarted}
 use Rattle.order.specs.Plan.{Plan, plan_of}
 use Rattle.order.specs.Ids.{summary}
 use Rattle.passes.specs.Plan.{recorded, full}
+use Rattle.calendars.specs.declared.plan_calendar.PlanCalendar.{PlanCalendar}
 use Rattle.dates.specs.Standing.{Ready}
 use Rattle.remaining.specs.LeftLaws.{recorded_summary, recorded_none, full_summary, full_else, left_unstarted, is_below}
 use Rattle.remaining.specs.RowLaws.{row_kept}
 use Rattle.remaining.proofs.record_one.Goals as goal
 
 -- the mark m tells summaries from others
-module _ {s : List ℕ} {x : Contents} {places : List ℕ} {t : ℕ} {xs : List ℤ} (R : Ready s x places t xs) {i m : ℕ} (l : i < x.activities) (e : m ≡ (state_of x.activities x.links xs).act is_summary i) where
+module _ {s : List ℕ} {x : Contents} {calendars : List PlanCalendar} {t : ℕ} {xs : List ℤ} (R : Ready s x calendars t xs) {i m : ℕ} (l : i < x.activities) (e : m ≡ (state_of x.activities x.links xs).act is_summary i) where
   marked : m ≡ bit (summary (plan_of s x) i)
   unfolding plan_of
   marked = e ∙ R.standing.marks i l

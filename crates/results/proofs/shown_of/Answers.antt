@@ -34,5 +34,5 @@ returns c =
           rw (to_z-of_z f)
           (shown_in_lem p c.args.project c.args.kind c.args.day_length _ (Ok c.args.actual) c.args.t c.in_ok-total.total _ _ (sym (c.total_of.ensures p) ∙ c.in_ok-total.was)
           (c.days_of-days.ensures p) y (rw (to_z-of_z f) at (c.critical_of-critical.ensures p)))),
-      record { es = l.0; ef = l.1; ls = l.2; lf = l.3; free = c.requires.4; finish = c.requires.2; late = c.requires.3 },
+      record { es = l.0; ef = l.1; ls = l.2; lf = l.3; free = c.requires.3; finish = c.requires.1; late = c.requires.2 },
     )
