@@ -1,6 +1,6 @@
 -- Each calendar of a sheet that was read is valid, and works the minutes that the plan says.
 use Rattle.std.specs.Prelude.{◌≡◌, List, ℕ, ◌+◌, ◌≤◌, ◌<◌, ltb, min, get_or}
-use Rattle.std.proofs.Common.{⊎_elim, arith, lt-ltb, le-ltb, sym, ◌∙◌}
+use Rattle.std.proofs.Common.{⊎_elim, arith, lt-ltb, le-ltb, sym, ap, subst, ◌∙◌}
 use Rattle.number.specs.Order.{lt_or_le}
 use Rattle.worktime.specs.Reads.{on_true, on_false}
 use Rattle.calendar.specs.declared.Period.{Period}
@@ -12,6 +12,8 @@ use Rattle.calendar.specs.ValidLaws.{clock_valid}
 use Rattle.sheet.specs.declared.Contents.{Contents}
 use Rattle.sheet.specs.Known.{SheetRead}
 use Rattle.sheet.specs.Places.{week_at, calendar_at, exceptions_at, exception_count}
+use Rattle.project.specs.declared.Activity.{Activity}
+use Rattle.order.specs.Ties.{calendar_of}
 use Rattle.order.specs.Plan.{plan_of, week_of_calendar, exception_place, exception_number, hours_of_calendar}
 use Rattle.calendars.specs.declared.plan_calendar.PlanCalendar.{PlanCalendar}
 use Rattle.calendars.specs.Calendars.{IsCalendar, InPlan, Places, no_row}
@@ -81,3 +83,7 @@ module _ {s : List ℕ} {c : Contents} {k : ℕ} {calendar : Calendar} (C : InPl
   -- the same of a calendar as the clock takes it
   pub in_plan_worked : worked_by calendar ≡ worked ((plan_of s c).hours k)
   in_plan_worked = rw C.sheet_is (calendar_worked C.is)
+
+  -- the calendar of an activity in hand
+  pub in_plan_own : (i : ℕ) {activity : Activity} → activity ≡ (plan_of s c).activity i → k ≡ activity.calendar → InPlan s c (calendar_of (plan_of s c) i) calendar
+  in_plan_own i e f = subst (λ (j : ℕ). InPlan s c j calendar) (f ∙ ap (λ (x : Activity). x.calendar) e) C

@@ -92,9 +92,7 @@ fn constrained(
     match placing::dates::constraint_time(activity, calendar, constraint)? {
         Some(x) => {
             let t = placing::bounded(times.origin, x)?;
-            at_early(
-                activity, calendar, left, times, kind, t, start,
-            )
+            at_early(activity, calendar, left, times, kind, t, start)
         }
         None => Ok(start),
     }
@@ -287,9 +285,7 @@ pub fn place(
     requires { (left < 2 ^ 63) × (times.origin < 2 ^ 43) }
     ensures { ((p : Plan) (d : Early) (i : ℕ) → InHand p d i activity (worked_by calendar.now) left → IsTimes p times → is_summary ≡ summary p i → placed_as p d i result ≡ after_start p d i recorded start) × Fits result }
 {
-    let u = start_by(
-        activity, calendar, left, times, is_summary, recorded, start,
-    )?;
+    let u = start_by(activity, calendar, left, times, is_summary, recorded, start)?;
     placed(activity, calendar, left, times, is_summary, u)
 }
 

@@ -3,8 +3,8 @@ use Rattle.std.specs.Prelude.{◌≡◌, List, ℕ, ◌-◌, ◌≤◌, ◌<◌,
 use Rattle.worktime.specs.declared.ClockError.{ClockError}
 use Rattle.std.proofs.Common.{sym, ap, ◌∙◌, arith}
 use Rattle.number.specs.BitLaws.{mark_flag}
-use Rattle.calendar.specs.declared.Period.{Period}
-use Rattle.clock.specs.On.{worked_on}
+use Rattle.calendar.specs.declared.value.Calendar.{Calendar}
+use Rattle.clock.specs.On.{worked_by}
 use Rattle.project.specs.declared.Activity.{Activity}
 use Rattle.placing.specs.Placing.{via}
 use Rattle.cells.specs.Chain.{after}
@@ -19,8 +19,8 @@ use Rattle.passes.specs.Plan.{ties_into}
 use Rattle.passes.specs.Dates.{Early}
 use Rattle.passes.specs.Forward.{link_start, raised}
 use Rattle.calendars.specs.declared.plan_calendar.PlanCalendar.{PlanCalendar}
-use Rattle.calendars.specs.Calendars.{IsCalendar}
-use Rattle.calendars.specs.CalendarLaws.{calendar_worked}
+use Rattle.calendars.specs.Calendars.{InPlan}
+use Rattle.calendars.specs.CalendarLaws.{in_plan_worked}
 use Rattle.dates.specs.Columns.{early_in}
 use Rattle.dates.specs.ColumnLaws.{column_at}
 use Rattle.dates.specs.Standing.{Ready}
@@ -79,24 +79,14 @@ module _ (s : List ℕ) (c : Contents) (t : ℕ) (xs : List ℤ) (i floor : ℕ)
       within : i < (plan_of s c).activities
       within = omega (arith, activities_are s c)
 
-      pub hand_is : {activity : Activity} {week : List (List Period)} {at n left : ℕ} → activity ≡ (plan_of s c).activity i
-          → IsCalendar s c (calendar_of (plan_of s c) i) week at n → left ≡ state.act work_left i
-          → InHand plan dates i activity (worked_on week s at n) left
+      pub hand_is : {activity : Activity} {calendar : Calendar} {left : ℕ} → activity ≡ (plan_of s c).activity i
+          → InPlan s c (calendar_of (plan_of s c) i) calendar → left ≡ state.act work_left i
+          → InHand plan dates i activity (worked_by calendar) left
       hand_is a C e = record {
         activity_is = a;
-        own_is = sym (calendar_worked C);
+        own_is = sym (in_plan_worked C);
         left_is = e ∙ sym (column_at (plan_of s c).activities (λ i. 0) work_left state i within);
       }
 
       pub flag_is : (mark : ℕ) → mark ≡ state.act is_summary i → ltb 0 mark ≡ summary (plan_of s c) i
       flag_is mark e = mark_flag (summary (plan_of s c) i) (e ∙ R.standing.marks i within)
-
--- the calendar that an activity names
-pub calendar_is : (s : List ℕ) (c : Contents) (i : ℕ) (activity : Activity) (week : List (List Period)) (at n : ℕ) → activity ≡ (plan_of s c).activity i
-    → week ≡ week_of_calendar s c activity.calendar → at ≡ exception_place s c activity.calendar → n ≡ exception_number s c activity.calendar
-    → IsCalendar s c (calendar_of (plan_of s c) i) week at n
-calendar_is s c i activity week at n e a b d = record {
-  week_is = a ∙ ap (λ (x : Activity). week_of_calendar s c x.calendar) e;
-  at_is = b ∙ ap (λ (x : Activity). exception_place s c x.calendar) e;
-  n_is = d ∙ ap (λ (x : Activity). exception_number s c x.calendar) e;
-}

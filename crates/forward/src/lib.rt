@@ -134,15 +134,7 @@ fn early_with(
         left,
         times.floor,
     )?;
-    early::place(
-        activity,
-        calendar,
-        left,
-        times,
-        0 < mark,
-        recorded,
-        start,
-    )
+    early::place(activity, calendar, left, times, 0 < mark, recorded, start)
 }
 
 // The early dates of activity `i`: completed work apart.

@@ -6,7 +6,7 @@ use Rattle.early.specs.EarlyLaws.{placed_from, placed_uncounted, placed_far, pla
 use Rattle.early.proofs.placed.Goals as goal
 
 pub finished-requires : goal.finished-requires
-finished-requires c = (c.args.calendar.now.valid, bounded_below _ _ c.requires.1 (sym c.bounded.ensures ∙ c.in_ok-s.was), c.minutes_from.ensures.1 _ c.in_ok-m.was, c.requires.1)
+finished-requires c = (bounded_below _ _ c.requires.1 (sym c.bounded.ensures ∙ c.in_ok-s.was), c.minutes_from.ensures.1 _ c.in_ok-m.was, c.requires.1)
 
 pub returns : goal.returns
 returns c = (λ p d i H T q. c.finished.ensures.0 p d i T ∙ sym (placed_from H _ c.place_start.ensures _ _ c.in_ok-t.was T.origin_is c.bounded.ensures _ c.in_ok-s.was (c.minutes_from.ensures.0 p d i H T q) _ c.in_ok-m.was), c.finished.ensures.1)

@@ -1,7 +1,6 @@
 -- `forward::early_with` meets its contract. Each way out has its law.
 use mathlib.Core.Path.{sym, ◌∙◌}
 use native.Mathlib.Omega.{arith}
-use Rattle.calendars.specs.CalendarLaws.{calendar_valid}
 use Rattle.dates.specs.Columns.{early_in}
 use Rattle.early.specs.EarlyLaws.{refused_fits}
 use Rattle.memory.specs.State.{state_of}
@@ -24,11 +23,11 @@ times_of-times-requires c = c.requires.0.read
 
 pub raise-requires : goal.raise-requires
 raise-requires c =
-    (c.requires.0, c.requires.1, c.requires.2, calendar_valid c.requires.4 c.requires.0.read, (hand_is c.args.sheet.now c.args.contents c.args.t c.args.work.now c.args.i 0 c.requires.0 c.requires.2 c.requires.3 c.requires.4 c.get_act-left.ensures.0))
+    (c.requires.0, c.requires.1, c.requires.2, (hand_is c.args.sheet.now c.args.contents c.args.t c.args.work.now c.args.i 0 c.requires.0 c.requires.2 c.requires.3 c.requires.4 c.get_act-left.ensures.0))
 
 pub place-requires : goal.place-requires
 place-requires c =
-    (calendar_valid c.requires.4 c.requires.0.read, c.get_act-left.ensures.1, c.times_of-times.ensures.1)
+    (c.get_act-left.ensures.1, c.times_of-times.ensures.1)
 
 pub returns : goal.returns
 returns c =

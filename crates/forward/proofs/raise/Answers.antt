@@ -15,7 +15,7 @@ loop-k-init c =
 
 pub raised_by-requires : goal.raised_by-requires
 raised_by-requires c =
-    (c.requires.0, c.requires.1, c.loop-k-test.true, c.args.calendar.now.valid)
+    (c.requires.0, c.requires.1, c.loop-k-test.true)
 
 pub returns-in_err-s : goal.returns-in_err-s
 returns-in_err-s c = rw (handed_on _ _ c.from_residual.ensures.1) (raising_stop c.args.sheet.now c.args.contents c.args.t c.args.work.now c.args.i c.args.floor c.requires.0 c.loop-k.invariant c.loop-k-test.true (c.raised_by.ensures _ c.requires.3) _ c.in_err-s.was)

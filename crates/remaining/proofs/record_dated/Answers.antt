@@ -5,18 +5,18 @@ use mathlib.Core.List.{List}
 use Prim.Native.Nat.{ℕ}
 use Rattle.std.specs.Prelude.{Result, Ok, Err}
 use Rattle.worktime.specs.declared.ClockError.{ClockError}
-use Rattle.calendar.specs.declared.Period.{Period}
+use Rattle.calendar.specs.declared.value.Calendar.{Calendar}
 use Rattle.sheet.specs.declared.Contents.{Contents}
 use Rattle.project.specs.declared.Activity.{Activity}
 use Rattle.placing.specs.declared.Actual.{Actual}
 use Rattle.placing.specs.Placing.{actual}
-use Rattle.clock.specs.On.{worked_on}
-use Rattle.order.specs.Plan.{plan_of, week_of_calendar, exception_place, exception_number}
+use Rattle.clock.specs.On.{worked_by}
+use Rattle.order.specs.Plan.{plan_of}
 use Rattle.order.specs.Ids.{summary}
 use Rattle.order.specs.Ties.{calendar_of}
 use Rattle.passes.specs.Plan.{recorded}
-use Rattle.calendars.specs.Calendars.{IsCalendar}
-use Rattle.calendars.specs.CalendarLaws.{calendar_valid, calendar_worked}
+use Rattle.calendars.specs.Calendars.{InPlan}
+use Rattle.calendars.specs.CalendarLaws.{in_plan_worked, in_plan_own}
 use Rattle.number.specs.Exits.{handed_on}
 use Rattle.remaining.specs.LeftLaws.{recorded_else, left_is, left_below, is_below}
 use Rattle.remaining.specs.RowLaws.{row_kept, row_refused}
@@ -24,33 +24,17 @@ use Rattle.remaining.proofs.record_dated.Goals as goal
 
 -- activity i of the sheet s, in hand
 module _ (s : List ℕ) (k : Contents) (i : ℕ) {a : Activity} (e : a ≡ (plan_of s k).activity i) where
-  -- the activity's own calendar
-  own-calendar : {week : List (List Period)} {at n : ℕ} → week ≡ week_of_calendar s k a.calendar
-      → at ≡ exception_place s k a.calendar → n ≡ exception_number s k a.calendar → IsCalendar s k (calendar_of (plan_of s k) i) week at n
-  own-calendar w f g = record {
-    week_is = w ∙ ap (λ (a : Activity). week_of_calendar s k a.calendar) e;
-    at_is = f ∙ ap (λ (a : Activity). exception_place s k a.calendar) e;
-    n_is = g ∙ ap (λ (a : Activity). exception_number s k a.calendar) e;
-  }
-
-  recorded-is : {week : List (List Period)} {at n : ℕ} → IsCalendar s k (calendar_of (plan_of s k) i) week at n
-      → summary (plan_of s k) i ≡ false → {x : Result Actual ClockError} → x ≡ actual (worked_on week s at n) a.actual_start a.actual_finish → x ≡ recorded (plan_of s k) i
+  recorded-is : {calendar : Calendar} → InPlan s k (calendar_of (plan_of s k) i) calendar
+      → summary (plan_of s k) i ≡ false → {x : Result Actual ClockError} → x ≡ actual (worked_by calendar) a.actual_start a.actual_finish → x ≡ recorded (plan_of s k) i
   recorded-is C f r =
-      r ∙ (λ z. actual (calendar_worked C z) (e z).actual_start (e z).actual_finish) ∙ sym (recorded_else (plan_of s k) i f)
-
-pub actual-requires : goal.actual-requires
-actual-requires c =
-    let x = c.args in
-    calendar_valid
-    (own-calendar x.sheet.now x.contents x.i c.requires.4 c.week_of-week.ensures c.exceptions_of-e.ensures.0 c.exceptions_of-e.ensures.1)
-    c.requires.0
+      r ∙ (λ z. actual (in_plan_worked C z) (e z).actual_start (e z).actual_finish) ∙ sym (recorded_else (plan_of s k) i f)
 
 pub left_of-requires : goal.left_of-requires
 left_of-requires c =
     let x = c.args in (
       c.requires.0,
       c.requires.4,
-      own-calendar x.sheet.now x.contents x.i c.requires.4 c.week_of-week.ensures c.exceptions_of-e.ensures.0 c.exceptions_of-e.ensures.1,
+      in_plan_own c.calendar_of-calendar.ensures c.args.i c.requires.4 refl,
       c.requires.6,
     )
 
@@ -58,7 +42,7 @@ pub keep-requires : goal.keep-requires
 keep-requires c =
     let y = c.args in
     let p = plan_of y.sheet.now y.contents in
-    let C = own-calendar y.sheet.now y.contents y.i c.requires.4 c.week_of-week.ensures c.exceptions_of-e.ensures.0 c.exceptions_of-e.ensures.1 in
+    let C = in_plan_own c.calendar_of-calendar.ensures c.args.i c.requires.4 refl in
     let x = c.in_ok-actual.actual in (
       c.requires.2,
       c.requires.3,
@@ -70,7 +54,7 @@ pub returns : goal.returns
 returns c =
     let y = c.args in
     let p = plan_of y.sheet.now y.contents in
-    let C = own-calendar y.sheet.now y.contents y.i c.requires.4 c.week_of-week.ensures c.exceptions_of-e.ensures.0 c.exceptions_of-e.ensures.1 in
+    let C = in_plan_own c.calendar_of-calendar.ensures c.args.i c.requires.4 refl in
     let x = c.in_ok-actual.actual in
     let e = sym c.in_ok-actual.was ∙ recorded-is y.sheet.now y.contents y.i c.requires.4 C c.requires.5 c.actual.ensures in
     let m = sym c.left_of.ensures ∙ c.in_ok-left.was in
@@ -79,14 +63,14 @@ returns c =
 pub returns-in_err-actual : goal.returns-in_err-actual
 returns-in_err-actual c = rw (handed_on _ _ c.from_residual.ensures.1) (let y = c.args in
     let p = plan_of y.sheet.now y.contents in
-    let C = own-calendar y.sheet.now y.contents y.i c.requires.4 c.week_of-week.ensures c.exceptions_of-e.ensures.0 c.exceptions_of-e.ensures.1 in
+    let C = in_plan_own c.calendar_of-calendar.ensures c.args.i c.requires.4 refl in
     let e = sym c.in_err-actual.was ∙ recorded-is y.sheet.now y.contents y.i c.requires.4 C c.requires.5 c.actual.ensures in
     (row_refused p y.i _ _ (left_is p y.i (Err c.in_err-actual.field-0.0) e), refl))
 
 pub returns-in_err-left : goal.returns-in_err-left
 returns-in_err-left c = rw (handed_on _ _ c.from_residual-in_err-left.ensures.1) (let y = c.args in
     let p = plan_of y.sheet.now y.contents in
-    let C = own-calendar y.sheet.now y.contents y.i c.requires.4 c.week_of-week.ensures c.exceptions_of-e.ensures.0 c.exceptions_of-e.ensures.1 in
+    let C = in_plan_own c.calendar_of-calendar.ensures c.args.i c.requires.4 refl in
     let x = c.in_ok-actual.actual in
     let e = sym c.in_ok-actual.was ∙ recorded-is y.sheet.now y.contents y.i c.requires.4 C c.requires.5 c.actual.ensures in
     (row_refused p y.i _ _ (left_is p y.i (Ok x) e ∙ sym c.left_of.ensures ∙ c.in_err-left.was), refl))

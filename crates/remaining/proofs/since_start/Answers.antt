@@ -8,7 +8,7 @@ use mir.Syntax.{w64}
 use mir.Val.{SFits}
 use Rattle.worktime.specs.Walks.{between}
 use Rattle.order.specs.Plan.{plan_of}
-use Rattle.calendars.specs.CalendarLaws.{calendar_valid, calendar_worked}
+use Rattle.calendars.specs.CalendarLaws.{in_plan_worked}
 use Rattle.dates.specs.ReadLaws.{plan_data_date}
 use Rattle.number.specs.Exits.{handed_on}
 use Rattle.remaining.specs.LeftLaws.{since_none, since_done, since_refused}
@@ -21,9 +21,6 @@ returns-in-None c =
     (since_none (plan_of x.sheet.now x.contents) x.i x.start _ x.whole
     (sym (plan_data_date x.sheet.now x.contents) ∙ sym c.read_optional_date.ensures ∙ c.in-None.is) c.requires.2)
 
-pub between-requires : goal.between-requires
-between-requires c = calendar_valid c.requires.1 c.requires.0
-
 pub returns-in_ok-done-in-Some : goal.returns-in_ok-done-in-Some
 returns-in_ok-done-in-Some c =
     let x = c.args in
@@ -34,7 +31,7 @@ returns-in_ok-done-in-Some c =
     ∙ sym
     (since_done (plan_of x.sheet.now x.contents) x.i x.start _ _ x.whole _
     (sym (plan_data_date x.sheet.now x.contents) ∙ sym c.read_optional_date.ensures ∙ c.in-Some.is) c.requires.2
-    ((λ z. between (sym (calendar_worked c.requires.1) z) x.start (sym u z)) ∙ sym c.between.ensures ∙ c.in_ok-done-in-Some.was))
+    ((λ z. between (sym (in_plan_worked c.requires.1) z) x.start (sym u z)) ∙ sym c.between.ensures ∙ c.in_ok-done-in-Some.was))
 
 pub returns-in_err-done-in-Some : goal.returns-in_err-done-in-Some
 returns-in_err-done-in-Some c = rw (handed_on _ _ c.from_residual.ensures.1) (let x = c.args in
@@ -42,4 +39,4 @@ returns-in_err-done-in-Some c = rw (handed_on _ _ c.from_residual.ensures.1) (le
     sym
     (since_refused (plan_of x.sheet.now x.contents) x.i x.start _ _ _
     (sym (plan_data_date x.sheet.now x.contents) ∙ sym c.read_optional_date.ensures ∙ c.in-Some.is)
-    ((λ z. between (sym (calendar_worked c.requires.1) z) x.start (sym u z)) ∙ sym c.between.ensures ∙ c.in_err-done-in-Some.was)))
+    ((λ z. between (sym (in_plan_worked c.requires.1) z) x.start (sym u z)) ∙ sym c.between.ensures ∙ c.in_err-done-in-Some.was)))
