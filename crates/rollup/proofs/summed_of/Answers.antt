@@ -11,7 +11,7 @@ use Rattle.calendar.specs.Hours.{worked}
 use Rattle.worktime.specs.Walks.{between}
 use Rattle.project.specs.declared.Activity.{Activity}
 use Rattle.order.specs.Plan.{plan_of}
-use Rattle.calendars.specs.CalendarLaws.{calendar_valid, calendar_worked}
+use Rattle.calendars.specs.CalendarLaws.{in_plan_worked}
 use Rattle.results.specs.Showing.{critical_in}
 use Rattle.number.specs.Exits.{handed_on}
 use Rattle.rollup.specs.RollingLaws.{summed_at, summed_refused}
@@ -20,18 +20,12 @@ use Rattle.rollup.proofs.summed_of.Goals as goal
 pub activity_of-activity-requires : goal.activity_of-activity-requires
 activity_of-activity-requires c = let h = c.requires in (h.0, h.3)
 
-pub week_of-week-requires : goal.week_of-week-requires
-week_of-week-requires c = let h = c.requires in (h.0, h.1)
+pub calendar_of-calendar-requires : goal.calendar_of-calendar-requires
+calendar_of-calendar-requires c = let h = c.requires in (h.0, h.1)
 
-pub exceptions_of-e-requires : goal.exceptions_of-e-requires
-exceptions_of-e-requires c = let h = c.requires in (h.0, h.1)
-
-pub between-requires : goal.between-requires
-between-requires c = calendar_valid (record { week_is = c.week_of-week.ensures; at_is = c.exceptions_of-e.ensures.0; n_is = c.exceptions_of-e.ensures.1 }) c.requires.0
-
-pub bounds-lengths-k : goal.bounds-lengths-k
+pub bounds-calendars-k : goal.bounds-calendars-k
 unfolding plan_of
-bounds-lengths-k c =
+bounds-calendars-k c =
     let x = c.args in
     let h = c.requires in
     let p = plan_of x.sheet.now x.contents in
@@ -61,7 +55,7 @@ returns c =
     let f : SFits w64 c.in_ok-total.total = record { sfits = search rules } in
     let g = rw (to_z-of_z f) at c.is_critical-critical.ensures in
     let l = h.2.is k n ∙ ap p.day_length e in (
-      summed_at p x.s x.x c.in_ok-total.total _ _ (sym (c.between.ensures ∙ ap (λ (v : ℕ → Bool). between v x.x.finish x.x.late) (calendar_worked (record { week_is = c.week_of-week.ensures; at_is = c.exceptions_of-e.ensures.0; n_is = c.exceptions_of-e.ensures.1 }) ∙ ap (λ (j : ℕ). worked (p.hours j)) e)) ∙ c.in_ok-total.was) (to_z-of_z f) (g ∙ (λ t. critical_in (h.5 t).critical_by (l t) c.in_ok-total.total x.x.path)),
+      summed_at p x.s x.x c.in_ok-total.total _ _ (sym (c.between.ensures ∙ ap (λ (v : ℕ → Bool). between v x.x.finish x.x.late) (in_plan_worked c.calendar_of-calendar.ensures ∙ ap (λ (j : ℕ). worked (p.hours j)) e)) ∙ c.in_ok-total.was) (to_z-of_z f) (g ∙ (λ t. critical_in (h.5 t).critical_by (l t) c.in_ok-total.total x.x.path)),
       record { es = h.6.es; ef = h.6.ef; ls = h.6.ls; lf = h.6.lf; free = omega arith; finish = h.6.finish; late = h.6.late },
     )
 
@@ -73,4 +67,4 @@ returns-in_err-total c = rw (handed_on _ _ c.from_residual.ensures.1) (let x = c
     let k = c.activity_of-activity.result.calendar in
     let e : k ≡ (p.activity x.s).calendar = ap (λ (a : Activity). a.calendar) c.activity_of-activity.ensures in
     let n : k ≤ x.contents.calendars = omega (arith, e, h.4) in
-    (summed_refused p x.s x.x _ (sym (c.between.ensures ∙ ap (λ (v : ℕ → Bool). between v x.x.finish x.x.late) (calendar_worked (record { week_is = c.week_of-week.ensures; at_is = c.exceptions_of-e.ensures.0; n_is = c.exceptions_of-e.ensures.1 }) ∙ ap (λ (j : ℕ). worked (p.hours j)) e)) ∙ c.in_err-total.was), tt))
+    (summed_refused p x.s x.x _ (sym (c.between.ensures ∙ ap (λ (v : ℕ → Bool). between v x.x.finish x.x.late) (in_plan_worked c.calendar_of-calendar.ensures ∙ ap (λ (j : ℕ). worked (p.hours j)) e)) ∙ c.in_err-total.was), tt))

@@ -13,9 +13,9 @@ use Rattle.rows.proofs.write_row.Goals as goal
 pub overflow_mul-i : goal.overflow_mul-i
 overflow_mul-i c = record { fits = omega (arith, c.requires.1, c.requires.0.read.activities_few) }
 
-pub bounds-lengths-k : goal.bounds-lengths-k
+pub bounds-calendars-k : goal.bounds-calendars-k
 unfolding plan_of
-bounds-lengths-k c =
+bounds-calendars-k c =
     let h = c.requires in
     omega (arith, ap (λ (a : Activity). a.calendar) c.activity_of-activity.ensures, h.0.named c.args.i h.1, h.0.days.size)
 
