@@ -101,9 +101,7 @@ fn constrained(
     match placing::dates::constraint_time(activity, week, sheet, at, n, constraint)? {
         Some(x) => {
             let t = placing::bounded(times.origin, x)?;
-            at_early(
-                activity, week, sheet, at, n, left, times, kind, t, start,
-            )
+            at_early(activity, week, sheet, at, n, left, times, kind, t, start)
         }
         None => Ok(start),
     }
