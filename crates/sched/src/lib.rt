@@ -234,10 +234,8 @@ fn plan_sheet(
     requires { SheetRead sheet.now contents × (15 * contents.activities ≤ length results.old) × (max (contents.activities + 1) contents.links ≤ length names.old) × Room contents.activities contents.links work.old }
     ensures { ended_with result results.new names.new work.new ≡ planned (record { results = results.old; names = names.old; work = work.old }) (plan_of sheet.now contents) }
 {
-    let mut places = [0u64; 450];
-    let mut lengths = [0u64; 16];
-    calendars::locate(sheet, contents, &mut calendars, &mut calendars);
-    plan_at(sheet, contents, &calendars, &calendars, results, names, work)
+    let calendars = calendars::locate(sheet, contents);
+    plan_at(sheet, contents, &calendars, results, names, work)
 }
 
 // The scheduling call.
