@@ -1,5 +1,5 @@
 -- The times that walks and placings answer are below 2 ^ 63, so that a cell of the memory holds them.
-use Rattle.std.specs.Prelude.{◌≡◌, refl, Bool, ℕ, suc, ◌+◌, ◌-◌, ◌^◌, ◌≤◌, ◌<◌, max, eqb, leb, ℤ, pos, negsuc, Result, Ok, Err, Option, Some, None}
+use Rattle.std.specs.Prelude.{◌≡◌, refl, Bool, ℕ, suc, ◌+◌, ◌^◌, ◌≤◌, ◌<◌, max, eqb, leb, ℤ, pos, negsuc, Result, Ok, Err, Option, Some, None}
 use Rattle.worktime.specs.declared.ClockError.{ClockError}
 use Rattle.date.specs.declared.Date.{Date}
 use Rattle.std.proofs.Common.{sym, ap, ◌∙◌, ⊎_elim, arith}

@@ -6,7 +6,7 @@ use Rattle.number.specs.Bit.{bit}
 use Rattle.number.specs.BitLaws.{mark_flag}
 use Rattle.worktime.specs.Reads.{on_true, on_false}
 use Rattle.memory.specs.State.{State, put_act, fill_act}
-use Rattle.memory.specs.StateLaws.{act_same, act_row, act_field, fill_act_lem}
+use Rattle.memory.specs.StateLaws.{act_same, act_row, fill_act_lem}
 use Rattle.passes.specs.Dates.{put}
 use Rattle.dates.specs.Columns.{column, flags}
 

@@ -1,14 +1,13 @@
 -- What is recorded of an activity by its three cells, and the plan's start and floor by the days of the sheet.
-use Rattle.std.specs.Prelude.{◌≡◌, List, ℕ, ◌+◌, ◌*◌, ◌≤◌, ◌<◌, max, eqb, Option, Some, None}
+use Rattle.std.specs.Prelude.{◌≡◌, List, ℕ, ◌+◌, ◌*◌, max, eqb, Option, Some, None}
 use Rattle.std.proofs.Math.Path.{refl}
-use Rattle.std.proofs.Common.{sym, ap, ap₂, ◌∙◌, arith, eq-eqb, ne_eqb}
+use Rattle.std.proofs.Common.{sym, ap, ap₂, ◌∙◌, eq-eqb, ne_eqb}
 use Rattle.worktime.specs.Reads.{on_true, on_false}
 use Rattle.date.specs.declared.Date.{Date}
 use Rattle.project.specs.Records.{date_at, optional_date_at, activity_at, project_at}
 use Rattle.placing.specs.declared.Actual.TheVariants.{Unstarted, Begun, Completed}
 use Rattle.placing.specs.Placing.{midnight_of}
 use Rattle.sheet.specs.declared.Contents.{Contents}
-use Rattle.sheet.specs.Places as places
 use Rattle.order.specs.Plan.{plan_of}
 use Rattle.passes.specs.Plan.{origin, later, floor}
 use Rattle.dates.specs.Standing.{actual_of}
@@ -46,15 +45,8 @@ module _ (s : List ℕ) (c : Contents) where
   floor_is d e = ap (later (plan_of s c) (origin (plan_of s c))) (sym plan_data_date ∙ e)
 
   -- the floor by the data day, from the start's minute o and the data day's minute t
-  pub floor_late : (d : Date) (o t : ℕ) → optional_date_at s 5 ≡ Some d → o ≡ origin (plan_of s c) → t ≡ midnight_of d → o < t → floor (plan_of s c) ≡ t
-  floor_late d o t e f g l =
-      let m : max o t ≡ t = omega arith in
-      floor_is (Some d) e ∙ ap₂ max (sym f) (sym g) ∙ m
-
-  pub floor_early : (d : Date) (o t : ℕ) → optional_date_at s 5 ≡ Some d → o ≡ origin (plan_of s c) → t ≡ midnight_of d → t ≤ o → floor (plan_of s c) ≡ o
-  floor_early d o t e f g l =
-      let m : max o t ≡ o = omega arith in
-      floor_is (Some d) e ∙ ap₂ max (sym f) (sym g) ∙ m
+  pub floor_later : (d : Date) (o t : ℕ) → optional_date_at s 5 ≡ Some d → o ≡ origin (plan_of s c) → t ≡ midnight_of d → floor (plan_of s c) ≡ max o t
+  floor_later d o t e f g = floor_is (Some d) e ∙ ap₂ max (sym f) (sym g)
 
   pub floor_absent : (o : ℕ) → optional_date_at s 5 ≡ None → o ≡ origin (plan_of s c) → floor (plan_of s c) ≡ o
   floor_absent o e f = floor_is None e ∙ sym f

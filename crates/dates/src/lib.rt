@@ -95,13 +95,7 @@ pub fn floor_of(sheet: &[u8], contents: Contents) -> u64
 {
     let start = origin_of(sheet, contents);
     match project::fields::read_optional_date(sheet, 5) {
-        Some(d) => {
-            let t = d.midnight();
-            if start < t {
-                return t;
-            }
-            start
-        }
+        Some(d) => start.max(d.midnight()),
         None => start,
     }
 }

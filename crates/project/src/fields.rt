@@ -15,6 +15,7 @@ pub fn read_date(sheet: &[u8], at: usize) -> Date
 }
 
 // The day at a place, or none for the absent mark.
+#[tactic(auto, unfolding(crate::specs::Records::optional_date_at))]
 pub fn read_optional_date(sheet: &[u8], at: usize) -> Option<Date>
     requires { at + 4 ≤ length sheet.now }
     ensures { result ≡ optional_date_at sheet.now at }

@@ -1,5 +1,4 @@
 -- `dates::activity_of` meets its contract.
-use borrow.Author.Rules.{rules}
 use mathlib.Core.Path.{◌∙◌}
 use Rattle.dates.specs.ReadLaws.{plan_activity}
 use Rattle.dates.proofs.activity_of.Goals as goal

@@ -1,5 +1,4 @@
 -- `dates::begun_at` meets its contract, by what is recorded.
-use borrow.Author.Rules.{rules}
 use mathlib.Core.Path.{sym, ap}
 use Rattle.std.specs.Prelude.{Ok}
 use Rattle.placing.specs.declared.Actual.{Actual}

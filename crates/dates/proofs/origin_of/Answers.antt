@@ -1,5 +1,4 @@
 -- `dates::origin_of` meets its contract.
-use borrow.Author.Rules.{rules}
 use mathlib.Core.Path.{◌∙◌, ap}
 use Rattle.placing.specs.Placing.{midnight_of}
 use Rattle.dates.specs.ReadLaws.{plan_start}

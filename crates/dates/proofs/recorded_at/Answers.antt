@@ -1,5 +1,5 @@
 -- `dates::recorded_at` meets its contract: each way out has its law.
-use borrow.Author.Rules.{rules}
+use native.Mathlib.Omega.{arith}
 use mathlib.Core.Path.{sym, ap, ◌∙◌}
 use Rattle.placing.specs.declared.Actual.TheVariants.{Begun, Completed}
 use Rattle.dates.specs.ReadLaws.{actual_unstarted, actual_begun, actual_completed}
@@ -16,4 +16,4 @@ pub returns : goal.returns
 returns c =
     let h = c.get_act-how.ensures.0 in
     (λ z. Completed (c.get_act-start.ensures.0 z) (c.get_act.ensures.0 z))
-    ∙ sym (actual_completed _ _ _ (λ e. c.if-how-eq0.false (h ∙ e)) (λ e. c.if-how-eq1.false (h ∙ e)))
+    ∙ sym (actual_completed _ _ _ (λ e. c.if-how-eq0.false (h ∙ e)) (λ e. omega (arith, h)))

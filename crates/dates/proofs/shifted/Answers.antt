@@ -1,5 +1,4 @@
 -- `dates::shifted` meets its contract: a lag of no minutes reads no calendar, any other counts on calendar `k` of the plan.
-use borrow.Author.Rules.{rules}
 use mathlib.Core.Path.{sym, ap, ◌∙◌}
 use mir.Syntax.{w64}
 use mir.Val.{to_z}

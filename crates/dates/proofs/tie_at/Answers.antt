@@ -1,5 +1,4 @@
 -- `dates::tie_at` meets its contract, field by field.
-use borrow.Author.Rules.{rules}
 use mathlib.Core.Path.{◌∙◌, ap}
 use mir.Facts.{to_z-of_z}
 use mir.Syntax.{w64}

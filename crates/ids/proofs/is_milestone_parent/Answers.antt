@@ -22,4 +22,4 @@ returns c =
     let p = plan_of x.sheet.now x.contents in
     let S = state_in x.contents x.work.now in
     c.is_milestone.ensures ∙ ap is_milestone c.kind_of.ensures
-    ∙ summary_kind p S c.requires.2 x.i (omega arith) _ c.get_act.ensures.0 c.if-get_act-eq0.false
+    ∙ summary_kind p S c.requires.2 x.i (omega arith) _ c.get_act.ensures.0 (λ q. omega arith)

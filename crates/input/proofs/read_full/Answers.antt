@@ -27,3 +27,9 @@ loop-done-preserved g c =
     let part = range-put_mid from room n c.loop-done.buf c.read.new.buf within c.in_ok-n.ensures.bound.0 in
     let joined = take-split from (from + n) c.loop-done.buf (put_mid from room c.loop-done.buf c.read.new.buf) (omega arith) (take-put_mid_below _ _ _ _ _ (le_refl _) within) in
     (search rules, subst (Consumes _ _) (ap (λ l. take from c.loop-done.buf ++ l) (sym part) ∙ joined) (Consumes-trans _ _ _ _ _ c.loop-done.invariant.1 c.in_ok-n.ensures.bytes.0))
+
+pub returns-after-loop-done-clause-bytes : goal.returns-after-loop-done-clause-bytes
+returns-after-loop-done-clause-bytes g c = c.loop-done.invariant.1
+
+pub returns-after-loop-done-clause-end : goal.returns-after-loop-done-clause-end
+returns-after-loop-done-clause-end g c = λ room. absurd (omega arith)

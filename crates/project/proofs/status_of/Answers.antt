@@ -1,5 +1,4 @@
 -- `project::status_of` meets its contract.
-use borrow.Author.Rules.{rules}
 use Rattle.project.specs.Status.{status_of}
 use Rattle.project.proofs.status_of.Goals as goal
 

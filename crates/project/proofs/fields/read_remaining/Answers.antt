@@ -1,6 +1,5 @@
 -- `project::fields::read_remaining` meets its contract.
 use Rattle.std.specs.Prelude.{Some}
-use borrow.Author.Rules.{rules}
 use borrow.Author.Tests.{ne_eqb}
 use mathlib.Core.Path.{sym, ap, ◌∙◌}
 use mir.Facts.{to_z-of_z}

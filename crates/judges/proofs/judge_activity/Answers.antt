@@ -1,0 +1,7 @@
+-- `judges::judge_activity` meets its contract: the record's limit is the definition's.
+use Rattle.judges.specs.Judging.{judge_activity}
+use Rattle.judges.proofs.judge_activity.Goals as goal
+
+pub returns : goal.returns
+unfolding judge_activity
+returns c = rw c.activity_ok.ensures at c.verdict.ensures
