@@ -1,12 +1,13 @@
--- `memory::get_act` meets its contract.
+-- `memory::Tables::act` meets its contract.
 use mathlib.Core.Path.{sym, ◌∙◌}
 use mir.Facts.{to_z-of_z}
 use Rattle.memory.specs.StateLaws.{act_up}
-use Rattle.memory.proofs.get_act.Goals as goal
+use Rattle.memory.proofs.Tables.act.Goals as goal
 
 pub returns : goal.returns
 returns c =
-    let g = c.get_act_signed in
+    let g = c.act_signed in
     let x = c.args in
+    let s = x.self.now in
     let e = rw (to_z-of_z (record { sfits = g.type_inv }), g.ensures) at c.upward.ensures.0 in
-    (e ∙ sym (act_up x.a x.l x.work.now x.f x.i), c.upward.ensures.1)
+    (e ∙ sym (act_up s.activities s.links s.cells.now x.f x.i), c.upward.ensures.1)

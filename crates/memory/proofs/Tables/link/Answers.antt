@@ -1,12 +1,13 @@
--- `memory::get_link` meets its contract.
+-- `memory::Tables::link` meets its contract.
 use mathlib.Core.Path.{sym, ◌∙◌}
 use mir.Facts.{to_z-of_z}
 use Rattle.memory.specs.StateLaws.{link_up}
-use Rattle.memory.proofs.get_link.Goals as goal
+use Rattle.memory.proofs.Tables.link.Goals as goal
 
 pub returns : goal.returns
 returns c =
-    let g = c.get_link_signed in
+    let g = c.link_signed in
     let x = c.args in
+    let s = x.self.now in
     let e = rw (to_z-of_z (record { sfits = g.type_inv }), g.ensures) at c.upward.ensures.0 in
-    (e ∙ sym (link_up x.a x.l x.work.now x.f x.k), c.upward.ensures.1)
+    (e ∙ sym (link_up s.activities s.links s.cells.now x.f x.k), c.upward.ensures.1)
