@@ -6,3 +6,4 @@ pub mod StateLaws
 pub mod ChainsLaws
 pub mod Fields
 pub mod Seen
+pub mod SeenLaws

@@ -3,9 +3,12 @@ use Rattle.std.specs.Prelude.{◌≡◌, length}
 use Rattle.memory.specs.State.{State, state_of}
 use Rattle.memory.specs.declared.Tables.{Tables}
 
-abbrev pub state : Tables → State
+unfoldable pub state : Tables → State
 state t = state_of t.activities t.links t.cells.now
 
--- u is of the sizes of t and in the same slice, which is as long as it was
-abbrev pub SameSlice : Tables → Tables → Type 0
-SameSlice t u = (u.activities ≡ t.activities) × (u.links ≡ t.links) × (length u.cells.now ≡ length t.cells.now) × (u.cells.ghost_name ≡ t.cells.ghost_name)
+-- t is of the sizes of s and in the same slice, which is as long as it was
+pub record SameSlice (s t : Tables) : Type 0 where
+  pub activities : t.activities ≡ s.activities
+  pub links : t.links ≡ s.links
+  pub cells : length t.cells.now ≡ length s.cells.now
+  pub lent : t.cells.ghost_name ≡ s.cells.ghost_name

@@ -8,6 +8,7 @@ use mir.Facts.{to_z-of_z}
 use mir.Syntax.{w64}
 use mir.Val.{SFits}
 use Rattle.cells.specs.Cell.{cell_z}
+use Rattle.memory.specs.Seen.{state}
 use Rattle.memory.specs.StateLaws.{act_z_at}
 use Rattle.memory.proofs.Tables.act_signed.Goals as goal
 
@@ -19,7 +20,7 @@ fits : (c : goal.After-result-1) → SFits w64 (read c)
 fits c = search rules
 
 pub returns : goal.returns
-unfolding cell_z
+unfolding cell_z state
 returns c =
     let x = c.args in
     let s = x.self.now in

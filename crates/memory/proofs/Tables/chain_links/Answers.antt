@@ -1,16 +1,17 @@
 -- `memory::Tables::chain_links` meets its contract: the links from k on are in their chains.
-use mathlib.Core.Path.{◌≡◌, refl, ap, ◌∙◌}
+use mathlib.Core.Path.{◌≡◌, ap, ◌∙◌}
 use Prim.Native.Nat.{ℕ, ◌+◌, ◌-◌}
 use native.Mathlib.Omega.{arith}
 use Rattle.std.proofs.Common.{rules}
 use Rattle.memory.specs.State.{State}
 use Rattle.memory.specs.Seen.{state}
+use Rattle.memory.specs.SeenLaws.{same_refl}
 use Rattle.memory.specs.Chains.{linked, linked_from}
 use Rattle.memory.specs.ChainsLaws.{kept_from, from_none, from_more}
 use Rattle.memory.proofs.Tables.chain_links.Goals as goal
 
 pub loop-k-init : goal.loop-k-init
-loop-k-init c = let x = c.args in ((refl, refl, refl, refl), from_none x.key x.head x.next (state x.self.now) x.t)
+loop-k-init c = let x = c.args in (same_refl x.self.now, from_none x.key x.head x.next (state x.self.now) x.t)
 
 pub chain_one-requires : goal.chain_one-requires
 chain_one-requires c =

@@ -1,10 +1,12 @@
 -- `memory::Tables::link` meets its contract.
 use mathlib.Core.Path.{sym, ◌∙◌}
 use mir.Facts.{to_z-of_z}
+use Rattle.memory.specs.Seen.{state}
 use Rattle.memory.specs.StateLaws.{link_up}
 use Rattle.memory.proofs.Tables.link.Goals as goal
 
 pub returns : goal.returns
+unfolding state
 returns c =
     let g = c.link_signed in
     let x = c.args in

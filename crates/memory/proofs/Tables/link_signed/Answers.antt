@@ -10,6 +10,7 @@ use mir.Syntax.{w64}
 use mir.Val.{SFits}
 use Rattle.cells.specs.Cell.{cell_z}
 use Rattle.memory.specs.Columns.{column_ends}
+use Rattle.memory.specs.Seen.{state}
 use Rattle.memory.specs.StateLaws.{link_z_at}
 use Rattle.memory.proofs.Tables.link_signed.Goals as goal
 
@@ -24,7 +25,7 @@ fits : (c : goal.After-result-1) → SFits w64 (read c)
 fits c = let e = column_ends c.args.self.now.links c.requires.1 in search rules
 
 pub returns : goal.returns
-unfolding cell_z
+unfolding cell_z state
 returns c =
     let x = c.args in
     let s = x.self.now in

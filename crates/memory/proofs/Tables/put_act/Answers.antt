@@ -7,10 +7,12 @@ use lib.IntN.{pos}
 use Rattle.cells.specs.Cell.{store_z}
 use Rattle.cells.specs.CellLaws.{store_pos}
 use Rattle.memory.specs.State.{state_of}
+use Rattle.memory.specs.Seen.{state}
 use Rattle.memory.specs.StateLaws.{state_put_act}
 use Rattle.memory.proofs.Tables.put_act.Goals as goal
 
 pub returns : goal.returns
+unfolding state
 returns c =
     let x = c.args in
     let s = x.self.now in

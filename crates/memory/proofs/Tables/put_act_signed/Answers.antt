@@ -6,10 +6,12 @@ use Rattle.std.proofs.Common.{rules}
 use mir.Facts.{to_z-of_z}
 use Rattle.cells.specs.Cell.{store_z}
 use Rattle.memory.specs.State.{state_of}
+use Rattle.memory.specs.Seen.{state}
 use Rattle.memory.specs.StateLaws.{state_put_act}
 use Rattle.memory.proofs.Tables.put_act_signed.Goals as goal
 
 pub returns : goal.returns
+unfolding state
 returns c =
     let x = c.args in
     let s = x.self.now in

@@ -5,10 +5,12 @@ use Rattle.std.proofs.Common.{rules}
 use lib.IntN.{pos}
 use Rattle.cells.specs.CellLaws.{store_pos}
 use Rattle.memory.specs.State.{state_of}
+use Rattle.memory.specs.Seen.{state}
 use Rattle.memory.specs.StateLaws.{state_put_link}
 use Rattle.memory.proofs.Tables.put_link.Goals as goal
 
 pub returns : goal.returns
+unfolding state
 returns c =
     let x = c.args in
     let s = x.self.now in

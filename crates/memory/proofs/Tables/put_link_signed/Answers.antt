@@ -4,10 +4,12 @@ use native.Mathlib.Omega.{arith}
 use Rattle.std.proofs.Common.{rules}
 use mir.Facts.{to_z-of_z}
 use Rattle.memory.specs.State.{state_of}
+use Rattle.memory.specs.Seen.{state}
 use Rattle.memory.specs.StateLaws.{state_put_link}
 use Rattle.memory.proofs.Tables.put_link_signed.Goals as goal
 
 pub returns : goal.returns
+unfolding state
 returns c =
     let x = c.args in
     let s = x.self.now in
