@@ -2,7 +2,7 @@
 // but eight fields of a result, which are written and read together, row by row.
 #![tactic(auto)]
 
-ghost use Rattle.std.specs.Prelude.{◌≡◌, ◌≢◌, ℕ, ◌+◌, ◌*◌, ◌^◌, ◌≤◌, ◌<◌, length};
+ghost use Rattle.std.specs.Prelude.{◌≡◌, ◌≢◌, ℕ, ◌+◌, ◌*◌, ◌^◌, ◌≤◌, ◌<◌, pos, length, replicate};
 ghost use Rattle.memory.specs.State.{Room, place, state_of, put_act, put_act_z, put_link, put_link_z, fill_act};
 
 pub mod fields;
@@ -35,15 +35,23 @@ impl<'a> Tables<'a> {
     ghost use Rattle.memory.specs.Chains.{linked, linked_from, with_chains, Chains};
 
     // The tables in `cells`.
+    #[tactic(auto, unfolding(crate::specs::Seen::state))]
     pub fn of(cells: &'a mut [i64], activities: usize, links: usize) -> Tables<'a>
         requires { Room activities links cells.old }
-        ensures { (result.activities ≡ activities) × (result.links ≡ links) × (result.cells.now ≡ cells.old) × (result.cells.ghost_name ≡ cells.entry.ghost_name) }
+        ensures { (state result ≡ state_of activities links cells.old) × (result.activities ≡ activities) × (result.links ≡ links) × (result.cells.now ≡ cells.old) × (result.cells.ghost_name ≡ cells.entry.ghost_name) }
     {
         Tables {
             cells,
             activities,
             links,
         }
+    }
+
+    // Every cell is 0, also those past the tables.
+    pub fn clear(&mut self)
+        ensures { (self.new.cells.now ≡ replicate (length self.old.cells.now) (pos 0)) × SameSlice self.old self.new }
+    {
+        cells::clear(self.cells);
     }
 
     // Field `f` of activity `i`: 0 where it is negative.
