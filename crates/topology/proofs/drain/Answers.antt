@@ -19,8 +19,7 @@ release-r-requires c =
     let p = c.requires in
     let a = L.invariant.0.activities in
     let x = c.args in
-    let T = state L.tables in
-    (
+    let T = state L.tables in (
       omega arith,
       c.loop-h-test.true,
       subst (λ n. ChainsOut n x.t T) (sym a) (chains_out_kept L.invariant.1.kept p.1),

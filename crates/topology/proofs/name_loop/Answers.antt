@@ -21,8 +21,7 @@ walk_back-w-requires c =
     let T = state c.fill_act.new.self in
     let e = c.fill_act.ensures in
     let a = e.1.activities in
-    let F : Frame seen 10 0 0 S T = rw e.0 (frame_fill seen 10 0 0 seen (omega arith) (omega arith) S x.tables.now.activities 0) in
-    (
+    let F : Frame seen 10 0 0 S T = rw e.0 (frame_fill seen 10 0 0 seen (omega arith) (omega arith) S x.tables.now.activities 0) in (
       omega (arith, e.1),
       subst (λ n. Stuck n x.t T) (sym a) (stuck_left F p.1),
       fill_zero c.fill_act.new.self S seen x.tables.now.activities a e.0,

@@ -20,8 +20,7 @@ drain-requires c =
     let a = same_then e.3 f.1 in
     let S = state c.chain_both.new.tables in
     let T = state c.start_queue-end.new.tables in
-    let d : Draining x.tables.now.activities x.t S T 0 c.start_queue-end.result = subst (λ n. Draining n x.t S T 0 c.start_queue-end.result) e.3.activities f.0 in
-    (
+    let d : Draining x.tables.now.activities x.t S T 0 c.start_queue-end.result = subst (λ n. Draining n x.t S T 0 c.start_queue-end.result) e.3.activities f.0 in (
       omega (arith, p.0, a),
       subst (λ n. ChainsOut n x.t T) (sym a.activities) (chains_out_kept d.kept e.1),
       subst (λ n. Progress (links_of T x.t) n (T.act order_at) (T.act waiting) 0 c.start_queue-end.result []) (sym a.activities) (draining_now d),

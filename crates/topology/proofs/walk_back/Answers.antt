@@ -37,8 +37,7 @@ step_back-x-requires c =
     let F = L.invariant.1.kept in
     let a = L.invariant.0.activities in
     let x = c.args in
-    let T = state L.tables in
-    (
+    let T = state L.tables in (
       omega arith,
       omega (arith, a, going_room p.1 L.invariant.1 (omega (arith, c.act-mark.ensures.0))),
       omega (arith, a, going_inside p.1 L.invariant.1),
