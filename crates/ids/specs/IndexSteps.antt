@@ -1,8 +1,10 @@
 -- What the memory holds as activities come into the index.
-use Rattle.std.specs.Prelude.{◌≡◌, refl, List, ◌≢◌, ℕ, ◌+◌, ◌%◌, ◌≤◌, ◌<◌, ℤ, pos, Ok}
+use Rattle.std.specs.Prelude.{◌≡◌, refl, ◌≢◌, ℕ, ◌+◌, ◌%◌, ◌≤◌, ◌<◌, pos, Ok}
 use Rattle.std.proofs.Common.{sym, ap, subst, ◌∙◌, inl, inr, ⊎_elim, arith, add-one}
 use Rattle.number.specs.Order.{eq_or_ne, lt_or_le}
-use Rattle.memory.specs.State.{State, state_of, put_act, fill_act}
+use Rattle.memory.specs.State.{State, put_act, fill_act}
+use Rattle.memory.specs.Seen.{state}
+use Rattle.memory.specs.declared.Tables.{Tables}
 use Rattle.memory.specs.StateLaws.{act_same, act_row, act_field, act_past, fill_act_lem}
 use Rattle.order.specs.Plan.{Plan}
 use Rattle.order.specs.Ids.{id_of}
@@ -18,19 +20,20 @@ use Rattle.ids.specs.AnswerLaws.{fine_number}
 use Rattle.ids.specs.LentLaws.{kept_then, kept_put, kept_fill}
 
 -- ---- no roots
-module _ (a l : ℕ) (xs : List ℤ) (S : State) (e : state_of a l xs ≡ fill_act S root a 0) where
-  no_roots : (r : ℕ) → (state_of a l xs).act root r ≡ 0
+module _ (t : Tables) (S : State) (a : ℕ) (d : t.activities ≡ a) (e : state t ≡ fill_act S root a 0) where
+  no_roots : (r : ℕ) → (state t).act root r ≡ 0
+  unfolding state
   no_roots r =
       ⊎_elim (λ (h : r < a). ap (λ (W : State). W.act root r) e ∙ fill_act_lem S root 0 a r h)
-      (λ (h : a ≤ r). act_past a l xs root r h) (lt_or_le r a)
+      (λ (h : a ≤ r). act_past t.activities t.links t.cells.now root r (omega arith)) (lt_or_le r a)
 
-  pub index_none : (p : Plan) → Indexed p (state_of a l xs) 0
+  pub index_none : (p : Plan) → Indexed p (state t) 0
   index_none p = record {
-    trees = trees_none (id_of p) p.activities (state_of a l xs).act no_roots;
+    trees = trees_none (id_of p) p.activities (state t).act no_roots;
     fresh = λ m q. absurd (omega arith);
   }
 
-  pub none_kept : KeptBut OfIndex S (state_of a l xs)
+  pub none_kept : KeptBut OfIndex S (state t)
   none_kept = subst (KeptBut OfIndex S) (sym e) (kept_fill OfIndex root (inr (inr refl)) S a 0)
 
 -- ---- activity i is a leaf

@@ -1,15 +1,14 @@
--- What the calls of this crate are lent: a sheet that was read and memory with room for its plan.
-use Rattle.std.specs.Prelude.{◌≡◌, List, ℕ, ℤ}
-use Rattle.memory.specs.State.{State, Room, state_of}
+-- What the calls of this crate are lent: a sheet that was read and tables of its plan's sizes.
+use Rattle.std.specs.Prelude.{◌≡◌, List, ℕ}
+use Rattle.memory.specs.State.{State}
+use Rattle.memory.specs.declared.Tables.{Tables}
 use Rattle.sheet.specs.declared.Contents.{Contents}
 use Rattle.sheet.specs.Known.{SheetRead}
 
-pub record Lent (s : List ℕ) (c : Contents) (xs : List ℤ) : Type 0 where
+pub record Lent (s : List ℕ) (c : Contents) (t : Tables) : Type 0 where
   pub read : SheetRead s c
-  pub room : Room c.activities c.links xs
-
-abbrev pub state_in : Contents → List ℤ → State
-state_in c xs = state_of c.activities c.links xs
+  pub activities : t.activities ≡ c.activities
+  pub links : t.links ≡ c.links
 
 -- T is S but for the fields of activities that F names
 pub record KeptBut (F : ℕ → Type 0) (S T : State) : Type 0 where

@@ -5,3 +5,5 @@ pub mod Columns
 pub mod StateLaws
 pub mod ChainsLaws
 pub mod Fields
+pub mod Seen
+pub mod SeenLaws

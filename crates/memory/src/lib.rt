@@ -2,9 +2,8 @@
 // but eight fields of a result, which are written and read together, row by row.
 #![tactic(auto)]
 
-ghost use Rattle.std.specs.Prelude.{◌≡◌, ◌≢◌, ℕ, ◌+◌, ◌*◌, ◌^◌, ◌≤◌, ◌<◌, length};
+ghost use Rattle.std.specs.Prelude.{◌≡◌, ◌≢◌, ℕ, ◌+◌, ◌*◌, ◌^◌, ◌≤◌, ◌<◌, pos, length, replicate};
 ghost use Rattle.memory.specs.State.{Room, place, state_of, put_act, put_act_z, put_link, put_link_z, fill_act};
-ghost use Rattle.memory.specs.Chains.{linked, linked_from, with_chains, Chains};
 
 pub mod fields;
 
@@ -20,6 +19,140 @@ fn place(n: usize, i: usize, f: usize) -> usize
         return fields::SHOWN_START * n + 8 * i + (f - fields::SHOWN_START);
     }
     f * n + i
+}
+
+// The tables of so many activities and links, in cells that a caller lends.
+#[derive(Drop)]
+pub struct Tables<'a> {
+    pub cells: &'a mut [i64],
+    pub activities: usize,
+    pub links: usize,
+    pub ghost room: { Room activities links cells.now },
+}
+
+impl<'a> Tables<'a> {
+    ghost use Rattle.memory.specs.Seen.{state, SameSlice};
+    ghost use Rattle.memory.specs.Chains.{linked, linked_from, with_chains, Chains};
+
+    // The tables in `cells`.
+    #[tactic(auto, unfolding(crate::specs::Seen::state))]
+    pub fn of(cells: &'a mut [i64], activities: usize, links: usize) -> Tables<'a>
+        requires { Room activities links cells.old }
+        ensures { (state result ≡ state_of activities links cells.old) × (result.activities ≡ activities) × (result.links ≡ links) × (result.cells.now ≡ cells.old) × (result.cells.ghost_name ≡ cells.entry.ghost_name) }
+    {
+        Tables {
+            cells,
+            activities,
+            links,
+        }
+    }
+
+    // Every cell is 0, also those past the tables.
+    pub fn clear(&mut self)
+        ensures { (self.new.cells.now ≡ replicate (length self.old.cells.now) (pos 0)) × SameSlice self.old self.new }
+    {
+        cells::clear(self.cells);
+    }
+
+    // Field `f` of activity `i`: 0 where it is negative.
+    pub fn act(&self, i: usize, f: usize) -> u64
+        requires { (i < self.now.activities) × (f < 64) }
+        ensures { (result ≡ (state self.now).act f i) × (result < 2 ^ 63) }
+    {
+        number::sign::upward(self.act_signed(i, f))
+    }
+
+    pub fn act_signed(&self, i: usize, f: usize) -> i64
+        requires { (i < self.now.activities) × (f < 64) }
+        ensures { result ≡ (state self.now).act_z f i }
+    {
+        self.cells[place(self.activities, i, f)]
+    }
+
+    // Field `f` of link `k`: 0 where it is negative.
+    pub fn link(&self, k: usize, f: usize) -> u64
+        requires { (k < self.now.links) × (f < 16) }
+        ensures { (result ≡ (state self.now).link f k) × (result < 2 ^ 63) }
+    {
+        number::sign::upward(self.link_signed(k, f))
+    }
+
+    pub fn link_signed(&self, k: usize, f: usize) -> i64
+        requires { (k < self.now.links) × (f < 16) }
+        ensures { result ≡ (state self.now).link_z f k }
+    {
+        self.cells[64 * self.activities + f * self.links + k]
+    }
+
+    // Puts `v` into field `f` of activity `i`.
+    pub fn put_act(&mut self, i: usize, f: usize, v: u64)
+        requires { (i < self.old.activities) × (f < 64) × (v < 2 ^ 63) }
+        ensures { (state self.new ≡ put_act (state self.old) f i v) × SameSlice self.old self.new }
+    {
+        cells::put(self.cells, place(self.activities, i, f), v);
+    }
+
+    pub fn put_act_signed(&mut self, i: usize, f: usize, v: i64)
+        requires { (i < self.old.activities) × (f < 64) }
+        ensures { (state self.new ≡ put_act_z (state self.old) f i v) × SameSlice self.old self.new }
+    {
+        cells::put_signed(self.cells, place(self.activities, i, f), v);
+    }
+
+    // Puts `v` into field `f` of link `k`.
+    pub fn put_link(&mut self, k: usize, f: usize, v: u64)
+        requires { (k < self.old.links) × (f < 16) × (v < 2 ^ 63) }
+        ensures { (state self.new ≡ put_link (state self.old) f k v) × SameSlice self.old self.new }
+    {
+        cells::put(self.cells, 64 * self.activities + f * self.links + k, v);
+    }
+
+    pub fn put_link_signed(&mut self, k: usize, f: usize, v: i64)
+        requires { (k < self.old.links) × (f < 16) }
+        ensures { (state self.new ≡ put_link_z (state self.old) f k v) × SameSlice self.old self.new }
+    {
+        cells::put_signed(self.cells, 64 * self.activities + f * self.links + k, v);
+    }
+
+    // Puts `v` into field `f` of every activity.
+    pub fn fill_act(&mut self, f: usize, v: u64)
+        requires { (f < 64) × (v < 2 ^ 63) }
+        ensures { (state self.new ≡ fill_act (state self.old) f self.old.activities v) × SameSlice self.old self.new }
+    {
+        for i in 0..self.activities {
+            self.put_act(i, f, v);
+        }
+    }
+
+    // Puts link `k` before the links that have its key.
+    fn chain_one(&mut self, k: usize, key: usize, head: usize, next: usize)
+        requires { (k < self.old.links) × (key < 16) × (head < 64) × (next < 16) × ((state self.old).link key k < self.old.activities) }
+        ensures { (state self.new ≡ linked key head next (state self.old) k) × SameSlice self.old self.new }
+    {
+        let i = self.link(k, key) as usize;
+        let first = self.act(i, head);
+        self.put_link(k, next, first);
+        self.put_act(i, head, k as u64);
+    }
+
+    // Puts the first `t` links before those that have their keys, from the last to the first.
+    fn chain_links(&mut self, t: usize, key: usize, head: usize, next: usize)
+        requires { (t ≤ self.old.links) × (key < 16) × (head < 64) × (next < 16) × (key ≢ next) × ((k : ℕ) → k < t → (state self.old).link key k < self.old.activities) }
+        ensures { (state self.new ≡ linked_from key head next t 0 (state self.old)) × SameSlice self.old self.new }
+    {
+        for k in (0..t).rev() {
+            self.chain_one(k, key, head, next);
+        }
+    }
+
+    // Chains the first `t` links by their keys: `head` of an activity is the first link whose key it is, and `next` of a link the next with its key, in rising order; `t` is none.
+    pub fn chain(&mut self, t: usize, key: usize, head: usize, next: usize)
+        requires { (t ≤ self.old.links) × (key < 16) × (head < 64) × (next < 16) × (key ≢ next) × ((k : ℕ) → k < t → (state self.old).link key k < self.old.activities) }
+        ensures { (state self.new ≡ with_chains key head next self.old.activities t (state self.old)) × Chains key head next self.old.activities t (state self.old) (state self.new) × SameSlice self.old self.new }
+    {
+        self.fill_act(head, t as u64);
+        self.chain_links(t, key, head, next);
+    }
 }
 
 // Field `f` of activity `i`: 0 where it is negative.
@@ -67,21 +200,6 @@ pub fn put_act_signed(work: &mut [i64], a: usize, l: usize, i: usize, f: usize, 
     cells::put_signed(work, place(a, i, f), v);
 }
 
-// Puts `v` into field `f` of link `k`.
-pub fn put_link(work: &mut [i64], a: usize, l: usize, k: usize, f: usize, v: u64)
-    requires { Room a l work.old × (k < l) × (f < 16) × (v < 2 ^ 63) }
-    ensures { (state_of a l work.new ≡ put_link (state_of a l work.old) f k v) × (length work.new ≡ length work.old) }
-{
-    cells::put(work, 64 * a + f * l + k, v);
-}
-
-pub fn put_link_signed(work: &mut [i64], a: usize, l: usize, k: usize, f: usize, v: i64)
-    requires { Room a l work.old × (k < l) × (f < 16) }
-    ensures { (state_of a l work.new ≡ put_link_z (state_of a l work.old) f k v) × (length work.new ≡ length work.old) }
-{
-    cells::put_signed(work, 64 * a + f * l + k, v);
-}
-
 // Puts `v` into field `f` of every activity.
 pub fn fill_act(work: &mut [i64], a: usize, l: usize, f: usize, v: u64)
     requires { Room a l work.old × (f < 64) × (v < 2 ^ 63) }
@@ -90,34 +208,4 @@ pub fn fill_act(work: &mut [i64], a: usize, l: usize, f: usize, v: u64)
     for i in 0..a {
         put_act(work, a, l, i, f, v);
     }
-}
-
-// Puts link `k` before the links that have its key.
-fn chain_one(work: &mut [i64], a: usize, l: usize, k: usize, key: usize, head: usize, next: usize)
-    requires { Room a l work.old × (k < l) × (key < 16) × (head < 64) × (next < 16) × ((state_of a l work.old).link key k < a) }
-    ensures { (state_of a l work.new ≡ linked key head next (state_of a l work.old) k) × (length work.new ≡ length work.old) }
-{
-    let i = get_link(work, a, l, k, key) as usize;
-    let first = get_act(work, a, l, i, head);
-    put_link(work, a, l, k, next, first);
-    put_act(work, a, l, i, head, k as u64);
-}
-
-// Puts the first `t` links before those that have their keys, from the last to the first.
-fn chain_links(work: &mut [i64], a: usize, l: usize, t: usize, key: usize, head: usize, next: usize)
-    requires { Room a l work.old × (t ≤ l) × (key < 16) × (head < 64) × (next < 16) × (key ≢ next) × ((k : ℕ) → k < t → (state_of a l work.old).link key k < a) }
-    ensures { (state_of a l work.new ≡ linked_from key head next t 0 (state_of a l work.old)) × (length work.new ≡ length work.old) }
-{
-    for k in (0..t).rev() {
-        chain_one(work, a, l, k, key, head, next);
-    }
-}
-
-// Chains the first `t` links by their keys: `head` of an activity is the first link whose key it is, and `next` of a link the next with its key, in rising order; `t` is none.
-pub fn chain(work: &mut [i64], a: usize, l: usize, t: usize, key: usize, head: usize, next: usize)
-    requires { Room a l work.old × (t ≤ l) × (key < 16) × (head < 64) × (next < 16) × (key ≢ next) × ((k : ℕ) → k < t → (state_of a l work.old).link key k < a) }
-    ensures { (state_of a l work.new ≡ with_chains key head next a t (state_of a l work.old)) × Chains key head next a t (state_of a l work.old) (state_of a l work.new) × (length work.new ≡ length work.old) }
-{
-    fill_act(work, a, l, head, t as u64);
-    chain_links(work, a, l, t, key, head, next);
 }

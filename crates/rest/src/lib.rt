@@ -3,10 +3,10 @@
 
 ghost use Rattle.std.specs.Prelude.{◌≡◌, ℕ, ◌+◌, ◌*◌, ◌≤◌, pos, length};
 ghost use Rattle.cells.specs.Cell.{cell_z};
-ghost use Rattle.memory.specs.State.{Room, state_of};
+ghost use Rattle.memory.specs.Seen.{state, SameSlice};
 ghost use Rattle.rest.specs.Stands.{of_activity, of_link, Cleared, ColumnsCleared, rest_cleared};
 
-use memory::fields;
+use memory::{Tables, fields};
 
 // Makes the cells from `from` up to `to` 0.
 fn clear_cells(work: &mut [i64], from: usize, to: usize)
@@ -16,34 +16,45 @@ fn clear_cells(work: &mut [i64], from: usize, to: usize)
     cells::fill(work, from, to - from, 0);
 }
 
-// The columns of `a` activities.
-fn clear_activities(work: &mut [i64], a: usize)
-    requires { 64 * a ≤ length work.old }
-    ensures { ColumnsCleared 0 a of_activity 0 64 work.old work.new }
+// The columns of the activities.
+fn clear_activities(tables: &mut Tables)
+    ensures { ColumnsCleared 0 tables.old.activities of_activity 0 64 tables.old.cells.now tables.new.cells.now × SameSlice tables.old tables.new }
 {
-    clear_cells(work, 0, fields::PARENT * a);
-    clear_cells(work, fields::WAITING * a, fields::ORDER_AT * a);
-    clear_cells(work, fields::SEEN * a, 64 * a);
+    clear_cells(tables.cells, 0, fields::PARENT * tables.activities);
+    clear_cells(
+        tables.cells,
+        fields::WAITING * tables.activities,
+        fields::ORDER_AT * tables.activities,
+    );
+    clear_cells(
+        tables.cells,
+        fields::SEEN * tables.activities,
+        64 * tables.activities,
+    );
 }
 
-// The columns of `l` links that have fields of kept ones, which are the first `t`; they stand after those of `a` activities.
-fn clear_links(work: &mut [i64], a: usize, l: usize, t: usize)
-    requires { Room a l work.old × (t ≤ l) }
-    ensures { ColumnsCleared (64 * a) l (of_link t) 0 7 work.old work.new }
+// The columns of links that have fields of kept ones, which are the first `t`; they stand after those of the activities.
+fn clear_links(tables: &mut Tables, t: usize)
+    requires { t ≤ tables.old.links }
+    ensures { ColumnsCleared (64 * tables.old.activities) tables.old.links (of_link t) 0 7 tables.old.cells.now tables.new.cells.now × SameSlice tables.old tables.new }
 {
     for f in 0..=fields::NEXT_OUT {
-        let column = 64 * a + f * l;
-        clear_cells(work, column + t, column + l);
+        let column = 64 * tables.activities + f * tables.links;
+        clear_cells(tables.cells, column + t, column + tables.links);
     }
 }
 
-// Leaves of `a` activities and of the first `t` of `l` links what stands for the passes; every other cell is 0.
-pub fn clear_rest(work: &mut [i64], a: usize, l: usize, t: usize)
-    requires { Room a l work.old × (t ≤ l) }
-    ensures { (state_of a l work.new ≡ rest_cleared t (state_of a l work.old)) × ((j : ℕ) → 64 * a + 16 * l ≤ j → cell_z work.new j ≡ pos 0) × (length work.new ≡ length work.old) }
+// Leaves of the activities and of the first `t` links what stands for the passes; every other cell is 0.
+pub fn clear_rest(tables: &mut Tables, t: usize)
+    requires { t ≤ tables.old.links }
+    ensures { (state tables.new ≡ rest_cleared t (state tables.old)) × ((j : ℕ) → 64 * tables.old.activities + 16 * tables.old.links ≤ j → cell_z tables.new.cells.now j ≡ pos 0) × SameSlice tables.old tables.new }
 {
-    clear_activities(work, a);
-    clear_links(work, a, l, t);
-    let end = work.len();
-    clear_cells(work, 64 * a + (fields::NEXT_OUT + 1) * l, end);
+    clear_activities(tables);
+    clear_links(tables, t);
+    let end = tables.cells.len();
+    clear_cells(
+        tables.cells,
+        64 * tables.activities + (fields::NEXT_OUT + 1) * tables.links,
+        end,
+    );
 }

@@ -1,9 +1,11 @@
 -- What the steps do to the counts and the queue, as the network has them, and what they leave.
-use Rattle.std.specs.Prelude.{◌≡◌, refl, ◌≢◌, List, ◌∷◌, ℕ, ◌+◌, ◌-◌, ◌<◌, ℤ, pos}
+use Rattle.std.specs.Prelude.{◌≡◌, refl, ◌≢◌, List, ◌∷◌, ℕ, ◌+◌, ◌-◌, ◌<◌, pos}
 use Rattle.std.proofs.Common.{sym, ap, ◌∙◌, ⊎_elim, arith}
 use borrow.Author.Tests.{eq-eqb, ne_eqb}
 use Rattle.number.specs.Order.{lt_or_le, zero_or_pos, eq_or_ne}
-use Rattle.memory.specs.State.{State, state_of, put_act, fill_act}
+use Rattle.memory.specs.State.{State, put_act, fill_act}
+use Rattle.memory.specs.Seen.{state}
+use Rattle.memory.specs.declared.Tables.{Tables}
 use Rattle.memory.specs.StateLaws.{act_past, act_same, act_row, fill_act_lem}
 use Rattle.memory.specs.Fields.{waiting, order_at, seen, to_field}
 use Rattle.network.specs.Links.{Link}
@@ -27,9 +29,10 @@ put_column S f i v x =
     (λ (e : x ≢ i). act_row S f i (pos v) f x e ∙ sym (put_other (S.act f) i v x e)) (eq_or_ne x i)
 
 -- a field that is filled with 0 is 0, also past the last row
-pub fill_zero : (a l : ℕ) (S : State) (ys : List ℤ) (f : ℕ) → state_of a l ys ≡ fill_act S f a 0 → (i : ℕ) → (state_of a l ys).act f i ≡ 0
-fill_zero a l S ys f e i =
-    ⊎_elim (λ h. ap (λ (T : State). T.act f i) e ∙ fill_act_lem S f 0 a i h) (λ h. act_past a l ys f i h) (lt_or_le i a)
+pub fill_zero : (t : Tables) (S : State) (f a : ℕ) → t.activities ≡ a → state t ≡ fill_act S f a 0 → (i : ℕ) → (state t).act f i ≡ 0
+unfolding state
+fill_zero t S f a d e i =
+    ⊎_elim (λ h. ap (λ (T : State). T.act f i) e ∙ fill_act_lem S f 0 a i h) (λ h. act_past t.activities t.links t.cells.now f i (omega arith)) (lt_or_le i a)
 
 -- ---- counting
 

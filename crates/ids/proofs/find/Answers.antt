@@ -9,7 +9,7 @@ use Rattle.order.specs.Plan.{Plan, plan_of}
 use Rattle.ids.specs.declared.Vacancy.{Vacancy}
 use Rattle.ids.specs.Index.{found_in}
 use Rattle.ids.specs.IndexLaws.{found_none}
-use Rattle.ids.specs.Lent.{state_in}
+use Rattle.memory.specs.Seen.{state}
 use Rattle.ids.specs.Searched.{Searched}
 use Rattle.ids.proofs.find.Goals as goal
 
@@ -29,4 +29,4 @@ pub returns : goal.returns
 unfolding plan_of
 returns c =
     let x = c.args in
-    rw c.ok.ensures.value (left_out (plan_of x.sheet.now x.contents) (state_in x.contents x.work.now) x.n x.id c.requires.1 _ c.seek.ensures)
+    rw c.ok.ensures.value (left_out (plan_of x.sheet.now x.contents) (state x.tables.now) x.n x.id c.requires.1 _ c.seek.ensures)

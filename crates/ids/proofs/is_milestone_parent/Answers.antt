@@ -3,23 +3,23 @@ use mathlib.Core.Path.{ap, ◌∙◌}
 use native.Mathlib.Omega.{arith}
 use Rattle.project.specs.Status.{is_milestone}
 use Rattle.order.specs.Plan.{plan_of}
-use Rattle.ids.specs.Lent.{state_in}
+use Rattle.memory.specs.Seen.{state}
 use Rattle.ids.specs.SummaryLaws.{no_summary, summary_kind}
 use Rattle.ids.proofs.is_milestone_parent.Goals as goal
 
-pub returns-then-get_act-eq0 : goal.returns-then-get_act-eq0
+pub returns-then-act-eq0 : goal.returns-then-act-eq0
 unfolding plan_of
-returns-then-get_act-eq0 c =
+returns-then-act-eq0 c =
     let x = c.args in
     let p = plan_of x.sheet.now x.contents in
-    let S = state_in x.contents x.work.now in
-    no_summary p S c.requires.2 x.i (omega arith) _ c.get_act.ensures.0 c.if-get_act-eq0.true
+    let S = state x.tables.now in
+    no_summary p S c.requires.2 x.i (omega arith) _ c.act.ensures.0 c.if-act-eq0.true
 
 pub returns : goal.returns
 unfolding plan_of
 returns c =
     let x = c.args in
     let p = plan_of x.sheet.now x.contents in
-    let S = state_in x.contents x.work.now in
+    let S = state x.tables.now in
     c.is_milestone.ensures ∙ ap is_milestone c.kind_of.ensures
-    ∙ summary_kind p S c.requires.2 x.i (omega arith) _ c.get_act.ensures.0 (λ q. omega arith)
+    ∙ summary_kind p S c.requires.2 x.i (omega arith) _ c.act.ensures.0 (λ q. omega arith)

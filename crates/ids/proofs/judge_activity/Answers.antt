@@ -7,7 +7,7 @@ use mir.Val.{to_z, of_z}
 use mir.Facts.{to_z-of_z}
 use Rattle.order.specs.Plan.{plan_of}
 use Rattle.ids.specs.Index.{PlaceFor}
-use Rattle.ids.specs.Lent.{state_in}
+use Rattle.memory.specs.Seen.{state}
 use Rattle.ids.specs.JudgeLaws.{judged_met, judged_negative, judged_long, judged_uncalendared, judged_fine}
 use Rattle.ids.proofs.judge_activity.Goals as goal
 
@@ -23,7 +23,7 @@ unfolding plan_of
 returns-then-minutes-lt0 c =
     let x = c.args in
     let p = plan_of x.sheet.now x.contents in
-    let S = state_in x.contents x.work.now in
+    let S = state x.tables.now in
     let d = c.id_of-id.ensures.0 in
     let v = c.in-Err.ensures in
     let m = c.minutes_of-minutes in
@@ -35,7 +35,7 @@ unfolding plan_of
 returns-then-minutes-gt48000000 c =
     let x = c.args in
     let p = plan_of x.sheet.now x.contents in
-    let S = state_in x.contents x.work.now in
+    let S = state x.tables.now in
     let d = c.id_of-id.ensures.0 in
     let v = c.in-Err.ensures in
     let m = c.minutes_of-minutes in
@@ -47,7 +47,7 @@ unfolding plan_of
 returns-then-calendar_of-contents c =
     let x = c.args in
     let p = plan_of x.sheet.now x.contents in
-    let S = state_in x.contents x.work.now in
+    let S = state x.tables.now in
     let d = c.id_of-id.ensures.0 in
     let v = c.in-Err.ensures in
     let m = c.minutes_of-minutes in
@@ -59,7 +59,7 @@ unfolding plan_of
 returns c =
     let x = c.args in
     let p = plan_of x.sheet.now x.contents in
-    let S = state_in x.contents x.work.now in
+    let S = state x.tables.now in
     let d = c.id_of-id.ensures.0 in
     let v = c.in-Err.ensures in
     let m = c.minutes_of-minutes in

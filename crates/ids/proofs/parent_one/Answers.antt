@@ -1,10 +1,10 @@
 -- `ids::parent_one` meets its contract.
 use mathlib.Core.Path.{refl, ap, ◌∙◌}
-use native.Mathlib.Omega.{arith}
 use Rattle.order.specs.Plan.{plan_of}
 use Rattle.order.specs.Checks.{refuse}
-use Rattle.ids.specs.Lent.{state_in}
+use Rattle.memory.specs.Seen.{state}
 use Rattle.ids.specs.Answers.{OfParents}
+use Rattle.memory.specs.SeenLaws.{same_refl, same_then}
 use Rattle.ids.specs.LentLaws.{kept_refl}
 use Rattle.ids.specs.ParentedLaws.{top_fine, top_kept, top_parented, unknown_refused, known_fine, known_kept, known_parented}
 use Rattle.ids.proofs.parent_one.Goals as goal
@@ -13,14 +13,14 @@ pub returns-then-id-eq0 : goal.returns-then-id-eq0
 returns-then-id-eq0 c =
     let x = c.args in
     let p = plan_of x.sheet.now x.contents in
-    let S = state_in x.contents x.work.now in
+    let S = state x.tables.now in
     let P = c.requires.4 in
     let d = c.parent_of-id.ensures.0 in
     let z = c.if-id-eq0.true in
     let e = c.put_act.ensures.0 in (
       record { is = top_fine p S x.i P _ d z },
       record { kept = top_kept p S x.i P _ d z _ e; holds = top_parented p S x.i P _ d z _ e },
-      omega arith,
+      c.put_act.ensures.1,
     )
 
 pub returns-in_default : goal.returns-in_default
@@ -28,13 +28,13 @@ unfolding plan_of
 returns-in_default c =
     let x = c.args in
     let p = plan_of x.sheet.now x.contents in
-    let S = state_in x.contents x.work.now in
+    let S = state x.tables.now in
     let P = c.requires.4 in
     let d = c.parent_of-id.ensures.0 in
     let z = c.if-id-eq0.false in (
       record { is = ap (refuse 10) c.id_of.ensures.0 ∙ unknown_refused p S x.i P _ d z _ c.in_default.ensures.0 refl },
       record { kept = kept_refl OfParents S; holds = tt },
-      refl,
+      same_refl x.tables.now,
     )
 
 pub returns : goal.returns
@@ -42,7 +42,7 @@ unfolding plan_of
 returns c =
     let x = c.args in
     let p = plan_of x.sheet.now x.contents in
-    let S = state_in x.contents x.work.now in
+    let S = state x.tables.now in
     let P = c.requires.4 in
     let d = c.parent_of-id.ensures.0 in
     let z = c.if-id-eq0.false in
@@ -52,5 +52,5 @@ returns c =
     let u = c.put_act-3.ensures.0 in (
       record { is = known_fine p S x.i P _ d z _ f.0 f.1 },
       record { kept = known_kept p S x.i P _ d z _ f.0 f.1 D _ _ t u; holds = known_parented p S x.i P _ d z _ f.0 f.1 D _ _ t u },
-      omega arith,
+      same_then c.put_act-2.ensures.1 c.put_act-3.ensures.1,
     )

@@ -1,11 +1,16 @@
 -- `ids::parents` meets its contract: activities before i are fine and their parents kept.
+use mathlib.Core.Path.{ap, ◌∙◌}
+use Prim.Native.Nat.{ℕ}
 use native.Mathlib.Omega.{arith}
+use Rattle.memory.specs.State.{fill_act}
+use Rattle.memory.specs.Fields.{is_summary}
+use Rattle.memory.specs.SeenLaws.{same_then}
 use Rattle.std.proofs.lemmas.Result.{err_from_is_err_and}
 use Rattle.order.specs.Plan.{plan_of}
 use Rattle.order.specs.Checks.{judge_parent}
 use Rattle.ids.specs.Parented.{Parented}
 use Rattle.ids.specs.ParentedLaws.{indexed_kept, unmarked, unmarked_kept}
-use Rattle.ids.specs.Lent.{state_in}
+use Rattle.memory.specs.Seen.{state}
 use Rattle.ids.specs.Answers.{OfParents}
 use Rattle.ids.specs.PassSteps.{passing_start, passing_turn, passing_stop, passing_end}
 use Rattle.ids.proofs.parents.Goals as goal
@@ -15,9 +20,9 @@ unfolding plan_of
 loop-i-init c =
     let x = c.args in
     let p = plan_of x.sheet.now x.contents in
-    let S = state_in x.contents x.work.now in
-    let e = c.fill_act.ensures.0 in (
-      omega arith,
+    let S = state x.tables.now in
+    let e = c.fill_act.ensures.0 ∙ ap (λ (m : ℕ). fill_act S is_summary m 0) c.requires.0.activities in (
+      c.fill_act.ensures.1,
       passing_start OfParents (Parented p) (judge_parent p) x.contents.activities S (unmarked_kept p S _ e) (unmarked p S _ e),
     )
 
@@ -26,7 +31,7 @@ unfolding plan_of
 parent_one-requires c =
     let x = c.args in
     let X = c.loop-i.invariant.1 in (
-      record { read = c.requires.0.read; room = omega (arith, c.loop-i.invariant.0, c.requires.0.room) },
+      record { read = c.requires.0.read; activities = c.loop-i.invariant.0.activities ∙ c.requires.0.activities; links = c.loop-i.invariant.0.links ∙ c.requires.0.links },
       omega arith,
       c.requires.1,
       indexed_kept (plan_of x.sheet.now x.contents) X.kept c.requires.2,
@@ -38,22 +43,22 @@ returns-in_err-parent_one c =
     let x = c.args in
     let p = plan_of x.sheet.now x.contents in
     let o = c.in_err-parent_one.ensures in
-    let a = passing_stop OfParents (Parented p) (judge_parent p) x.contents.activities (state_in x.contents x.work.now) c.loop-i.invariant.1 (omega arith) o.0 o.1 in
+    let a = passing_stop OfParents (Parented p) (judge_parent p) x.contents.activities (state x.tables.now) c.loop-i.invariant.1 (omega arith) o.0 o.1 in
     let q = err_from_is_err_and c.from_residual.result c.from_residual.ensures.1 in
-    rw (q.1, q.2) (a.0, a.1, omega (arith, o.2))
+    rw (q.1, q.2) (a.0, a.1, same_then c.loop-i.invariant.0 o.2)
 
 pub loop-i-preserved : goal.loop-i-preserved
 loop-i-preserved c =
     let x = c.args in
     let p = plan_of x.sheet.now x.contents in
     let o = c.in_ok-parent_one.ensures in (
-      omega (arith, o.2),
-      passing_turn OfParents (Parented p) (judge_parent p) x.contents.activities (state_in x.contents x.work.now) c.loop-i.invariant.1 (omega arith) o.0 o.1,
+      same_then c.loop-i.invariant.0 o.2,
+      passing_turn OfParents (Parented p) (judge_parent p) x.contents.activities (state x.tables.now) c.loop-i.invariant.1 (omega arith) o.0 o.1,
     )
 
 pub returns : goal.returns
 returns c =
     let x = c.args in
     let p = plan_of x.sheet.now x.contents in
-    let a = passing_end OfParents (Parented p) (judge_parent p) x.contents.activities (state_in x.contents x.work.now) c.loop-i.invariant.1 _ (omega arith) in
+    let a = passing_end OfParents (Parented p) (judge_parent p) x.contents.activities (state x.tables.now) c.loop-i.invariant.1 _ (omega arith) in
     (a.0, a.1, c.loop-i.invariant.0)

@@ -1,19 +1,31 @@
 -- `rest::clear_rest` meets its contract.
+use mathlib.Core.Path.{subst, ◌∙◌}
 use native.Mathlib.Omega.{arith}
 use Prim.Native.Nat.{◌+◌, ◌*◌}
 use lib.ListN.{length}
+use Rattle.std.proofs.Common.{rules}
+use Rattle.memory.specs.State.{state_of}
+use Rattle.memory.specs.Seen.{state}
+use Rattle.memory.specs.SeenLaws.{same_then}
+use Rattle.rest.specs.Stands.{of_link, ColumnsCleared}
 use Rattle.rest.specs.ClearedLaws.{clear_at}
-use Rattle.rest.specs.RestLaws.{rest_is, rest_after, rest_size}
+use Rattle.rest.specs.RestLaws.{rest_is, rest_after}
 use Rattle.rest.proofs.clear_rest.Goals as goal
 
 pub returns : goal.returns
+unfolding state
 returns c =
-    let s = c.before.before.before.before.before.before.before.before.before in
-    let x = s.args in
+    let x = c.args in
+    let s = x.tables.now in
     let C = c.clear_activities.ensures in
-    let D = c.clear_links.ensures in
-    let E = clear_at {lo' = 64 * x.a + 7 * x.l} {hi' = length x.work.now} (omega arith) (omega (arith, C.size, D.size)) c.clear_cells.ensures in (
-      rest_is x.a x.l x.t s.requires.0 C D E,
-      rest_after x.a x.l x.t s.requires.0 C D E,
-      rest_size x.a x.l x.t s.requires.0 C D E,
+    let G = c.clear_links.ensures in
+    let ys = c.clear_activities.new.tables.cells.now in
+    let zs = c.clear_links.new.tables.cells.now in
+    let D = subst (λ n. ColumnsCleared (64 * s.activities) n (of_link x.t) 0 7 ys zs) C.1.links
+    (subst (λ n. ColumnsCleared (64 * n) c.clear_activities.new.tables.links (of_link x.t) 0 7 ys zs) C.1.activities G.0) in
+    let m = same_then C.1 G.1 in
+    let E = clear_at {lo' = 64 * s.activities + 7 * s.links} {hi' = length s.cells.now} (omega (arith, m)) (omega (arith, m)) c.clear_cells.ensures in (
+      (λ i. state_of (m.activities i) (m.links i) c.clear_cells.new.work) ∙ rest_is s.activities s.links x.t s.room C.0 D E,
+      rest_after s.activities s.links x.t s.room C.0 D E,
+      search rules,
     )

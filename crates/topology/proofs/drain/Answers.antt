@@ -1,16 +1,30 @@
 -- `topology::drain` meets its contract: h activities are out.
-use mathlib.Core.Path.{◌∙◌}
+use mathlib.Core.Path.{sym, subst}
+use mathlib.Core.List.{[]}
+use Prim.Native.Nat.{◌+◌}
 use native.Mathlib.Omega.{arith}
-use Rattle.memory.specs.State.{state_of}
+use Rattle.memory.specs.Fields.{waiting, order_at}
+use Rattle.memory.specs.Seen.{state}
 use Rattle.network.proofs.ProgressLaws.{progress_le}
+use Rattle.network.specs.Array.{Progress}
+use Rattle.topology.specs.Links.{links_of}
+use Rattle.topology.specs.Order.{ChainsOut, Draining}
 use Rattle.topology.specs.OrderLaws.{chains_out_kept, draining_now, draining_step}
+use Rattle.memory.specs.SeenLaws.{same_then}
 use Rattle.topology.proofs.drain.Goals as goal
 
 pub release-r-requires : goal.release-r-requires
 release-r-requires c =
     let L = c.loop-h in
     let p = c.requires in
-    (omega arith, p.1, c.loop-h-test.true, chains_out_kept L.invariant.1.kept p.2, draining_now L.invariant.1)
+    let a = L.invariant.0.activities in
+    let x = c.args in
+    let T = state L.tables in (
+      omega arith,
+      c.loop-h-test.true,
+      subst (λ n. ChainsOut n x.t T) (sym a) (chains_out_kept L.invariant.1.kept p.1),
+      subst (λ n. Progress (links_of T x.t) n (T.act order_at) (T.act waiting) L.h L.r []) (sym a) (draining_now L.invariant.1),
+    )
 
 pub loop-h-smaller : goal.loop-h-smaller
 loop-h-smaller c =
@@ -21,4 +35,5 @@ loop-h-preserved c =
     let L = c.loop-h in
     let x = c.args in
     let e = c.release-r.ensures in
-    (e.1 ∙ L.invariant.0, draining_step L.invariant.1 (state_of x.a x.l c.release-r.new.work) c.release-r.result e.0.kept e.0.progress)
+    let d = subst (λ n. Draining n x.t (state L.tables) (state c.release-r.new.tables) (L.h + 1) c.release-r.result) L.invariant.0.activities e.0 in
+    (same_then L.invariant.0 e.1, draining_step L.invariant.1 (state c.release-r.new.tables) c.release-r.result d.kept d.progress)

@@ -1,7 +1,5 @@
 -- `topology::first_ready` meets its contract: the first m activities are looked at.
-use mathlib.Core.Path.{◌≡◌}
-use lib.ListN.{length}
-use Rattle.memory.specs.State.{state_of}
+use Rattle.memory.specs.Seen.{state, SameSlice}
 use Rattle.memory.specs.Fields.{waiting, order_at, seen}
 use Rattle.network.specs.Array.{Filled}
 use Rattle.topology.specs.Frame.{Frame}
@@ -9,5 +7,5 @@ use Rattle.topology.proofs.first_ready.Given as goal
 
 abbrev pub invariant-loop-m : goal.invariant-loop-m
 invariant-loop-m l =
-    (length l.work ≡ length l.initial.work) × Frame order_at seen 0 0 (state_of l.a l.l l.initial.work) (state_of l.a l.l l.work)
-    × Filled ((state_of l.a l.l l.work).act waiting) ((state_of l.a l.l l.work).act order_at) l.m l.end
+    SameSlice l.initial.tables l.tables × Frame order_at seen 0 0 (state l.initial.tables) (state l.tables)
+    × Filled ((state l.tables).act waiting) ((state l.tables).act order_at) l.m l.end

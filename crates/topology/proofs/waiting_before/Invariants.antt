@@ -1,11 +1,11 @@
 -- `topology::waiting_before` meets its contract: none of the links into x before k comes from one that waits.
 use Prim.Native.Nat.{◌-◌}
-use Rattle.memory.specs.State.{state_of}
+use Rattle.memory.specs.Seen.{state}
 use Rattle.topology.specs.LoopLaws.{Looking}
 use Rattle.topology.proofs.waiting_before.Given as goal
 
 abbrev pub invariant-loop-k : goal.invariant-loop-k
-invariant-loop-k l = Looking l.t (state_of l.a l.l l.work) l.x l.k
+invariant-loop-k l = Looking l.t (state l.tables) l.x l.k
 
 abbrev pub decreases-loop-k : goal.decreases-loop-k
 decreases-loop-k l = l.t - l.k
