@@ -2,7 +2,7 @@
 #![tactic(auto)]
 
 ghost use Rattle.std.specs.Prelude.{◌≡◌, ◌||◌, ◌≤◌, ◌<◌, ltb};
-ghost use Rattle.memory.specs.State.{Room, state_of};
+ghost use Rattle.memory.specs.Seen.{state};
 ghost use Rattle.memory.specs.Fields.{is_summary};
 ghost use Rattle.sheet.specs.Known.{SheetRead};
 ghost use Rattle.order.specs.Plan.{plan_of};
@@ -11,12 +11,13 @@ ghost use Rattle.order.specs.FineLaws.{ActivitiesFine};
 ghost use Rattle.order.specs.Ties.{tie_calendar, tie_too_long};
 ghost use Rattle.ids.specs.Index.{Indexed};
 ghost use Rattle.ids.specs.Parented.{Parented};
-ghost use Rattle.ids.specs.Lent.{Lent, state_in};
+ghost use Rattle.ids.specs.Lent.{Lent};
 ghost use Rattle.ties.specs.Ends.{Between, EndsOf};
 ghost use Rattle.calendars.specs.Calendars.{Lengths};
 ghost use Rattle.ties.specs.Checked.{LinkAnswered};
 
 use calendars::PlanCalendar;
+use memory::Tables;
 use order::PlanError;
 use sheet::Contents;
 
@@ -34,19 +35,19 @@ pub struct Ends {
 pub fn link_ends(
     sheet: &[u8],
     contents: Contents,
-    work: &[i64],
+    tables: &Tables,
     k: usize,
 ) -> Result<Ends, PlanError>
-    requires { Lent sheet.now contents work.now × (k < contents.links) × DistinctIds (plan_of sheet.now contents) × Indexed (plan_of sheet.now contents) (state_in contents work.now) contents.activities }
+    requires { Lent sheet.now contents tables.now × (k < contents.links) × DistinctIds (plan_of sheet.now contents) × Indexed (plan_of sheet.now contents) (state tables.now) contents.activities }
     ensures { EndsOf (plan_of sheet.now contents) k result }
 {
     let a = contents.activities;
     let pred = link_fields::predecessor_of(sheet, contents, k);
-    let Some(from) = ids::find(sheet, contents, work, a, pred) else {
+    let Some(from) = ids::find(sheet, contents, tables, a, pred) else {
         return Err(PlanError::UnknownActivity(pred));
     };
     let succ = link_fields::successor_of(sheet, contents, k);
-    let Some(to) = ids::find(sheet, contents, work, a, succ) else {
+    let Some(to) = ids::find(sheet, contents, tables, a, succ) else {
         return Err(PlanError::UnknownActivity(succ));
     };
     if pred == succ {
@@ -56,12 +57,12 @@ pub fn link_ends(
 }
 
 // Whether one of two activities is marked as a summary.
-pub fn is_either_marked(work: &[i64], a: usize, l: usize, from: usize, to: usize) -> bool
-    requires { Room a l work.now × (from < a) × (to < a) }
-    ensures { result ≡ (ltb 0 ((state_of a l work.now).act is_summary from) || ltb 0 ((state_of a l work.now).act is_summary to)) }
+pub fn is_either_marked(tables: &Tables, from: usize, to: usize) -> bool
+    requires { (from < tables.now.activities) × (to < tables.now.activities) }
+    ensures { result ≡ (ltb 0 ((state tables.now).act is_summary from) || ltb 0 ((state tables.now).act is_summary to)) }
 {
-    memory::get_act(work, a, l, from, memory::fields::IS_SUMMARY) > 0
-        || memory::get_act(work, a, l, to, memory::fields::IS_SUMMARY) > 0
+    tables.act(from, memory::fields::IS_SUMMARY) > 0
+        || tables.act(to, memory::fields::IS_SUMMARY) > 0
 }
 
 // The calendar that the lag of link `k` counts on.
@@ -98,21 +99,15 @@ pub fn is_tie_too_long(
 pub fn link_check(
     sheet: &[u8],
     contents: Contents,
-    work: &[i64],
+    tables: &Tables,
     calendars: &[PlanCalendar],
     k: usize,
 ) -> Result<Option<Ends>, PlanError>
-    requires { Lent sheet.now contents work.now × (k < contents.links) × DistinctIds (plan_of sheet.now contents) × Indexed (plan_of sheet.now contents) (state_in contents work.now) contents.activities × Parented (plan_of sheet.now contents) (state_in contents work.now) contents.activities × ActivitiesFine (plan_of sheet.now contents) × Lengths (plan_of sheet.now contents) calendars.now }
+    requires { Lent sheet.now contents tables.now × (k < contents.links) × DistinctIds (plan_of sheet.now contents) × Indexed (plan_of sheet.now contents) (state tables.now) contents.activities × Parented (plan_of sheet.now contents) (state tables.now) contents.activities × ActivitiesFine (plan_of sheet.now contents) × Lengths (plan_of sheet.now contents) calendars.now }
     ensures { LinkAnswered (plan_of sheet.now contents) k result }
 {
-    let ends = link_ends(sheet, contents, work, k)?;
-    if is_either_marked(
-        work,
-        contents.activities,
-        contents.links,
-        ends.from,
-        ends.to,
-    ) {
+    let ends = link_ends(sheet, contents, tables, k)?;
+    if is_either_marked(tables, ends.from, ends.to) {
         return Ok(None);
     }
     if is_tie_too_long(sheet, contents, calendars, k, ends.from, ends.to) {
