@@ -1,6 +1,8 @@
 -- What the links' checks leave: their answers in 01's numbers, the kept links in the lent memory, and the ignored ones' positions in names.
-use Rattle.std.specs.Prelude.{◌≡◌, ◌⊎◌, true, false, List, ◌++◌, ℕ, ◌+◌, ◌<◌, ℤ, length, get_or, set, drop, Result, Ok, Err}
+use Rattle.std.specs.Prelude.{◌≡◌, ◌⊎◌, true, false, List, ◌++◌, ℕ, ◌+◌, ◌<◌, length, get_or, set, drop, Result, Ok, Err}
 use Rattle.memory.specs.State.{State}
+use Rattle.memory.specs.declared.Tables.{Tables}
+use Rattle.memory.specs.Seen.{state}
 use Rattle.sheet.specs.declared.Contents.{Contents}
 use Rattle.order.specs.Plan.{Plan, plan_of}
 use Rattle.order.specs.IdLaws.{DistinctIds}
@@ -11,18 +13,18 @@ use Rattle.order.specs.declared.PlanError.{PlanError}
 use Rattle.order.specs.Refusals.{refused}
 use Rattle.ids.specs.Index.{Indexed}
 use Rattle.ids.specs.Parented.{Parented}
-use Rattle.ids.specs.Lent.{Lent, state_in}
+use Rattle.ids.specs.Lent.{Lent}
 use Rattle.calendars.specs.declared.plan_calendar.PlanCalendar.{PlanCalendar}
 use Rattle.calendars.specs.Calendars.{Lengths}
 use Rattle.links.specs.declared.LinkCounts.{LinkCounts}
 use Rattle.links.specs.Stored.{tie_in, Stored}
 
 -- what a link's checks are lent: rows 6 to 12 are fine, and the memory has the index of ids, parents and summaries
-pub record Judging (s : List ℕ) (c : Contents) (calendars : List PlanCalendar) (xs : List ℤ) : Type 0 where
-  pub lent : Lent s c xs
+pub record Judging (s : List ℕ) (c : Contents) (calendars : List PlanCalendar) (t : Tables) : Type 0 where
+  pub lent : Lent s c t
   pub distinct : DistinctIds (plan_of s c)
-  pub indexed : Indexed (plan_of s c) (state_in c xs) c.activities
-  pub parented : Parented (plan_of s c) (state_in c xs) c.activities
+  pub indexed : Indexed (plan_of s c) (state t) c.activities
+  pub parented : Parented (plan_of s c) (state t) c.activities
   pub activities : ActivitiesFine (plan_of s c)
   pub lengths_are : Lengths (plan_of s c) calendars
 

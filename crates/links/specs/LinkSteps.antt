@@ -1,5 +1,5 @@
 -- The loop over the links: those before k are fine, and stand in the memory or in names.
-use Rattle.std.specs.Prelude.{◌≡◌, refl, List, [], ◌∷◌, ◌++◌, ◌≢◌, ℕ, suc, ◌+◌, ◌-◌, ◌≤◌, ◌<◌, ℤ, length, set, drop, Ok, Err}
+use Rattle.std.specs.Prelude.{◌≡◌, refl, List, [], ◌∷◌, ◌++◌, ◌≢◌, ℕ, suc, ◌+◌, ◌-◌, ◌≤◌, ◌<◌, length, set, drop, Ok, Err}
 use Rattle.std.proofs.Common.{sym, ap, subst, ◌∙◌, ⊎_elim, arith, add-one, length-append, drop-cons}
 use Rattle.std.proofs.Math.ListN.{get_or-append}
 use Rattle.std.proofs.lemmas.List.{get_or_at, set_at}
@@ -7,6 +7,8 @@ use Rattle.std.proofs.Math.Seq.{append_snoc}
 use Rattle.number.specs.Order.{eq_or_ne}
 use Rattle.project.specs.Records.{relationship_type_of}
 use Rattle.memory.specs.State.{State}
+use Rattle.memory.specs.declared.Tables.{Tables}
+use Rattle.memory.specs.Seen.{state, SameSlice}
 use Rattle.memory.specs.Fields.{from_field, to_field, kind_field, lag_field, lag_calendar_field}
 use Rattle.sheet.specs.declared.Contents.{Contents}
 use Rattle.calendars.specs.declared.plan_calendar.PlanCalendar.{PlanCalendar}
@@ -19,7 +21,6 @@ use Rattle.order.specs.RefusalLaws.{number_some}
 use Rattle.order.specs.VerdictLaws.{first_start, first_end, first_passes, first_stops}
 use Rattle.ids.specs.Index.{Indexed}
 use Rattle.ids.specs.Parented.{Parented}
-use Rattle.ids.specs.Lent.{state_in}
 use Rattle.links.specs.declared.LinkCounts.{LinkCounts}
 use Rattle.links.specs.Stored.{tie_in}
 use Rattle.links.specs.Answers.{Judging, ActsKept, LinkIgnored, LinkKept, LinkedOne, LinksIn, LinkedAll}
@@ -35,10 +36,10 @@ module _ (p : Plan) {S T : State} (K : ActsKept S T) (n : ℕ) where
   pub parented_kept : Parented p S n → Parented p T n
   parented_kept P = record { parents = rw K.acts P.parents; marks = rw K.acts P.marks }
 
-pub judging_kept : {s : List ℕ} {c : Contents} {calendars : List PlanCalendar} {xs ys : List ℤ} → Judging s c calendars xs → ActsKept (state_in c xs) (state_in c ys)
-    → length ys ≡ length xs → Judging s c calendars ys
+pub judging_kept : {s : List ℕ} {c : Contents} {calendars : List PlanCalendar} {t u : Tables} → Judging s c calendars t → ActsKept (state t) (state u) → SameSlice t u
+    → Judging s c calendars u
 judging_kept {s} {c} J K e = record {
-  lent = record { read = J.lent.read; room = omega (arith, J.lent.room) };
+  lent = record { read = J.lent.read; activities = e.activities ∙ J.lent.activities; links = e.links ∙ J.lent.links };
   distinct = J.distinct;
   indexed = indexed_kept (plan_of s c) K c.activities J.indexed;
   parented = parented_kept (plan_of s c) K c.activities J.parented;

@@ -2,7 +2,7 @@
 #![tactic(auto)]
 
 ghost use Rattle.std.specs.Prelude.{◌≡◌, false, ◌^◌, ◌≤◌, ◌<◌, length};
-ghost use Rattle.memory.specs.State.{Room, state_of};
+ghost use Rattle.memory.specs.Seen.{state, SameSlice};
 ghost use Rattle.project.specs.Records.{relationship_type_of};
 ghost use Rattle.sheet.specs.Known.{SheetRead};
 ghost use Rattle.order.specs.Plan.{plan_of};
@@ -11,13 +11,14 @@ ghost use Rattle.order.specs.FineLaws.{ActivitiesFine};
 ghost use Rattle.order.specs.Ties.{tie_calendar, tie_too_long, tie_of};
 ghost use Rattle.ids.specs.Index.{Indexed};
 ghost use Rattle.ids.specs.Parented.{Parented};
-ghost use Rattle.ids.specs.Lent.{Lent, state_in};
+ghost use Rattle.ids.specs.Lent.{Lent};
 ghost use Rattle.ties.specs.Ends.{Between};
 ghost use Rattle.calendars.specs.Calendars.{Lengths};
 ghost use Rattle.links.specs.Stored.{with_tie, Stored};
 ghost use Rattle.links.specs.Answers.{Judging, LinkedOne, LinkedAll, ActsKept};
 
 use calendars::PlanCalendar;
+use memory::Tables;
 use order::PlanError;
 use sheet::Contents;
 
@@ -56,9 +57,7 @@ fn tie_lag(
 
 // Puts a link into row `t` of the link table.
 fn put_tie(
-    work: &mut [i64],
-    a: usize,
-    l: usize,
+    tables: &mut Tables,
     t: usize,
     from: usize,
     to: usize,
@@ -66,14 +65,14 @@ fn put_tie(
     lag: i64,
     calendar: u64,
 )
-    requires { Room a l work.old × (t < l) × (from < 2 ^ 63) × (to < 2 ^ 63) × (kind < 2 ^ 63) × (calendar < 2 ^ 63) }
-    ensures { (state_of a l work.new ≡ with_tie (state_of a l work.old) t from to kind lag calendar) × (length work.new ≡ length work.old) }
+    requires { (t < tables.old.links) × (from < 2 ^ 63) × (to < 2 ^ 63) × (kind < 2 ^ 63) × (calendar < 2 ^ 63) }
+    ensures { (state tables.new ≡ with_tie (state tables.old) t from to kind lag calendar) × SameSlice tables.old tables.new }
 {
-    memory::put_link(work, a, l, t, memory::fields::FROM, from as u64);
-    memory::put_link(work, a, l, t, memory::fields::TO, to as u64);
-    memory::put_link(work, a, l, t, memory::fields::KIND, kind);
-    memory::put_link_signed(work, a, l, t, memory::fields::LAG, lag);
-    memory::put_link(work, a, l, t, memory::fields::LAG_CALENDAR, calendar);
+    tables.put_link(t, memory::fields::FROM, from as u64);
+    tables.put_link(t, memory::fields::TO, to as u64);
+    tables.put_link(t, memory::fields::KIND, kind);
+    tables.put_link_signed(t, memory::fields::LAG, lag);
+    tables.put_link(t, memory::fields::LAG_CALENDAR, calendar);
 }
 
 // Puts link `k`, which is kept, into row `t` of the link table.
@@ -81,29 +80,19 @@ fn store_tie(
     sheet: &[u8],
     contents: Contents,
     calendars: &[PlanCalendar],
-    work: &mut [i64],
+    tables: &mut Tables,
     k: usize,
     from: usize,
     to: usize,
     t: usize,
 )
-    requires { Lent sheet.now contents work.old × (k < contents.links) × ActivitiesFine (plan_of sheet.now contents) × Lengths (plan_of sheet.now contents) calendars.now × Between (plan_of sheet.now contents) k from to × (tie_too_long (plan_of sheet.now contents) k ≡ false) × (t < contents.links) }
-    ensures { Stored (plan_of sheet.now contents) k t (state_in contents work.old) (state_in contents work.new) × (length work.new ≡ length work.old) }
+    requires { Lent sheet.now contents tables.old × (k < contents.links) × ActivitiesFine (plan_of sheet.now contents) × Lengths (plan_of sheet.now contents) calendars.now × Between (plan_of sheet.now contents) k from to × (tie_too_long (plan_of sheet.now contents) k ≡ false) × (t < contents.links) }
+    ensures { Stored (plan_of sheet.now contents) k t (state tables.old) (state tables.new) × SameSlice tables.old tables.new }
 {
     let kind = kind_code(sheet, contents, k);
     let calendar = ties::tie_calendar(sheet, contents, k, from, to);
     let lag = tie_lag(sheet, contents, calendars, k, from, to, calendar);
-    put_tie(
-        work,
-        contents.activities,
-        contents.links,
-        t,
-        from,
-        to,
-        kind,
-        lag,
-        calendar,
-    );
+    put_tie(tables, t, from, to, kind, lag, calendar);
 }
 
 // Judges link `k`, after the links that `counts` has: a kept link is stored in its row, an ignored one is named.
@@ -112,14 +101,14 @@ fn link_one(
     contents: Contents,
     calendars: &[PlanCalendar],
     names: &mut [u32],
-    work: &mut [i64],
+    tables: &mut Tables,
     k: usize,
     counts: LinkCounts,
 ) -> Result<LinkCounts, PlanError>
-    requires { Judging sheet.now contents calendars.now work.old × (k < contents.links) × (counts.kept < contents.links) × (counts.ignored < length names.old) }
-    ensures { LinkedOne (plan_of sheet.now contents) k counts (state_in contents work.old) (state_in contents work.new) names.old names.new result × (length work.new ≡ length work.old) × (length names.new ≡ length names.old) }
+    requires { Judging sheet.now contents calendars.now tables.old × (k < contents.links) × (counts.kept < contents.links) × (counts.ignored < length names.old) }
+    ensures { LinkedOne (plan_of sheet.now contents) k counts (state tables.old) (state tables.new) names.old names.new result × SameSlice tables.old tables.new × (length names.new ≡ length names.old) }
 {
-    let Some(ends) = ties::link_check(sheet, contents, work, calendars, k)? else {
+    let Some(ends) = ties::link_check(sheet, contents, tables, calendars, k)? else {
         names[counts.ignored] = k as u32;
         return Ok(LinkCounts {
             ignored: counts.ignored + 1,
@@ -130,7 +119,7 @@ fn link_one(
         sheet,
         contents,
         calendars,
-        work,
+        tables,
         k,
         ends.from,
         ends.to,
@@ -148,17 +137,17 @@ pub fn link_all(
     contents: Contents,
     calendars: &[PlanCalendar],
     names: &mut [u32],
-    work: &mut [i64],
+    tables: &mut Tables,
 ) -> Result<LinkCounts, PlanError>
-    requires { Lent sheet.now contents work.old × DistinctIds (plan_of sheet.now contents) × Indexed (plan_of sheet.now contents) (state_in contents work.old) contents.activities × Parented (plan_of sheet.now contents) (state_in contents work.old) contents.activities × ActivitiesFine (plan_of sheet.now contents) × Lengths (plan_of sheet.now contents) calendars.now × (contents.links ≤ length names.old) }
-    ensures { LinkedAll (plan_of sheet.now contents) (state_in contents work.new) names.old names.new result × ActsKept (state_in contents work.old) (state_in contents work.new) × (length work.new ≡ length work.old) × (length names.new ≡ length names.old) }
+    requires { Lent sheet.now contents tables.old × DistinctIds (plan_of sheet.now contents) × Indexed (plan_of sheet.now contents) (state tables.old) contents.activities × Parented (plan_of sheet.now contents) (state tables.old) contents.activities × ActivitiesFine (plan_of sheet.now contents) × Lengths (plan_of sheet.now contents) calendars.now × (contents.links ≤ length names.old) }
+    ensures { LinkedAll (plan_of sheet.now contents) (state tables.new) names.old names.new result × ActsKept (state tables.old) (state tables.new) × SameSlice tables.old tables.new × (length names.new ≡ length names.old) }
 {
     let mut counts = LinkCounts {
         kept: 0,
         ignored: 0,
     };
     for k in 0..contents.links {
-        counts = link_one(sheet, contents, calendars, names, work, k, counts)?;
+        counts = link_one(sheet, contents, calendars, names, tables, k, counts)?;
     }
     Ok(counts)
 }

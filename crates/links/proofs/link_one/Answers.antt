@@ -3,6 +3,7 @@ use mathlib.Core.Path.{refl}
 use lib.ListN.{length-set}
 use Rattle.std.proofs.Common.{inl, inr}
 use Rattle.std.proofs.lemmas.Result.{err_from_is_err_and}
+use Rattle.memory.specs.SeenLaws.{same_refl}
 use Rattle.order.specs.Plan.{plan_of}
 use Rattle.links.specs.StoreLaws.{kept_short}
 use Rattle.links.proofs.link_one.Goals as goal
@@ -10,13 +11,13 @@ use Rattle.links.proofs.link_one.Goals as goal
 pub returns-in_err-ends : goal.returns-in_err-ends
 returns-in_err-ends c =
     let q = err_from_is_err_and c.from_residual.result c.from_residual.ensures.1 in
-    rw (q.1, q.2) ((c.in_err-ends.ensures, refl), refl, refl)
+    rw (q.1, q.2) ((c.in_err-ends.ensures, refl), same_refl c.args.tables.now, refl)
 
 pub returns-in_default : goal.returns-in_default
 returns-in_default c =
     let x = c.args in
     let A = rw c.in_default.is at c.in_ok-ends.ensures in
-    ((A.0, inl (record { is = A.1; same = refl; named = refl; kept = refl; more = refl })), refl, length-set x.names.now x.counts.ignored x.k)
+    ((A.0, inl (record { is = A.1; same = refl; named = refl; kept = refl; more = refl })), same_refl x.tables.now, length-set x.names.now x.counts.ignored x.k)
 
 pub store_tie-requires : goal.store_tie-requires
 store_tie-requires c =
