@@ -21,6 +21,7 @@ use Rattle.order.specs.RefusalLaws.{number_some}
 use Rattle.order.specs.VerdictLaws.{first_start, first_end, first_passes, first_stops}
 use Rattle.ids.specs.Index.{Indexed}
 use Rattle.ids.specs.Parented.{Parented}
+use Rattle.ids.specs.LentLaws.{still_lent}
 use Rattle.links.specs.declared.LinkCounts.{LinkCounts}
 use Rattle.links.specs.Stored.{tie_in}
 use Rattle.links.specs.Answers.{Judging, ActsKept, LinkIgnored, LinkKept, LinkedOne, LinksIn, LinkedAll}
@@ -39,7 +40,7 @@ module _ (p : Plan) {S T : State} (K : ActsKept S T) (n : ℕ) where
 pub judging_kept : {s : List ℕ} {c : Contents} {calendars : List PlanCalendar} {t u : Tables} → Judging s c calendars t → ActsKept (state t) (state u) → SameSlice t u
     → Judging s c calendars u
 judging_kept {s} {c} J K e = record {
-  lent = record { read = J.lent.read; activities = e.activities ∙ J.lent.activities; links = e.links ∙ J.lent.links };
+  lent = still_lent J.lent e;
   distinct = J.distinct;
   indexed = indexed_kept (plan_of s c) K c.activities J.indexed;
   parented = parented_kept (plan_of s c) K c.activities J.parented;

@@ -8,6 +8,7 @@ use Rattle.memory.specs.SeenLaws.{same_then}
 use Rattle.std.proofs.lemmas.Result.{err_from_is_err_and}
 use Rattle.order.specs.Plan.{plan_of}
 use Rattle.order.specs.Checks.{judge_parent}
+use Rattle.ids.specs.LentLaws.{still_lent}
 use Rattle.ids.specs.Parented.{Parented}
 use Rattle.ids.specs.ParentedLaws.{indexed_kept, unmarked, unmarked_kept}
 use Rattle.memory.specs.Seen.{state}
@@ -31,7 +32,7 @@ unfolding plan_of
 parent_one-requires c =
     let x = c.args in
     let X = c.loop-i.invariant.1 in (
-      record { read = c.requires.0.read; activities = c.loop-i.invariant.0.activities ∙ c.requires.0.activities; links = c.loop-i.invariant.0.links ∙ c.requires.0.links },
+      still_lent c.requires.0 c.loop-i.invariant.0,
       omega arith,
       c.requires.1,
       indexed_kept (plan_of x.sheet.now x.contents) X.kept c.requires.2,
