@@ -1,8 +1,10 @@
 -- The rest of the memory cleared: what stood still stands, and all else is 0.
-use Rattle.std.specs.Prelude.{◌≡◌, refl, Bool, true, false, cond, List, ℕ, ◌+◌, ◌*◌, ◌≤◌, ◌<◌, ltb, ℤ, pos}
-use Rattle.std.proofs.Common.{sym, ap, subst, ◌∙◌, lt-ltb, le-ltb}
+use Rattle.std.specs.Prelude.{◌≡◌, refl, Bool, true, false, cond, ℕ, ◌+◌, ◌*◌, ◌≤◌, ◌<◌, ltb, ℤ, pos}
+use Rattle.std.proofs.Common.{sym, ap, subst, ◌∙◌, arith, lt-ltb, le-ltb}
 use Rattle.cells.specs.Cell.{cell_z}
-use Rattle.memory.specs.State.{State, state_of}
+use Rattle.memory.specs.State.{State}
+use Rattle.memory.specs.Seen.{state, SameSlice}
+use Rattle.memory.specs.declared.Tables.{Tables}
 use Rattle.memory.specs.Fields.{from_field, to_field, kind_field, lag_field, lag_calendar_field}
 use Rattle.project.specs.Records.{relationship_type_of}
 use Rattle.order.specs.Plan.{Plan}
@@ -40,19 +42,19 @@ module _ (t : ℕ) (S : State) where
   }
 
 -- ---- in the memory
-module _ (a l t : ℕ) (xs ys : List ℤ) (e : state_of a l ys ≡ rest_cleared t (state_of a l xs)) where
-  pub rest_stands : (p : Plan) → Standing p t (state_of a l xs) → Standing p t (state_of a l ys)
-  rest_stands p W = subst (Standing p t) (sym e) (standing_left t (state_of a l xs) p W)
+module _ (before after : Tables) (t : ℕ) (e : state after ≡ rest_cleared t (state before)) where
+  pub rest_stands : (p : Plan) → Standing p t (state before) → Standing p t (state after)
+  rest_stands p W = subst (Standing p t) (sym e) (standing_left t (state before) p W)
 
-  pub rest_elsewhere : ((j : ℕ) → 64 * a + 16 * l ≤ j → cell_z ys j ≡ pos 0) → Elsewhere a l t ys
-  rest_elsewhere h = record {
-    acts = λ f i n. ap (λ (S : State). S.act_z f i) e ∙ ap (λ (b : Bool). cond b ((state_of a l xs).act_z f i) (pos 0)) n;
-    links = λ f k b n. link_at f k ∙ ap (λ (c : Bool). cond c (cond (ltb k t) ((state_of a l xs).link_z f k) (pos 0)) (pos 0)) n;
-    unused = λ f k b. link_at f k ∙ ap (λ (c : Bool). cond (link_stands f) (cond c ((state_of a l xs).link_z f k) (pos 0)) (pos 0)) (le-ltb k t b) ∙ both (link_stands f);
-    after = h;
+  pub rest_elsewhere : SameSlice before after → ((j : ℕ) → 64 * before.activities + 16 * before.links ≤ j → cell_z after.cells.now j ≡ pos 0) → Elsewhere t after
+  rest_elsewhere m h = record {
+    acts = λ f i n. ap (λ (S : State). S.act_z f i) e ∙ ap (λ (b : Bool). cond b ((state before).act_z f i) (pos 0)) n;
+    links = λ f k b n. link_at f k ∙ ap (λ (c : Bool). cond c (cond (ltb k t) ((state before).link_z f k) (pos 0)) (pos 0)) n;
+    unused = λ f k b. link_at f k ∙ ap (λ (c : Bool). cond (link_stands f) (cond c ((state before).link_z f k) (pos 0)) (pos 0)) (le-ltb k t b) ∙ both (link_stands f);
+    after = λ j b. h j (omega (arith, m, b));
   }
     where
-      link_at : (f k : ℕ) → (state_of a l ys).link_z f k ≡ (rest_cleared t (state_of a l xs)).link_z f k
+      link_at : (f k : ℕ) → (state after).link_z f k ≡ (rest_cleared t (state before)).link_z f k
       link_at f k = ap (λ (S : State). S.link_z f k) e
 
       both : (b : Bool) → ◌≡◌ {A = ℤ} (cond b (pos 0) (pos 0)) (pos 0)

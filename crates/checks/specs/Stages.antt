@@ -1,6 +1,8 @@
 -- The answer of the checks, and what it says of the lent names and the lent memory.
-use Rattle.std.specs.Prelude.{◌≡◌, List, ◌++◌, ℕ, ◌-◌, ℤ, pos, length, replicate, Result, Ok, Err, IfOk}
-use Rattle.memory.specs.State.{State, state_of}
+use Rattle.std.specs.Prelude.{◌≡◌, List, ◌++◌, ℕ, ◌-◌, pos, length, replicate, Result, Ok, Err, IfOk}
+use Rattle.memory.specs.State.{State}
+use Rattle.memory.specs.Seen.{state}
+use Rattle.memory.specs.declared.Tables.{Tables}
 use Rattle.sheet.specs.declared.Contents.{Contents}
 use Rattle.order.specs.Plan.{Plan, plan_of}
 use Rattle.order.specs.Ties.{ignored_links, open_ends}
@@ -46,42 +48,40 @@ module _ (p : Plan) where
     pub holds : IfOk r (λ x. Prepared S)
 
 -- ---- some of the checks: v is their verdict, `size` the length of the names and `room` that of the memory
-module _ (p : Plan) (v : Verdict) (size room : ℕ) (names : List ℕ) (work : List ℤ) where
+module _ (p : Plan) (v : Verdict) (size room : ℕ) (names : List ℕ) (tables : Tables) where
   pub record FineAs (c : PlanCounts) : Type 0 where
     pub fine : v.number ≡ 0
-    pub standing : Standing p c.kept (state_of p.activities p.links work)
-    pub elsewhere : Elsewhere p.activities p.links c.kept work
+    pub standing : Standing p c.kept (state tables)
+    pub elsewhere : Elsewhere c.kept tables
     pub named : names ≡ ignored_links p ++ replicate (size - length (ignored_links p)) 0
     pub ignored : c.ignored ≡ length (ignored_links p)
     pub ends : c.open_ends ≡ open_ends p
-    pub kept : length work ≡ room
 
   pub record RefusedAs (e : PlanError) : Type 0 where
     pub number_is : plan_number e ≡ v.number
     pub id_is : plan_id e ≡ v.id
     pub named : names ≡ v.loop ++ replicate (size - length v.loop) 0
-    pub cleared : work ≡ replicate room (pos 0)
+    pub cleared : tables.cells.now ≡ replicate room (pos 0)
 
   abbrev pub Judged : Result PlanCounts PlanError → Type 0
   Judged (Ok c) = FineAs c
   Judged (Err e) = RefusedAs e
 
 -- ---- all of them: names and memory before and after
-module _ (s : List ℕ) (contents : Contents) (calendars : List PlanCalendar) (names : List ℕ) (work : List ℤ) (names' : List ℕ) (work' : List ℤ) where
+module _ (s : List ℕ) (contents : Contents) (calendars : List PlanCalendar) (names : List ℕ) (tables : Tables) (names' : List ℕ) (tables' : Tables) where
   pub record PlanFine (c : PlanCounts) : Type 0 where
     pub fine : (checked (plan_of s contents)).number ≡ 0
-    pub ready : Ready s contents calendars c.kept work'
-    pub elsewhere : Elsewhere contents.activities contents.links c.kept work'
+    pub ready : Ready s contents calendars c.kept tables'.cells.now
+    pub elsewhere : Elsewhere c.kept tables'
     pub named : names' ≡ then_zeros (ignored_links (plan_of s contents)) names
     pub ignored : c.ignored ≡ length (ignored_links (plan_of s contents))
     pub ends : c.open_ends ≡ open_ends (plan_of s contents)
-    pub kept : length work' ≡ length work
 
   pub record PlanRefused (e : PlanError) : Type 0 where
     pub number_is : plan_number e ≡ (checked (plan_of s contents)).number
     pub id_is : plan_id e ≡ (checked (plan_of s contents)).id
     pub named : names' ≡ then_zeros (checked (plan_of s contents)).loop names
-    pub cleared : work' ≡ replicate (length work) (pos 0)
+    pub cleared : tables'.cells.now ≡ replicate (length tables.cells.now) (pos 0)
 
   abbrev pub PlanChecked : Result PlanCounts PlanError → Type 0
   PlanChecked (Ok c) = PlanFine c

@@ -3,7 +3,7 @@
 
 ghost use Rattle.std.specs.Prelude.{◌≡◌, ◌+◌, ◌≤◌, ◌<◌, max, length, set, replicate, pos, Err};
 ghost use Rattle.sheet.specs.Known.{SheetRead};
-ghost use Rattle.memory.specs.State.{Room};
+ghost use Rattle.memory.specs.Seen.{state, SameSlice};
 ghost use Rattle.network.specs.Parents.{upward};
 ghost use Rattle.network.specs.Kahn.{named_loop};
 ghost use Rattle.order.specs.Plan.{plan_of};
@@ -11,7 +11,7 @@ ghost use Rattle.order.specs.Ids.{id_of, parent_of};
 ghost use Rattle.order.specs.Ties.{kept_links, ignored_links, is_open, open_ends};
 ghost use Rattle.order.specs.Checks.{named, judge_order};
 ghost use Rattle.order.specs.FineLaws.{ParentsKnown, LinksFine};
-ghost use Rattle.ids.specs.Lent.{Lent, state_in};
+ghost use Rattle.ids.specs.Lent.{Lent};
 ghost use Rattle.ids.specs.Parented.{Parented};
 ghost use Rattle.ids.specs.Summaries.{LoopFrom};
 ghost use Rattle.calendars.specs.Calendars.{Places, Lengths};
@@ -24,7 +24,7 @@ ghost use Rattle.checks.specs.Stages.{links_verdict, summaries_verdict, Prepared
 use calendars::PlanCalendar;
 use ids::SummaryError;
 use links::LinkCounts;
-use memory::fields;
+use memory::{Tables, fields};
 use order::PlanError;
 use sheet::Contents;
 
@@ -49,67 +49,61 @@ fn name_parents(
     sheet: &[u8],
     contents: Contents,
     names: &mut [u32],
-    work: &[i64],
+    tables: &Tables,
     first: usize,
     steps: usize,
 )
-    requires { Lent sheet.now contents work.now × ParentsKnown (plan_of sheet.now contents) × Parented (plan_of sheet.now contents) (state_in contents work.now) contents.activities × LoopFrom (plan_of sheet.now contents) first steps × (contents.activities < length names.old) }
+    requires { Lent sheet.now contents tables.now × ParentsKnown (plan_of sheet.now contents) × Parented (plan_of sheet.now contents) (state tables.now) contents.activities × LoopFrom (plan_of sheet.now contents) first steps × (contents.activities < length names.old) }
     ensures { names.new ≡ then_zeros (named (id_of (plan_of sheet.now contents)) (upward (parent_of (plan_of sheet.now contents)) steps first)) names.old }
 {
     cells::clear_u32(names);
     name_one(sheet, contents, names, 0, first);
-    let a = contents.activities;
-    let l = contents.links;
     let mut i = first;
     for k in 0..steps {
-        i = memory::get_act(work, a, l, i, fields::PARENT) as usize - 1;
+        i = tables.act(i, fields::PARENT) as usize - 1;
         name_one(sheet, contents, names, k + 1, i);
     }
 }
 
 // Row 15's names: the ids of the `m` activities that stand in the memory, the first again, then zeros.
-fn name_links(sheet: &[u8], contents: Contents, names: &mut [u32], work: &[i64], m: usize)
-    requires { Lent sheet.now contents work.now × LoopIn contents.activities m (named_loop (kept_links (plan_of sheet.now contents)) contents.activities) (state_in contents work.now) × (m ≤ contents.activities) × (contents.activities < length names.old) }
+fn name_links(sheet: &[u8], contents: Contents, names: &mut [u32], tables: &Tables, m: usize)
+    requires { Lent sheet.now contents tables.now × LoopIn contents.activities m (named_loop (kept_links (plan_of sheet.now contents)) contents.activities) (state tables.now) × (m ≤ contents.activities) × (contents.activities < length names.old) }
     ensures { names.new ≡ then_zeros (named (id_of (plan_of sheet.now contents)) (named_loop (kept_links (plan_of sheet.now contents)) contents.activities)) names.old }
 {
     cells::clear_u32(names);
-    let a = contents.activities;
-    let l = contents.links;
     for k in 0..m {
-        let i = memory::get_act(work, a, l, k, fields::SEEN) as usize;
+        let i = tables.act(k, fields::SEEN) as usize;
         name_one(sheet, contents, names, k, i);
     }
-    let i = memory::get_act(work, a, l, 0, fields::SEEN) as usize;
+    let i = tables.act(0, fields::SEEN) as usize;
     name_one(sheet, contents, names, m, i);
 }
 
 // Whether activity `i` is an open end.
-fn is_open(sheet: &[u8], contents: Contents, work: &[i64], t: usize, i: usize) -> bool
-    requires { Lent sheet.now contents work.now × Standing (plan_of sheet.now contents) t (state_in contents work.now) × (i < contents.activities) }
+fn is_open(sheet: &[u8], contents: Contents, tables: &Tables, t: usize, i: usize) -> bool
+    requires { Lent sheet.now contents tables.now × Standing (plan_of sheet.now contents) t (state tables.now) × (i < contents.activities) }
     ensures { result ≡ is_open (plan_of sheet.now contents) i }
 {
-    let a = contents.activities;
-    let l = contents.links;
-    if memory::get_act(work, a, l, i, fields::IS_SUMMARY) > 0 {
+    if tables.act(i, fields::IS_SUMMARY) > 0 {
         return false;
     }
-    if memory::get_act(work, a, l, i, fields::FIRST_IN) == t as u64 {
+    if tables.act(i, fields::FIRST_IN) == t as u64 {
         return true;
     }
-    if memory::get_act(work, a, l, i, fields::FIRST_OUT) == t as u64 {
+    if tables.act(i, fields::FIRST_OUT) == t as u64 {
         return true;
     }
     false
 }
 
 // How many open ends there are.
-fn open_ends(sheet: &[u8], contents: Contents, work: &[i64], t: usize) -> u64
-    requires { Lent sheet.now contents work.now × Standing (plan_of sheet.now contents) t (state_in contents work.now) }
+fn open_ends(sheet: &[u8], contents: Contents, tables: &Tables, t: usize) -> u64
+    requires { Lent sheet.now contents tables.now × Standing (plan_of sheet.now contents) t (state tables.now) }
     ensures { (result ≡ open_ends (plan_of sheet.now contents)) × (result ≤ contents.activities) }
 {
     let mut n: u64 = 0;
     for i in 0..contents.activities {
-        if is_open(sheet, contents, work, t, i) {
+        if is_open(sheet, contents, tables, t, i) {
             n += 1;
         }
     }
@@ -122,35 +116,33 @@ fn check_order(
     sheet: &[u8],
     contents: Contents,
     names: &mut [u32],
-    work: &mut [i64],
+    tables: &mut Tables,
     counts: LinkCounts,
 ) -> Result<PlanCounts, PlanError>
-    requires { Lent sheet.now contents work.old × StoredLinks (plan_of sheet.now contents) counts.kept (state_in contents work.old) × LinksFine (plan_of sheet.now contents) × (counts.ignored ≡ length (ignored_links (plan_of sheet.now contents))) × (names.old ≡ then_zeros (ignored_links (plan_of sheet.now contents)) names.old) × (contents.activities < length names.old) }
-    ensures { Judged (plan_of sheet.now contents) (judge_order (plan_of sheet.now contents)) (length names.old) (length work.old) names.new work.new result }
+    requires { Lent sheet.now contents tables.old × StoredLinks (plan_of sheet.now contents) counts.kept (state tables.old) × LinksFine (plan_of sheet.now contents) × (counts.ignored ≡ length (ignored_links (plan_of sheet.now contents))) × (names.old ≡ then_zeros (ignored_links (plan_of sheet.now contents)) names.old) × (contents.activities < length names.old) }
+    ensures { Judged (plan_of sheet.now contents) (judge_order (plan_of sheet.now contents)) (length names.old) (length tables.old.cells.now) names.new tables.new result × SameSlice tables.old tables.new }
 {
-    let a = contents.activities;
-    let l = contents.links;
     let t = counts.kept;
-    if topology::order_activities(work, a, l, t) == a {
-        rest::clear_rest(work, a, l, t);
+    if topology::order_activities(tables, t) == contents.activities {
+        rest::clear_rest(tables, t);
         return Ok(PlanCounts {
             kept: t,
             ignored: counts.ignored,
-            open_ends: open_ends(sheet, contents, work, t),
+            open_ends: open_ends(sheet, contents, tables, t),
         });
     }
-    let m = topology::name_loop(work, a, l, t);
-    name_links(sheet, contents, names, work, m);
-    cells::clear(work);
+    let m = topology::name_loop(tables, t);
+    name_links(sheet, contents, names, tables, m);
+    tables.clear();
     Err(PlanError::LinkLoop(names[0] as u64))
 }
 
 // Refuses without names: names and memory are cleared.
-fn refuse(names: &mut [u32], work: &mut [i64], error: PlanError) -> Result<PlanCounts, PlanError>
-    ensures { (result ≡ Err error) × (names.new ≡ replicate (length names.old) 0) × (work.new ≡ replicate (length work.old) (pos 0)) }
+fn refuse(names: &mut [u32], tables: &mut Tables, error: PlanError) -> Result<PlanCounts, PlanError>
+    ensures { (result ≡ Err error) × (names.new ≡ replicate (length names.old) 0) × (tables.new.cells.now ≡ replicate (length tables.old.cells.now) (pos 0)) × SameSlice tables.old tables.new }
 {
     cells::clear_u32(names);
-    cells::clear(work);
+    tables.clear();
     Err(error)
 }
 
@@ -159,16 +151,16 @@ fn check_ids(
     sheet: &[u8],
     contents: Contents,
     calendars: &[PlanCalendar],
-    work: &mut [i64],
+    tables: &mut Tables,
 ) -> Result<(), PlanError>
-    requires { Lent sheet.now contents work.old × Places sheet.now contents calendars.now }
-    ensures { IdsChecked (plan_of sheet.now contents) result (state_in contents work.new) × (length work.new ≡ length work.old) }
+    requires { Lent sheet.now contents tables.old × Places sheet.now contents calendars.now }
+    ensures { IdsChecked (plan_of sheet.now contents) result (state tables.new) × SameSlice tables.old tables.new }
 {
     if !calendars::have_hours(sheet, contents, calendars) {
         return Err(PlanError::NoHours);
     }
-    ids::index_all(sheet, contents, work)?;
-    ids::parents(sheet, contents, work)
+    ids::index_all(sheet, contents, tables)?;
+    ids::parents(sheet, contents, tables)
 }
 
 // Rows 13, 14 and 8 of the links, then 15.
@@ -177,15 +169,15 @@ fn check_links(
     contents: Contents,
     calendars: &[PlanCalendar],
     names: &mut [u32],
-    work: &mut [i64],
+    tables: &mut Tables,
 ) -> Result<PlanCounts, PlanError>
-    requires { Lent sheet.now contents work.old × Prepared (plan_of sheet.now contents) (state_in contents work.old) × Lengths (plan_of sheet.now contents) calendars.now × (contents.activities < length names.old) × (contents.links ≤ length names.old) }
-    ensures { Judged (plan_of sheet.now contents) (links_verdict (plan_of sheet.now contents)) (length names.old) (length work.old) names.new work.new result }
+    requires { Lent sheet.now contents tables.old × Prepared (plan_of sheet.now contents) (state tables.old) × Lengths (plan_of sheet.now contents) calendars.now × (contents.activities < length names.old) × (contents.links ≤ length names.old) }
+    ensures { Judged (plan_of sheet.now contents) (links_verdict (plan_of sheet.now contents)) (length names.old) (length tables.old.cells.now) names.new tables.new result × SameSlice tables.old tables.new }
 {
     cells::clear_u32(names);
-    match links::link_all(sheet, contents, calendars, names, work) {
-        Ok(counts) => check_order(sheet, contents, names, work, counts),
-        Err(error) => refuse(names, work, error),
+    match links::link_all(sheet, contents, calendars, names, tables) {
+        Ok(counts) => check_order(sheet, contents, names, tables, counts),
+        Err(error) => refuse(names, tables, error),
     }
 }
 
@@ -195,17 +187,17 @@ fn check_summaries(
     contents: Contents,
     calendars: &[PlanCalendar],
     names: &mut [u32],
-    work: &mut [i64],
+    tables: &mut Tables,
 ) -> Result<PlanCounts, PlanError>
-    requires { Lent sheet.now contents work.old × Prepared (plan_of sheet.now contents) (state_in contents work.old) × Lengths (plan_of sheet.now contents) calendars.now × (contents.activities < length names.old) × (contents.links ≤ length names.old) }
-    ensures { Judged (plan_of sheet.now contents) (summaries_verdict (plan_of sheet.now contents)) (length names.old) (length work.old) names.new work.new result }
+    requires { Lent sheet.now contents tables.old × Prepared (plan_of sheet.now contents) (state tables.old) × Lengths (plan_of sheet.now contents) calendars.now × (contents.activities < length names.old) × (contents.links ≤ length names.old) }
+    ensures { Judged (plan_of sheet.now contents) (summaries_verdict (plan_of sheet.now contents)) (length names.old) (length tables.old.cells.now) names.new tables.new result × SameSlice tables.old tables.new }
 {
-    match ids::summaries(sheet, contents, work) {
-        Ok(()) => check_links(sheet, contents, calendars, names, work),
-        Err(SummaryError::Milestone(id)) => refuse(names, work, PlanError::MilestoneParent(id)),
+    match ids::summaries(sheet, contents, tables) {
+        Ok(()) => check_links(sheet, contents, calendars, names, tables),
+        Err(SummaryError::Milestone(id)) => refuse(names, tables, PlanError::MilestoneParent(id)),
         Err(SummaryError::Loop { first, steps }) => {
-            name_parents(sheet, contents, names, work, first, steps);
-            cells::clear(work);
+            name_parents(sheet, contents, names, tables, first, steps);
+            tables.clear();
             Err(PlanError::ParentLoop(names[0] as u64))
         }
     }
@@ -218,13 +210,13 @@ pub fn check_plan(
     contents: Contents,
     calendars: &[PlanCalendar],
     names: &mut [u32],
-    work: &mut [i64],
+    tables: &mut Tables,
 ) -> Result<PlanCounts, PlanError>
-    requires { SheetRead sheet.now contents × Room contents.activities contents.links work.old × Places sheet.now contents calendars.now × Lengths (plan_of sheet.now contents) calendars.now × (max (contents.activities + 1) contents.links ≤ length names.old) }
-    ensures { PlanChecked sheet.now contents calendars.now names.old work.old names.new work.new result }
+    requires { Lent sheet.now contents tables.old × Places sheet.now contents calendars.now × Lengths (plan_of sheet.now contents) calendars.now × (max (contents.activities + 1) contents.links ≤ length names.old) }
+    ensures { PlanChecked sheet.now contents calendars.now names.old tables.old names.new tables.new result × SameSlice tables.old tables.new }
 {
-    match check_ids(sheet, contents, calendars, work) {
-        Ok(()) => check_summaries(sheet, contents, calendars, names, work),
-        Err(error) => refuse(names, work, error),
+    match check_ids(sheet, contents, calendars, tables) {
+        Ok(()) => check_summaries(sheet, contents, calendars, names, tables),
+        Err(error) => refuse(names, tables, error),
     }
 }

@@ -1,9 +1,9 @@
 -- `checks::check_ids` meets its contract.
-use mathlib.Core.Path.{refl, ◌∙◌}
-use native.Mathlib.Omega.{arith}
 use Rattle.std.proofs.lemmas.Result.{err_from_is_err_and}
 use Rattle.order.specs.Plan.{plan_of}
-use Rattle.ids.specs.Lent.{state_in}
+use Rattle.memory.specs.Seen.{state}
+use Rattle.memory.specs.SeenLaws.{same_refl, same_then}
+use Rattle.ids.specs.LentLaws.{still_lent}
 use Rattle.ids.specs.SummaryLaws.{indexed_distinct}
 use Rattle.checks.specs.IdsSteps.{hours_refused, ids_refused, ids_then}
 use Rattle.checks.proofs.check_ids.Goals as goal
@@ -12,7 +12,7 @@ pub returns-then-not-have_hours : goal.returns-then-not-have_hours
 unfolding plan_of
 returns-then-not-have_hours c =
     let x = c.args in
-    (hours_refused (plan_of x.sheet.now x.contents) _ c.have_hours.ensures c.if-not-have_hours.true (state_in x.contents x.work.now), refl)
+    (hours_refused (plan_of x.sheet.now x.contents) _ c.have_hours.ensures c.if-not-have_hours.true (state x.tables.now), same_refl x.tables.now)
 
 pub returns-in_err-index_all : goal.returns-in_err-index_all
 unfolding plan_of
@@ -27,7 +27,7 @@ unfolding plan_of
 parents-requires c =
     let x = c.args in
     let a = c.in_ok-index_all.ensures in
-    (record { read = c.requires.0.read; room = omega (arith, a.2, c.requires.0.room) }, indexed_distinct (plan_of x.sheet.now x.contents) a.0, a.1.holds)
+    (still_lent c.requires.0 a.2, indexed_distinct (plan_of x.sheet.now x.contents) a.0, a.1.holds)
 
 pub returns : goal.returns
 unfolding plan_of
@@ -35,4 +35,4 @@ returns c =
     let x = c.args in
     let a = c.in_ok-index_all.ensures in
     let b = c.parents.ensures in
-    (ids_then (plan_of x.sheet.now x.contents) _ c.have_hours.ensures c.if-not-have_hours.false a.0 a.1 _ b.0 b.1, b.2 ∙ a.2)
+    (ids_then (plan_of x.sheet.now x.contents) _ c.have_hours.ensures c.if-not-have_hours.false a.0 a.1 _ b.0 b.1, same_then a.2 b.2)

@@ -5,10 +5,12 @@ use Prim.Native.Nat.{ℕ}
 use native.Mathlib.Omega.{arith}
 use lib.IntN.{pos}
 use lib.ListN.{length, replicate, length-replicate}
+use Rattle.memory.specs.SeenLaws.{same_then}
 use Rattle.order.specs.Plan.{plan_of}
 use Rattle.order.specs.Checks.{Verdict, judge_order}
 use Rattle.order.specs.CheckLaws.{links_first}
 use Rattle.order.proofs.FineLaws.{links_fine_lem}
+use Rattle.ids.specs.LentLaws.{still_lent}
 use Rattle.checks.specs.Stages.{links_verdict, Judged}
 use Rattle.checks.specs.StageLaws.{then_judged, first_refused, plain_refused, judged_sizes}
 use Rattle.checks.specs.LinksSteps.{links_stored, ignored_named}
@@ -30,13 +32,15 @@ returns-in-Err c =
     let x = c.args in
     let p = plan_of x.sheet.now x.contents in
     let size = length x.names.now in
-    let room = length x.work.now in
+    let room = length x.tables.now.cells.now in
     let a = c.in-Err.ensures in
-    let r = c.refuse.ensures in
-    subst (Judged p (links_verdict p) size room _ _) (sym r.0)
-    (first_refused p (links_first p) (judge_order p) size room _ _
-    (plain_refused p (links_first p) size room _ _ c.in-Err.error a.0
-    (r.1 ∙ ap (λ (k : ℕ). replicate k 0) (a.3 ∙ cleared _ _ c.clear_u32.ensures)) (r.2 ∙ ap (λ (k : ℕ). replicate k (pos 0)) a.2)))
+    let r = c.refuse.ensures in (
+      subst (Judged p (links_verdict p) size room _ _) (sym r.0)
+          (first_refused p (links_first p) (judge_order p) size room _ _
+          (plain_refused p (links_first p) size room _ _ c.in-Err.error a.0
+          (r.1 ∙ ap (λ (k : ℕ). replicate k 0) (a.3 ∙ cleared _ _ c.clear_u32.ensures)) (r.2 ∙ ap (λ (k : ℕ). replicate k (pos 0)) a.2.cells))),
+      same_then a.2 r.3,
+    )
 
 pub check_order-requires : goal.check_order-requires
 unfolding plan_of
@@ -46,7 +50,7 @@ check_order-requires c =
     let a = c.in-Ok.ensures in
     let l = a.0.1 in
     let n = a.3 ∙ cleared _ _ c.clear_u32.ensures in (
-      record { read = c.requires.0.read; room = omega (arith, a.2, c.requires.0.room) },
+      still_lent c.requires.0 a.2,
       links_stored p l c.requires.1 a.1,
       (links_fine_lem p).0 (ap (λ (v : Verdict). v.number) a.0.0),
       l.ignored_count,
@@ -62,6 +66,8 @@ returns-in-Ok c =
     let a = c.in-Ok.ensures in
     let o = c.check_order in
     let names = o.new.names in
-    let work = o.new.work in
-    then_judged p (links_first p) (judge_order p) (length x.names.now) (length x.work.now) names work (ap (λ (v : Verdict). v.number) a.0.0) o.result
-    (judged_sizes p (judge_order p) names work o.result (a.3 ∙ cleared _ _ c.clear_u32.ensures) a.2 o.ensures)
+    let tables = o.new.tables in (
+      then_judged p (links_first p) (judge_order p) (length x.names.now) (length x.tables.now.cells.now) names tables (ap (λ (v : Verdict). v.number) a.0.0) o.result
+          (judged_sizes p (judge_order p) names tables o.result (a.3 ∙ cleared _ _ c.clear_u32.ensures) a.2.cells o.ensures.0),
+      same_then a.2 o.ensures.1,
+    )

@@ -24,11 +24,13 @@ returns-in-Err-Milestone c =
     let x = c.args in
     let p = plan_of x.sheet.now x.contents in
     let size = length x.names.now in
-    let room = length x.work.now in
-    let r = c.refuse.ensures in
-    subst (Judged p (summaries_verdict p) size room _ _) (sym r.0)
-    (first_refused p (summaries_first p) (links_verdict p) size room _ _
-    (plain_refused p (summaries_first p) size room _ _ (MilestoneParent c.in-Err-Milestone.id) (sym (rw c.in-Err-Milestone.field-0-is at c.in-Err-Milestone.ensures).is) r.1 r.2))
+    let room = length x.tables.now.cells.now in
+    let r = c.refuse.ensures in (
+      subst (Judged p (summaries_verdict p) size room _ _) (sym r.0)
+          (first_refused p (summaries_first p) (links_verdict p) size room _ _
+          (plain_refused p (summaries_first p) size room _ _ (MilestoneParent c.in-Err-Milestone.id) (sym (rw c.in-Err-Milestone.field-0-is at c.in-Err-Milestone.ensures).is) r.1 r.2)),
+      r.3,
+    )
 
 pub name_parents-requires : goal.name_parents-requires
 unfolding plan_of
@@ -42,19 +44,23 @@ returns-in-Err-Loop c =
     let x = c.args in
     let p = plan_of x.sheet.now x.contents in
     let size = length x.names.now in
-    let room = length x.work.now in
+    let room = length x.tables.now.cells.now in
     let a = c.in-Err-Loop in
     let A = rw a.field-0-is at a.ensures in
     let xs = named (id_of p) (upward (parent_of p) a.steps a.first) in
-    let some : 0 < length xs = omega (arith, names_length p c.requires.1.known a.first a.steps A.loop) in
-    first_refused p (summaries_first p) (links_verdict p) size room _ _
-    (loop_refused p (summaries_first p) size room _ _ (ParentLoop _) xs some (sym A.is) refl c.name_parents.ensures c.clear.ensures)
+    let some : 0 < length xs = omega (arith, names_length p c.requires.1.known a.first a.steps A.loop) in (
+      first_refused p (summaries_first p) (links_verdict p) size room _ _
+          (loop_refused p (summaries_first p) size room _ _ (ParentLoop _) xs some (sym A.is) refl c.name_parents.ensures c.clear.ensures.0),
+      c.clear.ensures.1,
+    )
 
 pub returns-in-Ok : goal.returns-in-Ok
 unfolding plan_of
 returns-in-Ok c =
     let x = c.args in
     let p = plan_of x.sheet.now x.contents in
-    let o = c.check_links in
-    then_judged p (summaries_first p) (links_verdict p) (length x.names.now) (length x.work.now) o.new.names o.new.work
-    (ap (λ (v : Verdict). v.number) (sym c.in-Ok.ensures.is)) o.result o.ensures
+    let o = c.check_links in (
+      then_judged p (summaries_first p) (links_verdict p) (length x.names.now) (length x.tables.now.cells.now) o.new.names o.new.tables
+          (ap (λ (v : Verdict). v.number) (sym c.in-Ok.ensures.is)) o.result o.ensures.0,
+      o.ensures.1,
+    )

@@ -4,30 +4,30 @@ use Rattle.order.specs.Plan.{plan_of}
 use Rattle.checks.specs.OpenSteps.{summary_closed, nothing_in, nothing_out, both_ways}
 use Rattle.checks.proofs.is_open.Goals as goal
 
-pub returns-then-get_act-gt0 : goal.returns-then-get_act-gt0
+pub returns-then-act-gt0 : goal.returns-then-act-gt0
 unfolding plan_of
-returns-then-get_act-gt0 c =
+returns-then-act-gt0 c =
     let x = c.args in
     let p = plan_of x.sheet.now x.contents in
-    summary_closed p c.requires.1 x.i c.requires.2 (λ z. omega (arith, c.get_act.ensures.0))
+    summary_closed p c.requires.1 x.i c.requires.2 (λ z. omega (arith, c.act.ensures.0))
 
-pub returns-then-get_act-t : goal.returns-then-get_act-t
+pub returns-then-act-t : goal.returns-then-act-t
 unfolding plan_of
-returns-then-get_act-t c =
+returns-then-act-t c =
     let x = c.args in
     let p = plan_of x.sheet.now x.contents in
-    nothing_in p c.requires.1 x.i c.requires.2 (omega (arith, c.get_act.ensures.0)) (omega (arith, c.get_act-2.ensures.0))
+    nothing_in p c.requires.1 x.i c.requires.2 (omega (arith, c.act.ensures.0)) (omega (arith, c.act-2.ensures.0))
 
-pub returns-then-get_act-t-2 : goal.returns-then-get_act-t-2
+pub returns-then-act-t-2 : goal.returns-then-act-t-2
 unfolding plan_of
-returns-then-get_act-t-2 c =
+returns-then-act-t-2 c =
     let x = c.args in
     let p = plan_of x.sheet.now x.contents in
-    nothing_out p c.requires.1 x.i c.requires.2 (omega (arith, c.get_act.ensures.0)) (λ z. c.if-get_act-t.false (omega (arith, c.get_act-2.ensures.0))) (omega (arith, c.get_act-3.ensures.0))
+    nothing_out p c.requires.1 x.i c.requires.2 (omega (arith, c.act.ensures.0)) (λ z. c.if-act-t.false (omega (arith, c.act-2.ensures.0))) (omega (arith, c.act-3.ensures.0))
 
 pub returns : goal.returns
 unfolding plan_of
 returns c =
     let x = c.args in
     let p = plan_of x.sheet.now x.contents in
-    both_ways p c.requires.1 x.i c.requires.2 (omega (arith, c.get_act.ensures.0)) (λ z. c.if-get_act-t.false (omega (arith, c.get_act-2.ensures.0))) (λ z. c.if-get_act-t-2.false (omega (arith, c.get_act-3.ensures.0)))
+    both_ways p c.requires.1 x.i c.requires.2 (omega (arith, c.act.ensures.0)) (λ z. c.if-act-t.false (omega (arith, c.act-2.ensures.0))) (λ z. c.if-act-t-2.false (omega (arith, c.act-3.ensures.0)))

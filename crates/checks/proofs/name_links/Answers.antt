@@ -25,7 +25,7 @@ loop-k-init c =
 pub name_one-requires : goal.name_one-requires
 name_one-requires c =
     let L = c.loop-k in
-    (c.requires.0.read, omega (arith, c.get_act-i.ensures.0, c.requires.1.below L.k (omega arith)), omega (arith, L.invariant.0, L.invariant.1.kept))
+    (c.requires.0.read, omega (arith, c.act-i.ensures.0, c.requires.1.below L.k (omega arith)), omega (arith, L.invariant.0, L.invariant.1.kept))
 
 pub loop-k-preserved : goal.loop-k-preserved
 loop-k-preserved c =
@@ -35,13 +35,13 @@ loop-k-preserved c =
     let L = c.loop-k in (
       L.invariant.0,
       naming_more xs _ _ L.k L.invariant.1 _ _ (omega (arith, loop_length (id_of p) c.requires.1)) (omega (arith, L.invariant.0))
-          (loop_at_lem (id_of p) c.requires.1 L.k _ (omega arith) c.get_act-i.ensures.0) c.name_one.ensures,
+          (loop_at_lem (id_of p) c.requires.1 L.k _ (omega arith) c.act-i.ensures.0) c.name_one.ensures,
     )
 
 pub name_one-requires-2 : goal.name_one-requires-2
 name_one-requires-2 c =
     let L = c.loop-k in
-    (c.requires.0.read, omega (arith, c.get_act-i-2.ensures.0, c.requires.1.below 0 c.requires.1.some), omega (arith, L.invariant.0, L.invariant.1.kept))
+    (c.requires.0.read, omega (arith, c.act-i-2.ensures.0, c.requires.1.below 0 c.requires.1.some), omega (arith, L.invariant.0, L.invariant.1.kept))
 
 pub returns : goal.returns
 returns c =
@@ -52,5 +52,5 @@ returns c =
     let e : L.k ≡ x.m = omega arith in
     let many = loop_length (id_of p) c.requires.1 in
     let all = naming_more xs _ _ x.m (rw e at L.invariant.1) _ _ (omega (arith, many)) (omega (arith, L.invariant.0))
-    (loop_again_at (id_of p) c.requires.1 _ c.get_act-i-2.ensures.0) c.name_one-2.ensures in
+    (loop_again_at (id_of p) c.requires.1 _ c.act-i-2.ensures.0) c.name_one-2.ensures in
     naming_end xs _ _ (x.m + 1) all many ∙ ap (λ (n : ℕ). xs ++ replicate (n - length xs) 0) (naming_start xs (length x.names.now) _ c.clear_u32.ensures).kept

@@ -48,13 +48,13 @@ loop-k-init c =
       naming_here (named (id_of p) (upward (parent_of p) x.steps x.first)) (length x.names.now) _ 1 N,
     )
 
-pub get_act-requires : goal.get_act-requires
+pub act-requires : goal.act-requires
 unfolding plan_of
-get_act-requires c =
+act-requires c =
     let x = c.args in
     let p = plan_of x.sheet.now x.contents in
     let L = c.loop-k in
-    (c.requires.0.room, omega (arith, L.invariant.1, up_below p c.requires.1 x.first x.steps c.requires.3 L.k (omega arith)), omega arith)
+    (omega (arith, c.requires.0.activities, L.invariant.1, up_below p c.requires.1 x.first x.steps c.requires.3 L.k (omega arith)), omega arith)
 
 pub overflow_sub-i : goal.overflow_sub-i
 unfolding plan_of
@@ -62,7 +62,7 @@ overflow_sub-i c =
     let x = c.args in
     let p = plan_of x.sheet.now x.contents in
     let L = c.loop-k in
-    omega (arith, next_up p c.requires.1 x.first x.steps c.requires.3 _ c.requires.2 L.k L.i (omega arith) L.invariant.1 _ c.get_act.ensures.0)
+    omega (arith, next_up p c.requires.1 x.first x.steps c.requires.3 _ c.requires.2 L.k L.i (omega arith) L.invariant.1 _ c.act.ensures.0)
 
 pub name_one-requires-in-loop-k : goal.name_one-requires-in-loop-k
 unfolding plan_of
@@ -70,7 +70,7 @@ name_one-requires-in-loop-k c =
     let x = c.args in
     let p = plan_of x.sheet.now x.contents in
     let L = c.loop-k in
-    (c.requires.0.read, omega (arith, next_up p c.requires.1 x.first x.steps c.requires.3 _ c.requires.2 L.k L.i (omega arith) L.invariant.1 _ c.get_act.ensures.0, up_below p c.requires.1 x.first x.steps c.requires.3 (L.k + 1) (omega arith)), omega (arith, L.invariant.0, L.invariant.2.kept))
+    (c.requires.0.read, omega (arith, next_up p c.requires.1 x.first x.steps c.requires.3 _ c.requires.2 L.k L.i (omega arith) L.invariant.1 _ c.act.ensures.0, up_below p c.requires.1 x.first x.steps c.requires.3 (L.k + 1) (omega arith)), omega (arith, L.invariant.0, L.invariant.2.kept))
 
 pub loop-k-preserved : goal.loop-k-preserved
 unfolding plan_of
@@ -79,8 +79,8 @@ loop-k-preserved c =
     let p = plan_of x.sheet.now x.contents in
     let xs = named (id_of p) (upward (parent_of p) x.steps x.first) in
     let L = c.loop-k in
-    let i = c.get_act.result - 1 in
-    let e : i ≡ climb (parent_of p) (L.k + 1) x.first - 1 = omega (arith, next_up p c.requires.1 x.first x.steps c.requires.3 _ c.requires.2 L.k L.i (omega arith) L.invariant.1 _ c.get_act.ensures.0) in (
+    let i = c.act.result - 1 in
+    let e : i ≡ climb (parent_of p) (L.k + 1) x.first - 1 = omega (arith, next_up p c.requires.1 x.first x.steps c.requires.3 _ c.requires.2 L.k L.i (omega arith) L.invariant.1 _ c.act.ensures.0) in (
       L.invariant.0,
       e,
       naming_more xs _ _ (L.k + 1) L.invariant.2 _ _ (omega (arith, names_length p c.requires.1 x.first x.steps c.requires.3)) (omega (arith, L.invariant.0))
