@@ -8,17 +8,8 @@ use Rattle.calendars.specs.CalendarLaws.{in_plan_worked}
 use Rattle.late.specs.StandLaws.{left_at}
 use Rattle.late.proofs.late_of.Goals as goal
 
-pub activity_of-activity-requires : goal.activity_of-activity-requires
-activity_of-activity-requires c = (c.requires.0.read, c.requires.1)
-
-pub calendar_of-calendar-requires : goal.calendar_of-calendar-requires
-calendar_of-calendar-requires c = (c.requires.0.read, c.requires.0.located)
-
 pub get_act-left-requires : goal.get_act-left-requires
 get_act-left-requires c = (c.requires.0.room, c.requires.1, omega arith)
-
-pub origin_of-origin-requires : goal.origin_of-origin-requires
-origin_of-origin-requires c = c.requires.0.read
 
 pub late_from-requires : goal.late_from-requires
 late_from-requires c =
@@ -35,6 +26,3 @@ late_from-requires c =
       c.origin_of-origin.ensures.1,
       c.requires.2,
     )
-
-pub returns : goal.returns
-returns c = c.late_from.ensures
