@@ -1,4 +1,4 @@
--- The table of the calendars as it is filled.
+-- A calendar put into a table of numbers, its week packed (Packed).
 use Rattle.std.specs.Prelude.{◌≡◌, List, ℕ, ◌+◌, ◌*◌, ◌<◌, length, get_or}
 use Rattle.calendar.specs.declared.Period.{Period}
 use Rattle.sheet.specs.declared.Place.{Place}

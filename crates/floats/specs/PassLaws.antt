@@ -1,17 +1,17 @@
 -- The activity that a step takes, and what the step leaves for the next.
 use Rattle.std.specs.Prelude.{◌≡◌, refl, List, ℕ, Result}
 use Rattle.worktime.specs.declared.ClockError.{ClockError}
-use Rattle.std.proofs.Common.{sym, ap, ◌∙◌}
+use Rattle.std.proofs.Common.{sym, ap, subst, ◌∙◌}
 use Rattle.memory.specs.State.{State, fill_act}
 use Rattle.memory.specs.Fields as fields
 use Rattle.topology.specs.Frame.{Frame}
 use Rattle.sheet.specs.declared.Contents.{Contents}
-use Rattle.calendar.specs.declared.Period.{Period}
+use Rattle.calendar.specs.declared.value.Calendar.{Calendar}
 use Rattle.project.specs.declared.Activity.{Activity}
-use Rattle.order.specs.Plan.{Plan, plan_of, week_of_calendar, exception_place, exception_number}
-use Rattle.order.specs.Ties.{calendar_of}
+use Rattle.order.specs.Plan.{Plan, plan_of}
 use Rattle.passes.specs.Dates.{Late, Freed, through}
 use Rattle.passes.specs.Floats.{free_float}
+use Rattle.calendars.specs.Calendars.{InPlan}
 use Rattle.dates.specs.Columns.{early_in, late_in, ended}
 use Rattle.dates.specs.KeptLaws.{late_kept}
 use Rattle.bounds.specs.ReadyLaws.{activities_are}
@@ -19,15 +19,10 @@ use Rattle.floats.specs.Slack.{freed_in, Own}
 use Rattle.floats.specs.StoreLaws.{free_cleared}
 
 -- an activity that was read, and the calendar of the number that it gives
-pub own_is : (s : List ℕ) (c : Contents) (i : ℕ) (activity : Activity) (week : List (List Period)) (at n : ℕ) → activity ≡ (plan_of s c).activity i
-    → week ≡ week_of_calendar s c activity.calendar → at ≡ exception_place s c activity.calendar → n ≡ exception_number s c activity.calendar
-    → Own s c i activity week at n
-own_is s c i activity week at n e w x y =
-    let k : activity.calendar ≡ calendar_of (plan_of s c) i = ap (λ (a : Activity). a.calendar) e in
-    record {
-      is = e;
-      calendar = record { week_is = w ∙ ap (week_of_calendar s c) k; at_is = x ∙ ap (exception_place s c) k; n_is = y ∙ ap (exception_number s c) k };
-    }
+pub own_is : {s : List ℕ} {c : Contents} {i : ℕ} {activity : Activity} {calendar : Calendar} → activity ≡ (plan_of s c).activity i
+    → InPlan s c activity.calendar calendar → Own s c i activity calendar
+own_is {s} {c} {i} {activity} {calendar} e C =
+    record { is = e; in_plan = subst (λ (k : ℕ). InPlan s c k calendar) (ap (λ (a : Activity). a.calendar) e) C }
 
 -- one step, with the late dates as they were before the pass
 pub step_kept : {S T : State} → Frame 12 16 0 0 S T → (p : Plan) (finish i : ℕ) (y : Freed) (r : Result Unit ClockError)

@@ -7,7 +7,6 @@ ghost use Rattle.clock.specs.On.{worked_by};
 ghost use Rattle.memory.specs.State.{Room, state_of};
 ghost use Rattle.memory.specs.Fields.{is_summary, late_finish, early_start, early_finish};
 ghost use Rattle.topology.specs.Frame.{Frame};
-ghost use Rattle.sheet.specs.Known.{SheetRead};
 ghost use Rattle.order.specs.Plan.{Plan, plan_of};
 ghost use Rattle.order.specs.Ids.{summary};
 ghost use Rattle.order.specs.Ties.{calendar_of};
@@ -268,7 +267,7 @@ fn hold_late(
     calendar: &Calendar,
     free: u64,
 ) -> Result<(), ClockError>
-    requires { SheetRead sheet.now contents × Room contents.activities contents.links work.old × (i < contents.activities) × Own sheet.now contents i activity calendar.now }
+    requires { Room contents.activities contents.links work.old × (i < contents.activities) × Own sheet.now contents i activity calendar.now }
     ensures { (ended (freed_in (plan_of sheet.now contents) (state_of contents.activities contents.links work.new)) result ≡ held_move (plan_of sheet.now contents) (early_in (plan_of sheet.now contents) (state_of contents.activities contents.links work.old)) i free (free_in (plan_of sheet.now contents) (state_of contents.activities contents.links work.old))) × Frame 12 16 0 0 (state_of contents.activities contents.links work.old) (state_of contents.activities contents.links work.new) × (length work.new ≡ length work.old) }
 {
     let a = contents.activities;
@@ -291,7 +290,7 @@ fn use_float(
     calendar: &Calendar,
     free: u64,
 ) -> Result<(), ClockError>
-    requires { SheetRead sheet.now contents × Room contents.activities contents.links work.old × (i < contents.activities) × Own sheet.now contents i activity calendar.now × ((state_of contents.activities contents.links work.old).act is_summary i ≡ bit (summary (plan_of sheet.now contents) i)) × (Ok (actual_in (state_of contents.activities contents.links work.old) i) ≡ recorded (plan_of sheet.now contents) i) × (free < 2 ^ 63) }
+    requires { Room contents.activities contents.links work.old × (i < contents.activities) × Own sheet.now contents i activity calendar.now × ((state_of contents.activities contents.links work.old).act is_summary i ≡ bit (summary (plan_of sheet.now contents) i)) × (Ok (actual_in (state_of contents.activities contents.links work.old) i) ≡ recorded (plan_of sheet.now contents) i) × (free < 2 ^ 63) }
     ensures { (ended (freed_in (plan_of sheet.now contents) (state_of contents.activities contents.links work.new)) result ≡ freed (plan_of sheet.now contents) (early_in (plan_of sheet.now contents) (state_of contents.activities contents.links work.old)) i free (free_in (plan_of sheet.now contents) (state_of contents.activities contents.links work.old))) × Frame 12 16 0 0 (state_of contents.activities contents.links work.old) (state_of contents.activities contents.links work.new) × (length work.new ≡ length work.old) }
 {
     if is_moved(sheet, contents, work, i, activity, free) {

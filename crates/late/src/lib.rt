@@ -4,7 +4,7 @@
 ghost use Rattle.std.specs.Prelude.{◌≡◌, ℕ, ◌^◌, ◌<◌, Ok};
 ghost use Rattle.clock.specs.On.{worked_by};
 ghost use Rattle.memory.specs.State.{state_of};
-ghost use Rattle.order.specs.Plan.{Plan, plan_of, week_of_calendar};
+ghost use Rattle.order.specs.Plan.{Plan, plan_of};
 ghost use Rattle.passes.specs.Plan.{recorded};
 ghost use Rattle.passes.specs.Dates.{Early, Late};
 ghost use Rattle.passes.specs.Backward.{lifted, placed_late};
@@ -13,6 +13,7 @@ ghost use Rattle.dates.specs.Columns.{early_in, late_in};
 ghost use Rattle.dates.specs.Standing.{Ready};
 ghost use Rattle.late.specs.Times.{dated, unfinished_late, Fitting};
 
+use calendar::Calendar;
 use calendars::PlanCalendar;
 use placing::Actual;
 use project::Activity;
@@ -22,12 +23,10 @@ use worktime::ClockError;
 pub mod limits;
 pub mod links;
 
-// An activity that is not completed: where its calendar's E records stand, its minutes of work left, and the project's start.
+// An activity that is not completed, its minutes of work left, and the project's start.
 #[derive(Clone, Copy)]
 pub struct Unfinished {
     pub activity: Activity,
-    pub at: usize,
-    pub n: usize,
     pub left: u64,
     pub origin: u64,
 }
@@ -41,15 +40,14 @@ pub struct LateDates {
 
 // A late finish before the early one that is the same moment is lifted to it.
 fn lift(
-    week: [[Period; 8]; 7],
-    sheet: &[u8],
+    calendar: &Calendar,
     unfinished: Unfinished,
     early: u64,
     latest: u64,
     f: u64,
 ) -> Result<u64, ClockError>
-    requires { Valid week sheet.now unfinished.at unfinished.n × (early < 2 ^ 63) × (f < 2 ^ 63) }
-    ensures { ((p : Plan) (d : Early) (l : Late) (i : ℕ) → IsUnfinished p d i (worked_on week sheet.now unfinished.at unfinished.n) unfinished → early ≡ d.ef i → result ≡ lifted p d l i latest f) × ((v : ℕ) → result ≡ Ok v → v < 2 ^ 63) }
+    requires { (early < 2 ^ 63) × (f < 2 ^ 63) }
+    ensures { ((p : Plan) (d : Early) (l : Late) (i : ℕ) → IsUnfinished p d i (worked_by calendar.now) unfinished → early ≡ d.ef i → result ≡ lifted p d l i latest f) × ((v : ℕ) → result ≡ Ok v → v < 2 ^ 63) }
 {
     if early <= f {
         return Ok(f);
@@ -57,14 +55,7 @@ fn lift(
     if latest < early {
         return Ok(f);
     }
-    let s = placing::latest_same(
-        unfinished.activity,
-        week,
-        sheet,
-        unfinished.at,
-        unfinished.n,
-        f,
-    )?;
+    let s = placing::latest_same(unfinished.activity, calendar, f)?;
     if early <= s {
         return Ok(early);
     }
@@ -73,23 +64,20 @@ fn lift(
 
 // The late dates that `latest` leaves, with the early finish `early`.
 fn place_late(
-    week: [[Period; 8]; 7],
-    sheet: &[u8],
+    calendar: &Calendar,
     unfinished: Unfinished,
     early: u64,
     latest: u64,
 ) -> Result<LateDates, ClockError>
-    requires { Valid week sheet.now unfinished.at unfinished.n × (unfinished.origin < 2 ^ 43) × (early < 2 ^ 63) }
-    ensures { ((p : Plan) (d : Early) (l : Late) (i : ℕ) → IsUnfinished p d i (worked_on week sheet.now unfinished.at unfinished.n) unfinished → early ≡ d.ef i → dated p d l i result ≡ placed_late p d l i latest) × Fitting result }
+    requires { (unfinished.origin < 2 ^ 43) × (early < 2 ^ 63) }
+    ensures { ((p : Plan) (d : Early) (l : Late) (i : ℕ) → IsUnfinished p d i (worked_by calendar.now) unfinished → early ≡ d.ef i → dated p d l i result ≡ placed_late p d l i latest) × Fitting result }
 {
     let activity = unfinished.activity;
-    let at = unfinished.at;
-    let n = unfinished.n;
     let left = unfinished.left;
     let origin = unfinished.origin;
     let t = placing::place_finish(activity, calendar, left, latest)?;
     let b = placing::bounded(origin, t)?;
-    let f = lift(week, sheet, unfinished, early, latest, b)?;
+    let f = lift(calendar, unfinished, early, latest, b)?;
     let u = placing::start_of(activity, calendar, left, f)?;
     let s = placing::bounded(origin, u)?;
     Ok(LateDates {
@@ -105,14 +93,13 @@ fn late_from(
     calendars: &[PlanCalendar],
     t: usize,
     work: &[i64],
-    mine: usize,
-    week: [[Period; 8]; 7],
+    calendar: &Calendar,
     unfinished: Unfinished,
     i: usize,
     actual: Actual,
     last: u64,
 ) -> Result<LateDates, ClockError>
-    requires { Ready sheet.now contents calendars.now t work.now × (i < contents.activities) × Valid week sheet.now unfinished.at unfinished.n × IsUnfinished (plan_of sheet.now contents) (early_in (plan_of sheet.now contents) (state_of contents.activities contents.links work.now)) i (worked_on week sheet.now unfinished.at unfinished.n) unfinished × (unfinished.origin < 2 ^ 43) × (Ok actual ≡ recorded (plan_of sheet.now contents) i) × (week ≡ week_of_calendar sheet.now contents mine) }
+    requires { Ready sheet.now contents calendars.now t work.now × (i < contents.activities) × IsUnfinished (plan_of sheet.now contents) (early_in (plan_of sheet.now contents) (state_of contents.activities contents.links work.now)) i (worked_by calendar.now) unfinished × (unfinished.origin < 2 ^ 43) × (Ok actual ≡ recorded (plan_of sheet.now contents) i) }
     ensures { (dated (plan_of sheet.now contents) (early_in (plan_of sheet.now contents) (state_of contents.activities contents.links work.now)) (late_in (plan_of sheet.now contents) (state_of contents.activities contents.links work.now) last) i result ≡ unfinished_late (plan_of sheet.now contents) (early_in (plan_of sheet.now contents) (state_of contents.activities contents.links work.now)) (late_in (plan_of sheet.now contents) (state_of contents.activities contents.links work.now) last) i last) × Fitting result }
 {
     let a = contents.activities;
@@ -120,10 +107,10 @@ fn late_from(
     let mark = memory::get_act(work, a, l, i, memory::fields::IS_SUMMARY);
     let early = memory::get_act(work, a, l, i, memory::fields::EARLY_FINISH);
     let f = links::lower(
-        sheet, contents, calendars, t, work, mine, week, unfinished, i, last,
+        sheet, contents, calendars, t, work, calendar, unfinished, i, last,
     )?;
-    let g = limits::hold_late(week, sheet, unfinished, mark == 1, actual, f)?;
-    place_late(week, sheet, unfinished, early, g)
+    let g = limits::hold_late(calendar, unfinished, mark == 1, actual, f)?;
+    place_late(calendar, unfinished, early, g)
 }
 
 // The late dates of activity `i`, of which `actual` is recorded and which is not completed; `last` is the end.
@@ -153,12 +140,10 @@ pub fn late_of(
     let origin = dates::origin_of(sheet, contents);
     let unfinished = Unfinished {
         activity: activity,
-        at: e.at,
-        n: e.n,
         left: left,
         origin: origin,
     };
     late_from(
-        sheet, contents, calendars, t, work, k, week, unfinished, i, actual, last,
+        sheet, contents, calendars, t, work, &calendar, unfinished, i, actual, last,
     )
 }

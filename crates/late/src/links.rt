@@ -5,7 +5,7 @@ ghost use Rattle.clock.specs.On.{worked_by};
 ghost use Rattle.memory.specs.State.{Room, state_of};
 ghost use Rattle.memory.specs.Fields.{late_start, late_finish};
 ghost use Rattle.sheet.specs.Known.{SheetRead};
-ghost use Rattle.order.specs.Plan.{plan_of, week_of_calendar};
+ghost use Rattle.order.specs.Plan.{plan_of};
 ghost use Rattle.order.specs.Ties.{Tie};
 ghost use Rattle.passes.specs.Plan.{own, ties_out};
 ghost use Rattle.passes.specs.Dates.{Early, Late};
@@ -16,8 +16,9 @@ ghost use Rattle.dates.specs.Standing.{Ready};
 ghost use Rattle.late.specs.Unfinished.{IsUnfinished};
 ghost use Rattle.late.specs.Times.{times_of, target_of, finish_by};
 
-use calendars::PlanCalendar;
 use crate::{LateDates, Unfinished};
+use calendar::Calendar;
+use calendars::PlanCalendar;
 use project::RelationshipType;
 use sheet::Contents;
 use worktime::ClockError;
@@ -38,48 +39,25 @@ fn over_lag(
         return Ok(x);
     }
     let calendar = calendars::calendar_of(sheet, contents, calendars, k);
-    let at = e.at;
-    let n = e.n;
     let back = number::sign::negate(lag);
-    let v = clock::shift(calendar, x, back)?;
-    clock::next_start(calendar, v)
+    let v = clock::shift(&calendar, x, back)?;
+    clock::next_start(&calendar, v)
 }
 
-// The week of calendar `k`: the one in hand where it is that of calendar `mine`.
-fn week_for(
-    sheet: &[u8],
-    contents: Contents,
-    calendars: &[PlanCalendar],
-    mine: usize,
-    week: [[Period; 8]; 7],
-    k: usize,
-) -> [[Period; 8]; 7]
-    requires { SheetRead sheet.now contents × Places sheet.now contents calendars.now × (week ≡ week_of_calendar sheet.now contents mine) }
-    ensures { result ≡ week_of_calendar sheet.now contents k }
-{
-    if k == mine {
-        return week;
-    }
-    calendars::week_of(sheet, contents, calendars, k)
-}
-
-// The late times of activity `j`, a link's successor, each moved to its own next start; the week of calendar `mine` is in hand.
+// The late times of activity `j`, a link's successor, each moved to its own next start.
 fn successor_times(
     sheet: &[u8],
     contents: Contents,
     calendars: &[PlanCalendar],
     work: &[i64],
     j: usize,
-    mine: usize,
-    hand: [[Period; 8]; 7],
 ) -> Result<LateDates, ClockError>
-    requires { SheetRead sheet.now contents × Places sheet.now contents calendars.now × Room contents.activities contents.links work.now × (j < contents.activities) × (hand ≡ week_of_calendar sheet.now contents mine) }
+    requires { SheetRead sheet.now contents × Places sheet.now contents calendars.now × Room contents.activities contents.links work.now × (j < contents.activities) }
     ensures { result ≡ times_of (own (plan_of sheet.now contents) j) ((state_of contents.activities contents.links work.now).act late_start j) ((state_of contents.activities contents.links work.now).act late_finish j) }
 {
     let activity = dates::activity_of(sheet, contents, j);
     let k = activity.calendar as usize;
-    let week = week_for(sheet, contents, calendars, mine, hand, k);
-    let e = calendars::exceptions_of(sheet, contents, calendars, k);
+    let calendar = calendars::calendar_of(sheet, contents, calendars, k);
     let a = contents.activities;
     let l = contents.links;
     let start = memory::get_act(work, a, l, j, memory::fields::LATE_START);
@@ -104,52 +82,41 @@ fn target(kind: RelationshipType, start: u64, finish: u64) -> u64
 
 // The finish that a link's bound `v` leaves.
 fn finish_by(
-    week: [[Period; 8]; 7],
-    sheet: &[u8],
+    calendar: &Calendar,
     unfinished: Unfinished,
     kind: RelationshipType,
     v: u64,
 ) -> Result<u64, ClockError>
-    requires { Valid week sheet.now unfinished.at unfinished.n }
-    ensures { result ≡ finish_by (worked_on week sheet.now unfinished.at unfinished.n) unfinished.left kind v }
+    ensures { result ≡ finish_by (worked_by calendar.now) unfinished.left kind v }
 {
     match kind {
         RelationshipType::FinishToStart | RelationshipType::FinishToFinish => Ok(v),
         RelationshipType::StartToStart | RelationshipType::StartToFinish => {
-            placing::finish_for_start(
-                unfinished.activity,
-                week,
-                sheet,
-                unfinished.at,
-                unfinished.n,
-                unfinished.left,
-                v,
-            )
+            placing::finish_for_start(unfinished.activity, calendar, unfinished.left, v)
         }
     }
 }
 
-// The latest finish that link `k` leaves an activity that it leads out of, on calendar `mine`.
+// The latest finish that link `k` leaves an activity that it leads out of, on its own calendar.
 fn link_finish(
     sheet: &[u8],
     contents: Contents,
     calendars: &[PlanCalendar],
     t: usize,
     work: &[i64],
-    mine: usize,
-    week: [[Period; 8]; 7],
+    calendar: &Calendar,
     unfinished: Unfinished,
     k: usize,
 ) -> Result<u64, ClockError>
-    requires { Ready sheet.now contents calendars.now t work.now × (k < t) × Valid week sheet.now unfinished.at unfinished.n × (week ≡ week_of_calendar sheet.now contents mine) }
-    ensures { (i last : ℕ) → IsUnfinished (plan_of sheet.now contents) (early_in (plan_of sheet.now contents) (state_of contents.activities contents.links work.now)) i (worked_on week sheet.now unfinished.at unfinished.n) unfinished → result ≡ link_finish (plan_of sheet.now contents) (early_in (plan_of sheet.now contents) (state_of contents.activities contents.links work.now)) (late_in (plan_of sheet.now contents) (state_of contents.activities contents.links work.now) last) i k }
+    requires { Ready sheet.now contents calendars.now t work.now × (k < t) }
+    ensures { (i last : ℕ) → IsUnfinished (plan_of sheet.now contents) (early_in (plan_of sheet.now contents) (state_of contents.activities contents.links work.now)) i (worked_by calendar.now) unfinished → result ≡ link_finish (plan_of sheet.now contents) (early_in (plan_of sheet.now contents) (state_of contents.activities contents.links work.now)) (late_in (plan_of sheet.now contents) (state_of contents.activities contents.links work.now) last) i k }
 {
     let tie = dates::tie_at(work, contents.activities, contents.links, k);
     let kind = tie.kind;
-    let times = successor_times(sheet, contents, calendars, work, tie.to, mine, week)?;
+    let times = successor_times(sheet, contents, calendars, work, tie.to)?;
     let x = target(kind, times.start, times.finish);
     let v = over_lag(sheet, contents, calendars, tie.calendar, tie.lag, x)?;
-    let f = finish_by(week, sheet, unfinished, kind, v)?;
+    let f = finish_by(calendar, unfinished, kind, v)?;
     placing::bounded(unfinished.origin, f)
 }
 
@@ -160,13 +127,12 @@ pub fn lower(
     calendars: &[PlanCalendar],
     t: usize,
     work: &[i64],
-    mine: usize,
-    week: [[Period; 8]; 7],
+    calendar: &Calendar,
     unfinished: Unfinished,
     i: usize,
     last: u64,
 ) -> Result<u64, ClockError>
-    requires { Ready sheet.now contents calendars.now t work.now × (i < contents.activities) × Valid week sheet.now unfinished.at unfinished.n × IsUnfinished (plan_of sheet.now contents) (early_in (plan_of sheet.now contents) (state_of contents.activities contents.links work.now)) i (worked_on week sheet.now unfinished.at unfinished.n) unfinished × (week ≡ week_of_calendar sheet.now contents mine) }
+    requires { Ready sheet.now contents calendars.now t work.now × (i < contents.activities) × IsUnfinished (plan_of sheet.now contents) (early_in (plan_of sheet.now contents) (state_of contents.activities contents.links work.now)) i (worked_by calendar.now) unfinished }
     ensures { result ≡ lowered (plan_of sheet.now contents) (early_in (plan_of sheet.now contents) (state_of contents.activities contents.links work.now)) (late_in (plan_of sheet.now contents) (state_of contents.activities contents.links work.now) last) i (ties_out (plan_of sheet.now contents) i) last }
 {
     let a = contents.activities;
@@ -175,7 +141,7 @@ pub fn lower(
     let mut k = memory::get_act(work, a, l, i, memory::fields::FIRST_OUT) as usize;
     // A `while`: the next link is read from the memory, so no range has the links.
     while k < t {
-        let f = link_finish(sheet, contents, calendars, t, work, mine, week, unfinished, k)?;
+        let f = link_finish(sheet, contents, calendars, t, work, calendar, unfinished, k)?;
         latest = latest.min(f);
         k = memory::get_link(work, a, l, k, memory::fields::NEXT_OUT) as usize;
     }

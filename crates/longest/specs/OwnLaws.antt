@@ -2,9 +2,8 @@
 use Rattle.std.specs.Prelude.{◌≡◌, List, ℕ, ◌<◌, ℤ, Result, Ok}
 use Rattle.worktime.specs.declared.ClockError.{ClockError}
 use Rattle.std.proofs.Common.{sym, ap, ap₂, subst, ◌∙◌, arith}
-use Rattle.calendar.specs.declared.Period.{Period}
-use Rattle.calendar.specs.Records.{Valid}
-use Rattle.clock.specs.On.{worked_on}
+use Rattle.calendar.specs.declared.value.Calendar.{Calendar}
+use Rattle.clock.specs.On.{worked_by}
 use Rattle.project.specs.declared.Activity.{Activity}
 use Rattle.project.specs.declared.RelationshipType.{RelationshipType}
 use Rattle.project.specs.Records.{relationship_type_of}
@@ -13,37 +12,33 @@ use Rattle.placing.specs.Placing.{place_start}
 use Rattle.memory.specs.State.{State, state_of}
 use Rattle.memory.specs.Fields.{early_start, work_left, from_field, kind_field}
 use Rattle.sheet.specs.declared.Contents.{Contents}
-use Rattle.sheet.specs.Known.{SheetRead}
 use Rattle.order.specs.Plan.{Plan, plan_of}
 use Rattle.order.specs.Ties as ties
 use Rattle.passes.specs.Plan.{origin, own, tie, kind_of, recorded}
 use Rattle.passes.specs.Forward.{start_for}
 use Rattle.passes.specs.Floats.{is_completed}
 use Rattle.calendars.specs.declared.plan_calendar.PlanCalendar.{PlanCalendar}
-use Rattle.calendars.specs.Calendars.{IsCalendar}
-use Rattle.calendars.specs.CalendarLaws.{calendar_valid, calendar_worked}
+use Rattle.calendars.specs.Calendars.{InPlan}
+use Rattle.calendars.specs.CalendarLaws.{in_plan_worked}
 use Rattle.dates.specs.Columns.{early_in}
 use Rattle.dates.specs.ColumnLaws.{column_at}
 use Rattle.dates.specs.Standing.{actual_in}
 use Rattle.bounds.specs.ReadyLaws.{activities_are, kept_within, tie_from_below}
 use Rattle.longest.specs.Path.{Lent, Own}
 
-pub own_made : {s : List ℕ} {c : Contents} {i : ℕ} {activity : Activity} {week : List (List Period)} {at n : ℕ} → activity ≡ (plan_of s c).activity i
-    → IsCalendar s c activity.calendar week at n → Own s c i activity week at n
-own_made {s} {c} {i} {activity} {week} {at} {n} e C =
-    record { is = e; calendar = subst (λ (k : ℕ). IsCalendar s c k week at n) (ap (λ (x : Activity). x.calendar) e) C }
+pub own_made : {s : List ℕ} {c : Contents} {i : ℕ} {activity : Activity} {calendar : Calendar} → activity ≡ (plan_of s c).activity i
+    → InPlan s c activity.calendar calendar → Own s c i activity calendar
+own_made {s} {c} {i} {activity} {calendar} e C =
+    record { is = e; in_plan = subst (λ (k : ℕ). InPlan s c k calendar) (ap (λ (x : Activity). x.calendar) e) C }
 
-module _ {s : List ℕ} {c : Contents} {i : ℕ} {activity : Activity} {week : List (List Period)} {at n : ℕ} (O : Own s c i activity week at n) where
-  pub own_valid : SheetRead s c → Valid week s at n
-  own_valid read = calendar_valid O.calendar read
-
-  pub own_worked : own (plan_of s c) i ≡ worked_on week s at n
-  own_worked = sym (calendar_worked O.calendar)
+module _ {s : List ℕ} {c : Contents} {i : ℕ} {activity : Activity} {calendar : Calendar} (O : Own s c i activity calendar) where
+  pub own_worked : own (plan_of s c) i ≡ worked_by calendar
+  own_worked = sym (in_plan_worked O.in_plan)
 
   own_kind : kind_of (plan_of s c) i ≡ activity.kind
   own_kind = sym (ap (λ (x : Activity). x.kind) O.is)
 
-  pub own_place : (u : ℕ) (r : Result ℕ ClockError) → r ≡ place_start (worked_on week s at n) activity.kind u → r ≡ place_start (own (plan_of s c) i) (kind_of (plan_of s c) i) u
+  pub own_place : (u : ℕ) (r : Result ℕ ClockError) → r ≡ place_start (worked_by calendar) activity.kind u → r ≡ place_start (own (plan_of s c) i) (kind_of (plan_of s c) i) u
   own_place u r e = e ∙ (λ z. place_start (sym own_worked z) (sym own_kind z) u)
 
 module _ {s : List ℕ} {c : Contents} {calendars : List PlanCalendar} {t : ℕ} {xs : List ℤ} (L : Lent s c calendars t xs) where

@@ -1,7 +1,7 @@
 -- The longest path as code takes it: where a link's bound places its successor, and one link's turn in the walk along the links into an activity.
 use Rattle.std.specs.Prelude.{◌≡◌, Bool, true, false, List, ℕ, ℤ, Result, Ok, Err}
 use Rattle.worktime.specs.declared.ClockError.{ClockError}
-use Rattle.calendar.specs.declared.Period.{Period}
+use Rattle.calendar.specs.declared.value.Calendar.{Calendar}
 use Rattle.project.specs.declared.Activity.{Activity}
 use Rattle.placing.specs.Placing.{via, place_start}
 use Rattle.memory.specs.State.{state_of}
@@ -13,7 +13,7 @@ use Rattle.passes.specs.Dates.{Early, Pass, refused, put}
 use Rattle.passes.specs.Forward.{link_bound, start_for}
 use Rattle.passes.specs.Floats.{drives}
 use Rattle.calendars.specs.declared.plan_calendar.PlanCalendar.{PlanCalendar}
-use Rattle.calendars.specs.Calendars.{IsCalendar}
+use Rattle.calendars.specs.Calendars.{InPlan}
 use Rattle.dates.specs.Standing.{Ready, Recorded}
 
 -- what the passes are lent, with what is recorded of work
@@ -22,9 +22,9 @@ pub record Lent (s : List ℕ) (c : Contents) (calendars : List PlanCalendar) (t
   pub recorded : Recorded (plan_of s c) (state_of c.activities c.links xs)
 
 -- activity i in hand, with its own calendar
-pub record Own (s : List ℕ) (c : Contents) (i : ℕ) (activity : Activity) (week : List (List Period)) (at n : ℕ) : Type 0 where
+pub record Own (s : List ℕ) (c : Contents) (i : ℕ) (activity : Activity) (calendar : Calendar) : Type 0 where
   pub is : activity ≡ (plan_of s c).activity i
-  pub calendar : IsCalendar s c (calendar_of (plan_of s c) i) week at n
+  pub in_plan : InPlan s c (calendar_of (plan_of s c) i) calendar
 
 -- what follows the answer whether a link sets the start of its successor
 abbrev pub driven : Result Bool ClockError → (Bool → Pass (ℕ → Bool)) → Pass (ℕ → Bool)

@@ -185,18 +185,9 @@ fn on_path(
         return Ok(());
     }
     let activity = dates::activity_of(sheet, contents, i);
-    let calendar = activity.calendar as usize;
-    let calendar = calendars::calendar_of(sheet, contents, calendars, calendar);
-    mark_links(
-        sheet,
-        contents,
-        calendars,
-        t,
-        work,
-        activity,
-        &calendar,
-        i,
-    )
+    let k = activity.calendar as usize;
+    let calendar = calendars::calendar_of(sheet, contents, calendars, k);
+    mark_links(sheet, contents, calendars, t, work, activity, &calendar, i)
 }
 
 // The activities in turn, from the last of the order to the first.

@@ -56,40 +56,15 @@ module _ (s : List ℕ) (kind : RecordKind) (at p i : ℕ) (here : Here s kind a
           }
 
 -- ---- counting a run that was read before
--- the loop stands at record i of n, whose place is p
-pub record Passed (s : List ℕ) (kind : RecordKind) (at n p i : ℕ) : Type 0 where
-  pub place : p ≡ at + size_of kind * i
-  pub short : i ≤ p
-  pub most : i ≤ n
-
-pub passed_start : (s : List ℕ) (kind : RecordKind) (at n : ℕ) → Passed s kind at n at 0
-passed_start s kind at n = record { place = omega arith; short = omega arith; most = omega arith }
-
 module _ (s : List ℕ) (kind : RecordKind) (at n : ℕ) (short : at ≤ length s) (counts : run_of s kind at ≡ Ok n) where
   counted : Counted s kind at n
   counted = run_counted s kind at n short counts
 
-  module _ (p i : ℕ) (here : Passed s kind at n p i) where
-    pub passed_end : (byte_at s p ≡ byte_of kind → ⊥) → i ≡ n
-    passed_end h = ⊎_elim (λ l. absurd (h (ap (byte_at s) here.place ∙ counted.kinds i l))) (λ l. omega (arith, here.most)) (lt_or_le i n)
-
-    pub passed_less : byte_at s p ≡ byte_of kind → i < n
-    passed_less h =
-        ⊎_elim (λ l. l)
-        (λ l.
-        let e : i ≡ n = omega (arith, here.most) in
-        absurd (counted.end (ap (λ (j : ℕ). byte_at s (at + size_of kind * j)) (sym e) ∙ sym (ap (byte_at s) here.place) ∙ h)))
-        (lt_or_le i n)
-
-    pub passed_within : byte_at s p ≡ byte_of kind → p + size_of kind ≤ length s
-    passed_within h =
-        let m : size_of kind * suc i ≤ size_of kind * n = mul-le-mul_left (size_of kind) (passed_less h) in
-        omega (arith, here.place, next_record at (size_of kind) i, counted.within)
-
-    pub passed_more : 0 < size_of kind → byte_at s p ≡ byte_of kind → Passed s kind at n (p + size_of kind) (i + 1)
-    passed_more o h =
-        record {
-          place = rw (add-one i) (ap (λ (q : ℕ). q + size_of kind) here.place ∙ next_record at (size_of kind) i);
-          short = omega (arith, here.short);
-          most = omega (arith, passed_less h);
-        }
+  -- i records of the kind stand there in a row, and none after them that is whole
+  pub counted_is : (i : ℕ) → ((k : ℕ) → k < i → byte_at s (at + size_of kind * k) ≡ byte_of kind) → (at + size_of kind * i + size_of kind ≤ length s → byte_at s (at + size_of kind * i) ≡ byte_of kind → ⊥) → i ≡ n
+  counted_is i all none =
+      ⊎_elim
+      (λ l.
+      let m : size_of kind * suc i ≤ size_of kind * n = mul-le-mul_left (size_of kind) l in
+      absurd (none (omega (arith, next_record at (size_of kind) i, counted.within)) (counted.kinds i l)))
+      (λ l. ⊎_elim (λ h. absurd (counted.end (all n h))) (λ h. omega arith) (lt_or_le n i)) (lt_or_le i n)

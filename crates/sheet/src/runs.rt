@@ -85,17 +85,13 @@ pub fn read_run(sheet: &[u8], kind: RecordKind, at: usize) -> Result<usize, Shee
 }
 
 // How many records a run has that was read before.
-#[tactic(auto, using(crate::specs::RunSteps::passed_start, crate::specs::RunSteps::passed_end, crate::specs::RunSteps::passed_less, crate::specs::RunSteps::passed_within, crate::specs::RunSteps::passed_more))]
 pub fn count_run(sheet: &[u8], kind: RecordKind, at: usize) -> usize
     requires { (at ≤ length sheet.now) × (run_of sheet.now kind at ≡ Ok (count_of sheet.now kind at)) }
     ensures { result ≡ count_of sheet.now kind at }
 {
-    let size = kind.size();
-    let mut p = at;
-    let mut i: usize = 0;
-    while kind_at(sheet, p) == kind.byte() {
-        p += size;
-        i += 1;
-    }
-    i
+    let byte = kind.byte();
+    sheet[at..]
+        .chunks_exact(kind.size())
+        .take_while(|record| record[0] == byte)
+        .count()
 }

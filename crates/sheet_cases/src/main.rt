@@ -78,6 +78,7 @@ fn answer(rt: &impl Print, index: u64, sheet: &[u8]) -> io::Result<()> {
 fn answer_all(rt: &impl Print, file: &[u8], sheet: &mut [u8]) -> io::Result<()> {
     let mut at: usize = 0;
     let mut index: u64 = 0;
+    // Where a sheet's parts end is known only once they are put together, so no range or iterator has the places.
     while 2 <= file.len() - at {
         let parts = number::read_u16(file, at) as usize;
         let built = build(file, at + 2, parts, sheet);

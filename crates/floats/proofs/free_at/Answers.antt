@@ -14,25 +14,21 @@ use Rattle.floats.proofs.free_at.Goals as goal
 pub activity_of-activity-requires : goal.activity_of-activity-requires
 activity_of-activity-requires c = let q = c.requires in (q.0.read, q.2)
 
-pub week_of-week-requires : goal.week_of-week-requires
-week_of-week-requires c = let q = c.requires in (q.0.read, q.0.located)
-
-pub exceptions_of-e-requires : goal.exceptions_of-e-requires
-exceptions_of-e-requires c = let q = c.requires in (q.0.read, q.0.located)
+pub calendar_of-calendar-requires : goal.calendar_of-calendar-requires
+calendar_of-calendar-requires c = let q = c.requires in (q.0.read, q.0.located)
 
 pub free_of-requires : goal.free_of-requires
 free_of-requires c =
-    let x = c.args in
     let q = c.requires in
-    let o = own_is x.sheet.now x.contents x.i _ _ _ _ c.activity_of-activity.ensures c.week_of-week.ensures c.exceptions_of-e.ensures.0 c.exceptions_of-e.ensures.1 in (q.0, q.1, q.2, o.calendar)
+    let o = own_is c.activity_of-activity.ensures c.calendar_of-calendar.ensures in (q.0, q.1, q.2, o.in_plan)
 
 pub use_float-requires : goal.use_float-requires
 use_float-requires c =
     let x = c.args in
     let q = c.requires in
     let i : x.i < (plan_of x.sheet.now x.contents).activities = omega (arith, activities_are x.sheet.now x.contents, q.2) in
-    let o = own_is x.sheet.now x.contents x.i _ _ _ _ c.activity_of-activity.ensures c.week_of-week.ensures c.exceptions_of-e.ensures.0 c.exceptions_of-e.ensures.1 in
-    (q.0.read, q.0.room, q.2, o, q.0.standing.marks x.i i, q.1 x.i i, c.free_of.ensures.1 _ c.in_ok-free.was)
+    let o = own_is c.activity_of-activity.ensures c.calendar_of-calendar.ensures in
+    (q.0.room, q.2, o, q.0.standing.marks x.i i, q.1 x.i i, c.free_of.ensures.1 _ c.in_ok-free.was)
 
 pub returns : goal.returns
 returns c =

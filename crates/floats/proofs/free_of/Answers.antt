@@ -10,7 +10,7 @@ use Rattle.worktime.specs.Reads.{at_or_refused}
 use Rattle.clock.specs.On.{worked_by}
 use Rattle.memory.specs.State.{state_of}
 use Rattle.order.specs.Plan.{plan_of}
-use Rattle.calendars.specs.CalendarLaws.{calendar_valid, calendar_worked}
+use Rattle.calendars.specs.CalendarLaws.{in_plan_worked}
 use Rattle.dates.specs.Columns.{early_in}
 use Rattle.bounds.specs.ReadyLaws.{activities_are}
 use Rattle.placing.proofs.PlacingSound.{same_time}
@@ -29,9 +29,6 @@ get_act-ef-requires c = let q = c.requires in (q.0.room, q.2, omega arith)
 pub get_act-lf-requires : goal.get_act-lf-requires
 get_act-lf-requires c = let q = c.requires in (q.0.room, q.2, omega arith)
 
-pub between-requires : goal.between-requires
-between-requires c = let q = c.requires in calendar_valid q.3 q.0.read
-
 pub recorded_at-recorded-requires : goal.recorded_at-recorded-requires
 recorded_at-recorded-requires c = let q = c.requires in (q.0.room, q.2)
 
@@ -48,7 +45,7 @@ returns c =
     rw (to_z-of_z {w = w64} {z = c.in_ok-slack.slack} (record { sfits = search rules }), to_z-of_z {w = w64} {z = c.in_ok-total.total} (record { sfits = search rules }))
     at (c.free_by.ensures.0 p d)
     in (
-      free_of_found q.0 x.i x.finish _ c.slack_of.ensures _ _ c.in_ok-slack.was _ w (calendar_worked q.3) (c.get_act-ef.ensures.0 ∙ sym (ef_at p S x.i i)) _
+      free_of_found q.0 x.i x.finish _ c.slack_of.ensures _ _ c.in_ok-slack.was _ w (in_plan_worked q.3) (c.get_act-ef.ensures.0 ∙ sym (ef_at p S x.i i)) _
           (sym c.between.ensures ∙ c.in_ok-total.was) _ (ap Ok c.recorded_at-recorded.ensures ∙ q.1 x.i i) _ f
           ∙ ap (λ (u : ℕ). free_of p d x.finish u x.i) c.get_act-lf.ensures.0,
       λ m e. let k = same_time refl e in omega (arith, c.free_by.ensures.1),
@@ -62,7 +59,7 @@ returns-in_err-total c = rw (handed_on _ _ c.from_residual-in_err-total.ensures.
     let d = early_in p S in
     let w = worked_by x.calendar.now in
     let i : x.i < p.activities = omega (arith, activities_are x.sheet.now x.contents, q.2) in (
-      free_of_late q.0 x.i x.finish _ c.slack_of.ensures _ _ c.in_ok-slack.was _ w (calendar_worked q.3) (c.get_act-ef.ensures.0 ∙ sym (ef_at p S x.i i)) _
+      free_of_late q.0 x.i x.finish _ c.slack_of.ensures _ _ c.in_ok-slack.was _ w (in_plan_worked q.3) (c.get_act-ef.ensures.0 ∙ sym (ef_at p S x.i i)) _
           (sym c.between.ensures ∙ c.in_err-total.was)
           ∙ ap (λ (u : ℕ). free_of p d x.finish u x.i) c.get_act-lf.ensures.0,
       λ m e. absurd (at_or_refused e refl),

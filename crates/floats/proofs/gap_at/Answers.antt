@@ -19,9 +19,6 @@ pub get_act-target-requires : goal.get_act-target-requires
 get_act-target-requires c =
     let q = c.requires in (q.0.room, to_in q.0 _ q.1 _ c.tie_at-tie.ensures, c.target_field-field.ensures.1)
 
-pub between-requires : goal.between-requires
-between-requires c = c.args.calendar.now.valid
-
 pub returns : goal.returns
 returns c =
     let x = c.args in

@@ -2,7 +2,7 @@
 use mathlib.Core.Path.{refl, sym, ap, ◌∙◌}
 use native.Mathlib.Omega.{arith}
 use Rattle.project.specs.declared.Activity.{Activity}
-use Rattle.calendars.specs.CalendarLaws.{calendar_valid, calendar_worked}
+use Rattle.calendars.specs.CalendarLaws.{in_plan_worked}
 use Rattle.order.specs.Plan.{plan_of}
 use Rattle.passes.specs.Dates.{leaves}
 use Rattle.memory.specs.State.{State, state_of}
@@ -16,22 +16,19 @@ use Rattle.floats.specs.StoreLaws.{stored_frame, held_to, held_refused}
 use Rattle.floats.proofs.hold_late.Goals as goal
 
 pub get_act-es-requires : goal.get_act-es-requires
-get_act-es-requires c = let q = c.requires in (q.1, q.2, omega arith)
+get_act-es-requires c = let q = c.requires in (q.0, q.1, omega arith)
 
 pub get_act-ef-requires : goal.get_act-ef-requires
-get_act-ef-requires c = let q = c.requires in (q.1, q.2, omega arith)
+get_act-ef-requires c = let q = c.requires in (q.0, q.1, omega arith)
 
 pub get_act-left-requires : goal.get_act-left-requires
-get_act-left-requires c = let q = c.requires in (q.1, q.2, omega arith)
-
-pub held_move-requires : goal.held_move-requires
-held_move-requires c = let q = c.requires in calendar_valid q.3.calendar q.0
+get_act-left-requires c = let q = c.requires in (q.0, q.1, omega arith)
 
 pub store_move-requires : goal.store_move-requires
 store_move-requires c =
     let q = c.requires in
     let m = moved_bound _ _ _ _ _ _ _ _ (sym c.held_move.ensures ∙ c.in_ok-moved.was) in
-    (q.1, q.2, omega arith, omega arith)
+    (q.0, q.1, omega arith, omega arith)
 
 pub returns : goal.returns
 returns c =
@@ -40,7 +37,7 @@ returns c =
     let p = plan_of x.sheet.now x.contents in
     let S = state_of x.contents.activities x.contents.links x.work.now in
     let h =
-    held_to p S x.i x.free (omega (arith, activities_are x.sheet.now x.contents, q.2)) _ (calendar_worked q.3.calendar) _ (ap (λ (a : Activity). a.kind) q.3.is) _ _ _
+    held_to p S x.i x.free (omega (arith, activities_are x.sheet.now x.contents, q.1)) _ (in_plan_worked q.2.in_plan) _ (ap (λ (a : Activity). a.kind) q.2.is) _ _ _
     c.get_act-es.ensures.0 c.get_act-ef.ensures.0 c.get_act-left.ensures.0 _ _ (sym c.held_move.ensures ∙ c.in_ok-moved.was)
     in
     let e = c.store_move.ensures.0 in
@@ -53,7 +50,7 @@ returns-in_err-moved c = rw (handed_on _ _ c.from_residual.ensures.1) (let x = c
     let p = plan_of x.sheet.now x.contents in
     let S = state_of x.contents.activities x.contents.links x.work.now in
     let h =
-    held_refused p S x.i x.free (omega (arith, activities_are x.sheet.now x.contents, q.2)) _ (calendar_worked q.3.calendar) _ (ap (λ (a : Activity). a.kind) q.3.is) _ _ _
+    held_refused p S x.i x.free (omega (arith, activities_are x.sheet.now x.contents, q.1)) _ (in_plan_worked q.2.in_plan) _ (ap (λ (a : Activity). a.kind) q.2.is) _ _ _
     c.get_act-es.ensures.0 c.get_act-ef.ensures.0 c.get_act-left.ensures.0 _ (sym c.held_move.ensures ∙ c.in_err-moved.was)
     in
     (h, frame_refl 12 16 0 0 S, refl))

@@ -5,7 +5,7 @@ use native.Mathlib.Omega.{arith}
 use mir.Facts.{to_z-of_z}
 use mir.Syntax.{w64}
 use Rattle.clock.specs.On.{worked_by}
-use Rattle.calendars.specs.CalendarLaws.{calendar_valid, calendar_worked}
+use Rattle.calendars.specs.CalendarLaws.{in_plan_worked}
 use Rattle.bounds.specs.ReadyLaws.{kept_within}
 use Rattle.number.specs.Exits.{handed_on}
 use Rattle.floats.specs.GapLaws.{gap_own, slack_start, slack_later, slack_turn, slack_stop, slack_end}
@@ -20,7 +20,7 @@ loop-k-init c =
     rw (to_z-of_z c.ranges.slack) (slack_start c.requires.0 x.i x.slack _ c.requires.1 c.get_act-k.ensures.0)
 
 pub gap_at-requires : goal.gap_at-requires
-gap_at-requires c = let q = c.requires in (q.0, c.loop-k-test.true, calendar_valid q.2 q.0.read)
+gap_at-requires c = let q = c.requires in (q.0, c.loop-k-test.true)
 
 pub returns-in_err-gap : goal.returns-in_err-gap
 returns-in_err-gap c = rw (handed_on _ _ c.from_residual.ensures.1) (let x = c.args in
@@ -28,7 +28,7 @@ returns-in_err-gap c = rw (handed_on _ _ c.from_residual.ensures.1) (let x = c.a
     let w = worked_by x.calendar.now in
     let L = c.loop-k in
     let C = rw (to_z-of_z c.ranges.slack) at L.invariant in
-    slack_stop q.0 x.i x.slack C c.loop-k-test.true _ (sym (c.gap_at.ensures ∙ gap_own q.0 x.i L.k x.start x.finish w (calendar_worked q.2) q.3) ∙ c.in_err-gap.was))
+    slack_stop q.0 x.i x.slack C c.loop-k-test.true _ (sym (c.gap_at.ensures ∙ gap_own q.0 x.i L.k x.start x.finish w (in_plan_worked q.2) q.3) ∙ c.in_err-gap.was))
 
 pub get_link-k-requires : goal.get_link-k-requires
 get_link-k-requires c = let q = c.requires in (q.0.room, omega (arith, kept_within q.0, c.loop-k-test.true), omega arith)
@@ -48,7 +48,7 @@ loop-k-preserved c =
     let C = rw (to_z-of_z c.ranges.slack) at L.invariant in
     let g = rw (to_z-of_z {w = w64} {z = c.in_ok-gap.gap} (record { sfits = search rules })) at c.min-least.ensures in
     rw (to_z-of_z c.ranges.slack, to_z-of_z (record { sfits = c.min-least.type_inv }), g)
-    (slack_turn q.0 x.i x.slack C c.loop-k-test.true _ (sym (c.gap_at.ensures ∙ gap_own q.0 x.i L.k x.start x.finish w (calendar_worked q.2) q.3) ∙ c.in_ok-gap.was) _ c.get_link-k.ensures.0)
+    (slack_turn q.0 x.i x.slack C c.loop-k-test.true _ (sym (c.gap_at.ensures ∙ gap_own q.0 x.i L.k x.start x.finish w (in_plan_worked q.2) q.3) ∙ c.in_ok-gap.was) _ c.get_link-k.ensures.0)
 
 pub returns : goal.returns
 returns c =

@@ -7,7 +7,7 @@ use mir.Facts.{to_z-of_z}
 use Rattle.clock.specs.On.{worked_by}
 use Rattle.memory.specs.State.{state_of}
 use Rattle.order.specs.Plan.{plan_of}
-use Rattle.calendars.specs.CalendarLaws.{calendar_valid, calendar_worked}
+use Rattle.calendars.specs.CalendarLaws.{in_plan_worked}
 use Rattle.bounds.specs.ReadyLaws.{activities_are}
 use Rattle.number.specs.Exits.{handed_on}
 use Rattle.floats.specs.StoreLaws.{ef_at}
@@ -22,9 +22,6 @@ get_act-es-requires c = let q = c.requires in (q.0.room, q.2, omega arith)
 
 pub get_act-ef-requires : goal.get_act-ef-requires
 get_act-ef-requires c = let q = c.requires in (q.0.room, q.2, omega arith)
-
-pub between-requires : goal.between-requires
-between-requires c = let q = c.requires in calendar_valid q.3 q.0.read
 
 pub least_slack-requires : goal.least_slack-requires
 least_slack-requires c =
@@ -41,7 +38,7 @@ returns c =
     let w = worked_by x.calendar.now in
     let l = ef_at p S x.i (omega (arith, activities_are x.sheet.now x.contents, q.2)) in
     let e = rw (to_z-of_z {w = w64} {z = c.in_ok-slack.slack} (record { sfits = search rules })) at c.least_slack.ensures in
-    e ∙ slack_found q.0 x.i x.finish _ w (calendar_worked q.3) (c.get_act-ef.ensures.0 ∙ sym l) _ (sym c.between.ensures ∙ c.in_ok-slack.was)
+    e ∙ slack_found q.0 x.i x.finish _ w (in_plan_worked q.3) (c.get_act-ef.ensures.0 ∙ sym l) _ (sym c.between.ensures ∙ c.in_ok-slack.was)
 
 pub returns-in_err-slack : goal.returns-in_err-slack
 returns-in_err-slack c = rw (handed_on _ _ c.from_residual.ensures.1) (let x = c.args in
@@ -50,4 +47,4 @@ returns-in_err-slack c = rw (handed_on _ _ c.from_residual.ensures.1) (let x = c
     let S = state_of x.contents.activities x.contents.links x.work.now in
     let w = worked_by x.calendar.now in
     let l = ef_at p S x.i (omega (arith, activities_are x.sheet.now x.contents, q.2)) in
-    slack_refused q.0 x.i x.finish _ w (calendar_worked q.3) (c.get_act-ef.ensures.0 ∙ sym l) _ (sym c.between.ensures ∙ c.in_err-slack.was))
+    slack_refused q.0 x.i x.finish _ w (in_plan_worked q.3) (c.get_act-ef.ensures.0 ∙ sym l) _ (sym c.between.ensures ∙ c.in_err-slack.was))

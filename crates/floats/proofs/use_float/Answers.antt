@@ -14,10 +14,10 @@ use Rattle.floats.specs.StoreLaws.{free_stored, freed_held, freed_stays}
 use Rattle.floats.proofs.use_float.Goals as goal
 
 pub is_moved-requires : goal.is_moved-requires
-is_moved-requires c = let q = c.requires in (q.1, q.2, q.3.is, q.4, q.5)
+is_moved-requires c = let q = c.requires in (q.0, q.1, q.2.is, q.3, q.4)
 
 pub hold_late-requires : goal.hold_late-requires
-hold_late-requires c = let q = c.requires in (q.0, q.1, q.2, q.3)
+hold_late-requires c = let q = c.requires in (q.0, q.1, q.2)
 
 pub returns-then-is_moved : goal.returns-then-is_moved
 returns-then-is_moved c =
@@ -29,7 +29,7 @@ returns-then-is_moved c =
     (r.0 ∙ sym (freed_held p S x.i x.free (sym c.is_moved.ensures ∙ c.if-is_moved.true)), r.1, r.2)
 
 pub put_act-requires : goal.put_act-requires
-put_act-requires c = let q = c.requires in (q.1, q.2, omega arith, q.6)
+put_act-requires c = let q = c.requires in (q.0, q.1, omega arith, q.5)
 
 pub returns : goal.returns
 returns c =
@@ -42,7 +42,7 @@ returns c =
     rw e (frame_put 12 16 0 0 free_float (omega arith) (omega arith) S x.i (pos x.free))
     in (
       ap (λ (T : State). leaves (freed_in p T)) e
-          ∙ ap leaves (free_stored p S x.i (omega (arith, activities_are x.sheet.now x.contents, q.2)) x.free)
+          ∙ ap leaves (free_stored p S x.i (omega (arith, activities_are x.sheet.now x.contents, q.1)) x.free)
           ∙ sym (freed_stays p S x.i x.free (sym c.is_moved.ensures ∙ c.if-is_moved.false)),
       F,
       c.put_act.ensures.1,

@@ -30,25 +30,19 @@ loop-i-init c =
 
 pub returns-in_err-index_one : goal.returns-in_err-index_one
 returns-in_err-index_one c =
-    let x = c.args in
-    let p = plan_of x.sheet.now x.contents in
     let o = c.in_err-index_one.ensures in
-    let a = passing_stop OfIndex (Indexed p) (judge_activity p) x.contents.activities (state x.tables.now) c.loop-i.invariant.1 (omega arith) o.0 o.1 in
+    let a = passing_stop _ _ _ _ _ c.loop-i.invariant.1 (omega arith) o.0 o.1 in
     let q = err_from_is_err_and c.from_residual.result c.from_residual.ensures.1 in
     rw (q.1, q.2) (a.0, a.1, same_then c.loop-i.invariant.0 o.2)
 
 pub loop-i-preserved : goal.loop-i-preserved
 loop-i-preserved c =
-    let x = c.args in
-    let p = plan_of x.sheet.now x.contents in
     let o = c.in_ok-index_one.ensures in (
       same_then c.loop-i.invariant.0 o.2,
-      passing_turn OfIndex (Indexed p) (judge_activity p) x.contents.activities (state x.tables.now) c.loop-i.invariant.1 (omega arith) o.0 o.1,
+      passing_turn _ _ _ _ _ c.loop-i.invariant.1 (omega arith) o.0 o.1,
     )
 
 pub returns : goal.returns
 returns c =
-    let x = c.args in
-    let p = plan_of x.sheet.now x.contents in
-    let a = passing_end OfIndex (Indexed p) (judge_activity p) x.contents.activities (state x.tables.now) c.loop-i.invariant.1 _ (omega arith) in
+    let a = passing_end _ _ _ _ _ c.loop-i.invariant.1 _ (omega arith) in
     (a.0, a.1, c.loop-i.invariant.0)

@@ -15,15 +15,6 @@ get_act-mark-requires c = (c.requires.0.room, c.requires.1, omega arith)
 pub get_act-early-requires : goal.get_act-early-requires
 get_act-early-requires c = (c.requires.0.room, c.requires.1, omega arith)
 
-pub lower-requires : goal.lower-requires
-lower-requires c = let p = c.requires in (p.0, p.1, c.args.calendar.now.valid, p.2, p.5)
-
-pub hold_late-requires : goal.hold_late-requires
-hold_late-requires c = c.args.calendar.now.valid
-
-pub place_late-requires : goal.place_late-requires
-place_late-requires c = (c.args.calendar.now.valid, c.requires.3, c.get_act-early.ensures.1)
-
 pub returns : goal.returns
 returns c =
     let R = c.requires.0 in

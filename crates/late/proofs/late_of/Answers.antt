@@ -4,43 +4,25 @@ use native.Mathlib.Omega.{arith}
 use Rattle.order.specs.Plan.{plan_of}
 use Rattle.calendar.specs.Hours.{worked}
 use Rattle.project.specs.declared.Activity.{Activity}
-use Rattle.calendars.specs.CalendarLaws.{calendar_valid, calendar_worked}
+use Rattle.calendars.specs.CalendarLaws.{in_plan_worked}
 use Rattle.late.specs.StandLaws.{left_at}
 use Rattle.late.proofs.late_of.Goals as goal
-
-pub activity_of-activity-requires : goal.activity_of-activity-requires
-activity_of-activity-requires c = (c.requires.0.read, c.requires.1)
-
-pub week_of-week-requires : goal.week_of-week-requires
-week_of-week-requires c = (c.requires.0.read, c.requires.0.located)
-
-pub exceptions_of-e-requires : goal.exceptions_of-e-requires
-exceptions_of-e-requires c = (c.requires.0.read, c.requires.0.located)
 
 pub get_act-left-requires : goal.get_act-left-requires
 get_act-left-requires c = (c.requires.0.room, c.requires.1, omega arith)
 
-pub origin_of-origin-requires : goal.origin_of-origin-requires
-origin_of-origin-requires c = c.requires.0.read
-
 pub late_from-requires : goal.late_from-requires
 late_from-requires c =
     let R = c.requires.0 in
-    let p = plan_of c.args.sheet.now c.args.contents in
-    let e = c.exceptions_of-e.ensures in (
+    let p = plan_of c.args.sheet.now c.args.contents in (
       R,
       c.requires.1,
-      calendar_valid (record { week_is = c.week_of-week.ensures; at_is = e.0; n_is = e.1 }) R.read,
       record {
-        works = calendar_worked (record { week_is = c.week_of-week.ensures; at_is = e.0; n_is = e.1 }) ∙ ap (λ (y : Activity). worked (p.hours y.calendar)) c.activity_of-activity.ensures;
+        works = in_plan_worked c.calendar_of-calendar.ensures ∙ ap (λ (y : Activity). worked (p.hours y.calendar)) c.activity_of-activity.ensures;
         activity_is = c.activity_of-activity.ensures;
         left_is = c.get_act-left.ensures.0 ∙ sym (left_at R c.args.i c.requires.1);
         origin_is = c.origin_of-origin.ensures.0;
       },
       c.origin_of-origin.ensures.1,
       c.requires.2,
-      c.week_of-week.ensures,
     )
-
-pub returns : goal.returns
-returns c = c.late_from.ensures

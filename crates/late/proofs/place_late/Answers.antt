@@ -6,7 +6,7 @@ use Rattle.late.specs.UnfinishedLaws.{own_bounded, own_finish, own_start}
 use Rattle.late.proofs.place_late.Goals as goal
 
 pub lift-requires : goal.lift-requires
-lift-requires c = (c.args.calendar.now.valid, c.requires.1, bounded_fits _ _ _ c.requires.0 (sym c.bounded.ensures ∙ c.in_ok-b.was))
+lift-requires c = (c.requires.1, bounded_fits _ _ _ c.requires.0 (sym c.bounded.ensures ∙ c.in_ok-b.was))
 
 pub returns : goal.returns
 returns c = (

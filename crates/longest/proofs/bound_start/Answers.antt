@@ -5,7 +5,7 @@ use Rattle.memory.specs.State.{state_of}
 use Rattle.order.specs.Plan.{plan_of}
 use Rattle.dates.specs.Columns.{early_in}
 use Rattle.number.specs.Exits.{handed_on}
-use Rattle.longest.specs.OwnLaws.{own_valid, own_worked, own_place, link_in, start_left}
+use Rattle.longest.specs.OwnLaws.{own_worked, own_place, link_in, start_left}
 use Rattle.longest.specs.DriveLaws.{start_no_bound, start_no_start, start_placed}
 use Rattle.longest.proofs.bound_start.Goals as goal
 
@@ -25,9 +25,6 @@ get_act-left-requires c = (c.requires.0.ready.room, c.requires.2, omega arith)
 pub get_link-code-requires : goal.get_link-code-requires
 get_link-code-requires c = (c.requires.0.ready.room, link_in c.requires.0 c.args.k c.requires.3, omega arith)
 
-pub start_for-requires : goal.start_for-requires
-start_for-requires c = own_valid c.requires.1 c.requires.0.ready.read
-
 pub returns-in_err-s : goal.returns-in_err-s
 returns-in_err-s c = rw (handed_on _ _ c.from_residual-in_err-s.ensures.1) (let x = c.args in
     let p = plan_of x.sheet.now x.contents in
@@ -39,9 +36,6 @@ returns-in_err-s c = rw (handed_on _ _ c.from_residual-in_err-s.ensures.1) (let 
     start_left c.requires.0 x.k c.requires.3 x.i c.requires.2 c.get_act-left.result c.get_link-code.result u c.from-kind.result q.result c.get_act-left.ensures.0 c.get_link-code.ensures.0 c.from-kind.ensures
     (q.ensures p x.i (own_worked c.requires.1)) in
     sym (start_no_start p d x.i x.k b.result u b.ensures c.in_ok-b.was q.result w c.in_err-s.field-0.0 c.in_err-s.was))
-
-pub place_start-requires : goal.place_start-requires
-place_start-requires c = own_valid c.requires.1 c.requires.0.ready.read
 
 pub returns : goal.returns
 returns c =

@@ -30,15 +30,11 @@ returns-then-get_act-eq0 c =
 pub activity_of-activity-requires : goal.activity_of-activity-requires
 activity_of-activity-requires c = (c.requires.0.ready.read, c.requires.1)
 
-pub week_of-week-requires : goal.week_of-week-requires
-week_of-week-requires c = (c.requires.0.ready.read, c.requires.0.ready.located)
-
-pub exceptions_of-exceptions-requires : goal.exceptions_of-exceptions-requires
-exceptions_of-exceptions-requires c = (c.requires.0.ready.read, c.requires.0.ready.located)
+pub calendar_of-calendar-requires : goal.calendar_of-calendar-requires
+calendar_of-calendar-requires c = (c.requires.0.ready.read, c.requires.0.ready.located)
 
 pub mark_links-requires : goal.mark_links-requires
-mark_links-requires c =
-    (c.requires.0, own_made c.activity_of-activity.ensures (record { week_is = c.week_of-week.ensures; at_is = c.exceptions_of-exceptions.ensures.0; n_is = c.exceptions_of-exceptions.ensures.1 }), c.requires.1)
+mark_links-requires c = (c.requires.0, own_made c.activity_of-activity.ensures c.calendar_of-calendar.ensures, c.requires.1)
 
 pub shape_of-work : goal.shape_of-work
 shape_of-work c = c.mark_links.ensures.2

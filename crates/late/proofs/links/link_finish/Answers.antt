@@ -24,7 +24,7 @@ pub tie_at-tie-requires : goal.tie_at-tie-requires
 tie_at-tie-requires c = (c.requires.0.room, omega (arith, c.requires.1, kept_within c.requires.0))
 
 pub successor_times-requires : goal.successor_times-requires
-successor_times-requires c = let R = c.requires.0 in (R.read, R.located, R.room, to_in R _ c.requires.1 _ c.tie_at-tie.ensures, c.requires.2)
+successor_times-requires c = let R = c.requires.0 in (R.read, R.located, R.room, to_in R _ c.requires.1 _ c.tie_at-tie.ensures)
 
 pub over_lag-requires : goal.over_lag-requires
 over_lag-requires c =

@@ -13,9 +13,6 @@ get_act-k-requires c = (c.requires.0.room, c.requires.1, omega arith)
 pub loop-k-init : goal.loop-k-init
 loop-k-init c = λ R. lowering_start R _ _ _ c.requires.1 c.get_act-k.ensures.0
 
-pub link_finish-requires : goal.link_finish-requires
-link_finish-requires c = (c.requires.0, c.loop-k-test.true, c.args.calendar.now.valid, c.requires.3)
-
 pub returns-in_err-f : goal.returns-in_err-f
 returns-in_err-f c = rw (handed_on _ _ c.from_residual.ensures.1) (lowering_stop c.requires.0 c.args.i c.args.last (c.loop-k.invariant c.requires.0) _ c.loop-k-test.true (sym (c.link_finish.ensures c.args.i c.args.last c.requires.2) ∙ c.in_err-f.was))
 

@@ -8,7 +8,7 @@ use mir.Syntax.{w64}
 use mir.Val.{to_z, of_z}
 use Rattle.number.specs.ZedLaws.{neg_dn}
 use Rattle.number.specs.Zed.{dn}
-use Rattle.calendars.specs.CalendarLaws.{calendar_valid, calendar_worked}
+use Rattle.calendars.specs.CalendarLaws.{in_plan_worked}
 use Rattle.order.specs.Plan.{plan_of}
 use Rattle.worktime.specs.Walks.{next_start, shift}
 use Rattle.calendar.specs.Hours.{worked}
@@ -26,20 +26,14 @@ negate-back-requires c =
 
 pub shift-requires : goal.shift-requires
 shift-requires c =
-    let h : dn (neg_ℤ c.args.lag) < 2 ^ 63 = omega (arith, neg_dn c.args.lag, c.requires.2) in (
-      calendar_valid (record { week_is = c.week_of-week.ensures; at_is = c.exceptions_of-e.ensures.0; n_is = c.exceptions_of-e.ensures.1 }) c.requires.0,
-      rw (negated_back c.args.lag c.ranges.lag (omega (arith, c.requires.2)) _ c.negate-back.ensures) h,
-    )
-
-pub next_start-requires : goal.next_start-requires
-next_start-requires c = calendar_valid (record { week_is = c.week_of-week.ensures; at_is = c.exceptions_of-e.ensures.0; n_is = c.exceptions_of-e.ensures.1 }) c.requires.0
+    let h : dn (neg_ℤ c.args.lag) < 2 ^ 63 = omega (arith, neg_dn c.args.lag, c.requires.2) in
+    rw (negated_back c.args.lag c.ranges.lag (omega (arith, c.requires.2)) _ c.negate-back.ensures) h
 
 pub returns : goal.returns
 returns c =
     λ d l t e f.
     let p = plan_of c.args.sheet.now c.args.contents in
-    let E = c.exceptions_of-e.ensures in
-    let w = calendar_worked (record { week_is = c.week_of-week.ensures; at_is = E.0; n_is = E.1 }) ∙ ap (λ (j : ℕ). worked (p.hours j)) (sym e) in
+    let w = in_plan_worked c.calendar_of-calendar.ensures ∙ ap (λ (j : ℕ). worked (p.hours j)) (sym e) in
     let m = ap neg_ℤ f ∙ sym (negated_back c.args.lag c.ranges.lag (omega (arith, c.requires.2)) _ c.negate-back.ensures) in
     c.next_start.ensures ∙ (λ z. next_start (w z) c.in_ok-v.v)
     ∙ sym
@@ -49,7 +43,6 @@ returns c =
 pub returns-in_err-v : goal.returns-in_err-v
 returns-in_err-v c = rw (handed_on _ _ c.from_residual.ensures.1) (λ d l t e f.
     let p = plan_of c.args.sheet.now c.args.contents in
-    let E = c.exceptions_of-e.ensures in
-    let w = calendar_worked (record { week_is = c.week_of-week.ensures; at_is = E.0; n_is = E.1 }) ∙ ap (λ (j : ℕ). worked (p.hours j)) (sym e) in
+    let w = in_plan_worked c.calendar_of-calendar.ensures ∙ ap (λ (j : ℕ). worked (p.hours j)) (sym e) in
     let m = ap neg_ℤ f ∙ sym (negated_back c.args.lag c.ranges.lag (omega (arith, c.requires.2)) _ c.negate-back.ensures) in
     sym (over_refused p d l t c.args.x _ ((λ z. shift (sym w z) c.args.x (m z)) ∙ sym c.shift.ensures ∙ c.in_err-v.was)))

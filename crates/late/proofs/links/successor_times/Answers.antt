@@ -1,6 +1,6 @@
 -- `late::links::successor_times` meets its contract.
 use mathlib.Core.Path.{sym, ap, ◌∙◌}
-use Rattle.calendars.specs.CalendarLaws.{calendar_valid, calendar_worked}
+use Rattle.calendars.specs.CalendarLaws.{in_plan_worked}
 use Rattle.passes.specs.Plan.{own}
 use Rattle.order.specs.Plan.{plan_of}
 use Rattle.project.specs.declared.Activity.{Activity}
@@ -10,27 +10,18 @@ use Rattle.number.specs.Exits.{handed_on}
 use Rattle.late.specs.LinkLaws.{times_start_refused, times_finish_refused, times_at}
 use Rattle.late.proofs.links.successor_times.Goals as goal
 
-pub latest_same-requires : goal.latest_same-requires
-latest_same-requires c = calendar_valid (record { week_is = c.week_for-week.ensures; at_is = c.exceptions_of-e.ensures.0; n_is = c.exceptions_of-e.ensures.1 }) c.requires.0
-
-pub latest_same-requires-2 : goal.latest_same-requires-2
-latest_same-requires-2 c = calendar_valid (record { week_is = c.week_for-week.ensures; at_is = c.exceptions_of-e.ensures.0; n_is = c.exceptions_of-e.ensures.1 }) c.requires.0
-
 pub returns : goal.returns
 returns c =
     let p = plan_of c.args.sheet.now c.args.contents in
-    let e = c.exceptions_of-e.ensures in
-    let w = calendar_worked (record { week_is = c.week_for-week.ensures; at_is = e.0; n_is = e.1 }) ∙ ap (λ (y : Activity). worked (p.hours y.calendar)) c.activity_of-activity.ensures in
+    let w = in_plan_worked c.calendar_of-calendar.ensures ∙ ap (λ (y : Activity). worked (p.hours y.calendar)) c.activity_of-activity.ensures in
     sym (times_at (own p c.args.j) _ _ _ _ ((λ z. next_start (sym w z) (sym c.get_act-start.ensures.0 z)) ∙ sym c.latest_same.ensures ∙ c.in_ok-s.was) ((λ z. next_start (sym w z) (sym c.get_act-finish.ensures.0 z)) ∙ sym c.latest_same-2.ensures ∙ c.in_ok-f.was))
 
 pub returns-in_err-f : goal.returns-in_err-f
 returns-in_err-f c = rw (handed_on _ _ c.from_residual-in_err-f.ensures.1) (let p = plan_of c.args.sheet.now c.args.contents in
-    let e = c.exceptions_of-e.ensures in
-    let w = calendar_worked (record { week_is = c.week_for-week.ensures; at_is = e.0; n_is = e.1 }) ∙ ap (λ (y : Activity). worked (p.hours y.calendar)) c.activity_of-activity.ensures in
+    let w = in_plan_worked c.calendar_of-calendar.ensures ∙ ap (λ (y : Activity). worked (p.hours y.calendar)) c.activity_of-activity.ensures in
     sym (times_finish_refused (own p c.args.j) _ _ _ _ ((λ z. next_start (sym w z) (sym c.get_act-start.ensures.0 z)) ∙ sym c.latest_same.ensures ∙ c.in_ok-s.was) ((λ z. next_start (sym w z) (sym c.get_act-finish.ensures.0 z)) ∙ sym c.latest_same-2.ensures ∙ c.in_err-f.was)))
 
 pub returns-in_err-s : goal.returns-in_err-s
 returns-in_err-s c = rw (handed_on _ _ c.from_residual.ensures.1) (let p = plan_of c.args.sheet.now c.args.contents in
-    let e = c.exceptions_of-e.ensures in
-    let w = calendar_worked (record { week_is = c.week_for-week.ensures; at_is = e.0; n_is = e.1 }) ∙ ap (λ (y : Activity). worked (p.hours y.calendar)) c.activity_of-activity.ensures in
+    let w = in_plan_worked c.calendar_of-calendar.ensures ∙ ap (λ (y : Activity). worked (p.hours y.calendar)) c.activity_of-activity.ensures in
     sym (times_start_refused (own p c.args.j) _ _ _ ((λ z. next_start (sym w z) (sym c.get_act-start.ensures.0 z)) ∙ sym c.latest_same.ensures ∙ c.in_err-s.was)))
