@@ -9,6 +9,7 @@ ghost use Rattle.calendars.specs.Calendars.{Places, Lengths};
 
 use calendars::PlanCalendar;
 use checks::PlanCounts;
+use memory::Tables;
 use order::PlanError;
 use sheet::Contents;
 use std::{fs, io};
@@ -89,7 +90,8 @@ fn check_lent(
 ) -> io::Result<()>
     requires { SheetRead sheet.now contents × Places sheet.now contents calendars.now × Lengths (plan_of sheet.now contents) calendars.now × (max (contents.activities + 1) contents.links ≤ length names.old) × (64 * contents.activities + 16 * contents.links ≤ length work.old) }
 {
-    match checks::check_plan(sheet, contents, calendars, names, work) {
+    let mut tables = Tables::of(work, contents.activities, contents.links);
+    match checks::check_plan(sheet, contents, calendars, names, &mut tables) {
         Ok(counts) => print_fine(rt, names, counts),
         Err(error) => print_refused(rt, names, work, error),
     }

@@ -19,6 +19,7 @@ ghost use Rattle.sched.specs.CallLaws.{ended_with, zeros, LentAs, AcceptedAs};
 
 use calendars::PlanCalendar;
 use judges::SheetError;
+use memory::Tables;
 use order::PlanError;
 use sheet::Contents;
 use worktime::ClockError;
@@ -209,7 +210,8 @@ fn plan_at(
     requires { SheetRead sheet.now contents × Places sheet.now contents calendars.now × Lengths (plan_of sheet.now contents) calendars.now × (15 * contents.activities ≤ length results.old) × (max (contents.activities + 1) contents.links ≤ length names.old) × Room contents.activities contents.links work.old }
     ensures { ended_with result results.new names.new work.new ≡ planned (record { results = results.old; names = names.old; work = work.old }) (plan_of sheet.now contents) }
 {
-    let counts = checks::check_plan(sheet, contents, calendars, names, work)?;
+    let mut tables = Tables::of(work, contents.activities, contents.links);
+    let counts = checks::check_plan(sheet, contents, calendars, names, &mut tables)?;
     run_plan(
         sheet,
         contents,

@@ -1,29 +1,43 @@
 -- `sched::plan_at` meets its contract.
-use mathlib.Core.Path.{refl}
+use mathlib.Core.Path.{refl, sym, ap, subst, ◌∙◌}
+use mathlib.Core.List.{List}
+use lib.IntN.{ℤ}
+use lib.ListN.{length}
+use Rattle.std.proofs.Common.{rules}
 use Rattle.number.specs.Exits.{handed_on}
 use Rattle.order.specs.Plan.{plan_of}
+use Rattle.dates.specs.Standing.{Ready}
+use Rattle.sched.specs.CallLaws.{zeros}
 use Rattle.sched.proofs.CallLaws.{planned_checked, names_kept}
 use Rattle.sched.proofs.plan_at.Goals as goal
+
+pub check_plan-requires : goal.check_plan-requires
+check_plan-requires c =
+    let o = c.of-tables.ensures in
+    (record { read = c.requires.0; activities = o.1; links = o.2 }, c.requires.1, c.requires.2, c.requires.4)
 
 pub returns-in_err-counts : goal.returns-in_err-counts
 returns-in_err-counts c =
     let x = c.args in
-    let new = c.check_plan.new in
-    let h = c.in_err-counts.ensures in
+    let h = c.in_err-counts.ensures.0 in
     rw (handed_on _ _ c.from_residual.ensures.1)
-    (planned_checked (record { results = x.results.now; names = x.names.now; work = x.work.now }) (plan_of x.sheet.now x.contents) _ new.names new.work h.number_is h.id_is h.named h.cleared)
+    (planned_checked (record { results = x.results.now; names = x.names.now; work = x.work.now }) (plan_of x.sheet.now x.contents) _ c.check_plan.new.names _ h.number_is h.id_is h.named
+    (search rules ∙ h.cleared ∙ ap zeros c.of-tables.ensures.3))
 
 pub run_plan-requires : goal.run_plan-requires
-run_plan-requires c = let h = c.in_ok-counts.ensures in (h.ready, c.requires.2, c.requires.3, h.ignored, h.ends)
+run_plan-requires c =
+    let x = c.args in
+    let h = c.in_ok-counts.ensures.0 in
+    (subst (Ready x.sheet.now x.contents x.calendars.now c.in_ok-counts.counts.kept) (sym (search rules)) h.ready, c.requires.2, c.requires.3, h.ignored, h.ends)
 
 pub returns : goal.returns
 returns c =
     let x = c.args in
-    let h = c.in_ok-counts.ensures in
+    let h = c.in_ok-counts.ensures.0 in
     c.run_plan.ensures (record { results = x.results.now; names = x.names.now; work = x.work.now })
     (record {
       results_is = refl;
       names_is = h.named;
       names_length = names_kept x.sheet.now x.contents x.names.now c.check_plan.new.names c.requires.4 h.named;
-      work_length = h.kept;
+      work_length = ap length (search rules) ∙ c.in_ok-counts.ensures.1.cells ∙ ap length c.of-tables.ensures.3;
     })
