@@ -1,10 +1,10 @@
 -- `backward::backward_all` meets its contract. The loop's invariant: the activities of the order from place `q` on are done.
 use mathlib.Core.List.{reverse}
 use mathlib.Core.Path.{◌≡◌, refl, ap, ◌∙◌}
-use Prim.Native.Nat.{ℕ, ◌+◌, ◌-◌, ◌<◌}
+use Prim.Native.Nat.{◌+◌, ◌-◌, ◌<◌}
 use native.Mathlib.Omega.{arith}
 use lib.ListN.{length}
-use Rattle.dates.specs.ThroughLaws.{Through, through_start, through_turn, through_stop, through_end}
+use Rattle.dates.specs.ThroughLaws.{through_start, through_turn, through_stop, through_end}
 use Rattle.dates.specs.Columns.{early_in, late_in}
 use Rattle.passes.specs.Backward.{backward}
 use Rattle.passes.specs.Dates.{Early}

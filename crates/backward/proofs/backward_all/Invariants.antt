@@ -1,21 +1,15 @@
 -- `backward::backward_all` meets its contract. The loop's invariant: the last `q` activities of the order are done.
-use borrow.Author.Rules.{rules}
 use mathlib.Core.List.{reverse}
-use mathlib.Core.Path.{◌≡◌, refl, ap, ◌∙◌}
-use Prim.Native.Nat.{◌-◌, ◌≤◌, ◌<◌}
-use native.Mathlib.Omega.{arith}
+use mathlib.Core.Path.{◌≡◌}
+use Prim.Native.Nat.{◌-◌}
 use lib.ListN.{length}
-use Rattle.dates.specs.ThroughLaws.{Through, through_start, through_turn, through_stop, through_end}
+use Rattle.dates.specs.ThroughLaws.{Through}
 use Rattle.dates.specs.Columns.{early_in, late_in}
 use Rattle.passes.specs.Backward.{backward}
-use Rattle.passes.specs.Dates.{Early}
 use Rattle.order.specs.Checks.{order}
 use Rattle.order.specs.Plan.{plan_of}
-use Rattle.topology.specs.FrameLaws.{frame_refl, frame_then}
 use Rattle.topology.specs.Frame.{Frame}
 use Rattle.memory.specs.State.{state_of}
-use Rattle.dates.specs.KeptLaws.{ready_kept, recorded_kept, early_kept}
-use Rattle.dates.specs.OrderLaws.{backward_length, backward_at, backward_below}
 use Rattle.backward.proofs.backward_all.Given as goal
 
 abbrev pub invariant-loop-q : goal.invariant-loop-q

@@ -1,11 +1,7 @@
 -- `backward::backward_one` meets its contract, by what is recorded.
-use borrow.Author.Rules.{rules}
-use mathlib.Core.List.{[], ◌∷◌}
-use mathlib.Core.Path.{◌≡◌, sym, ap, ◌∙◌}
-use Prim.Native.Nat.{ℕ, ◌<◌}
+use mathlib.Core.Path.{sym, ap, ◌∙◌}
+use Prim.Native.Nat.{◌<◌}
 use native.Mathlib.Omega.{arith}
-use types.Run.{OneOf, miss}
-use denote.Enum.Declared.{tag_of}
 use Rattle.bounds.specs.ReadyLaws.{activities_are}
 use Rattle.dates.specs.Columns.{early_in, late_in}
 use Rattle.dates.specs.StandingLaws.{never_refused}
@@ -14,9 +10,6 @@ use Rattle.passes.specs.Dates.{leaves}
 use Rattle.order.specs.Plan.{plan_of}
 use Rattle.topology.specs.Frame.{Frame}
 use Rattle.memory.specs.State.{State, state_of}
-use Rattle.placing.specs.declared.Actual.TheVariants.{Unstarted, Begun, Completed}
-use Rattle.placing.specs.declared.Actual.{Actual}
-use Rattle.placing.specs.contracts.Actual.{the_type}
 use Rattle.backward.specs.BackLaws.{stored_late, stored_frame, back_completed, back_unfinished}
 use Rattle.backward.specs.FinishLaws.{start_at, finish_at}
 use Rattle.backward.proofs.backward_one.Goals as goal

@@ -1,5 +1,4 @@
 -- `backward::end_of` meets its contract. Each way out has its law.
-use borrow.Author.Rules.{rules}
 use mathlib.Core.Path.{sym, ◌∙◌}
 use Rattle.late.specs.PlaceLaws.{fits_at, bounded_fits}
 use Rattle.backward.specs.FinishLaws.{end_on, end_absent}

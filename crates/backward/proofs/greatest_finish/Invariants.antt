@@ -1,14 +1,10 @@
 -- `backward::greatest_finish` meets its contract. The loop's invariant: `top` is the number of the first `i` activities.
-use mathlib.Core.Path.{◌≡◌, sym, ap, ◌∙◌}
-use Prim.Native.Nat.{ℕ, ◌-◌, ◌^◌, ◌≤◌}
-use native.Mathlib.Omega.{arith}
-use Rattle.bounds.specs.ReadyLaws.{activities_are}
+use mathlib.Core.Path.{◌≡◌}
+use Prim.Native.Nat.{◌^◌, ◌≤◌}
 use Rattle.dates.specs.Columns.{early_in}
-use Rattle.order.specs.Ids.{summary}
 use Rattle.order.specs.Plan.{plan_of}
 use Rattle.memory.specs.State.{state_of}
-use Rattle.backward.specs.FinishLaws.{finish_at, one_none, one_more, finish_none, finish_some}
-use Rattle.backward.specs.Finish.{Marked, onward, greatest_one}
+use Rattle.backward.specs.Finish.{Marked, greatest_one}
 use Rattle.backward.proofs.greatest_finish.Given as goal
 
 abbrev pub invariant-loop-i : goal.invariant-loop-i

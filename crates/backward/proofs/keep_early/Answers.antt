@@ -1,5 +1,4 @@
 -- `backward::keep_early` meets its contract.
-use borrow.Author.Rules.{rules}
 use mathlib.Core.Path.{◌∙◌}
 use Rattle.memory.specs.State.{state_of}
 use Rattle.backward.specs.Stored.{stored}

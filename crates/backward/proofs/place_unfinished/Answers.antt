@@ -1,5 +1,4 @@
 -- `backward::place_unfinished` meets its contract: the dates found are stored.
-use borrow.Author.Rules.{rules}
 use mathlib.Core.Path.{refl, sym, ap, ◌∙◌}
 use Prim.Native.Nat.{◌<◌}
 use native.Mathlib.Omega.{arith}

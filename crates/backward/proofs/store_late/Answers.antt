@@ -1,5 +1,4 @@
 -- `backward::store_late` meets its contract.
-use borrow.Author.Rules.{rules}
 use mathlib.Core.Path.{◌∙◌}
 use Rattle.memory.specs.Fields.{late_finish}
 use Rattle.memory.specs.State.{put_act}
