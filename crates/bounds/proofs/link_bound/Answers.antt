@@ -1,10 +1,8 @@
 -- `bounds::link_bound` meets its contract. The link is the plan's, and its predecessor's dates and recorded work are read from the memory.
-use borrow.Author.Rules.{rules}
 use native.Mathlib.Omega.{arith}
 use Rattle.bounds.specs.LinkLaws.{from_in, lead_fits, link_bound_is}
 use Rattle.bounds.specs.ReadyLaws.{kept_within}
 use Rattle.bounds.proofs.link_bound.Goals as goal
-use Rattle.bounds.proofs.link_bound.Tie as tie
 
 pub tie_at-tie-requires : goal.tie_at-tie-requires
 tie_at-tie-requires c = (c.requires.0.room, omega (arith, kept_within c.requires.0, c.requires.2))

@@ -1,5 +1,4 @@
 -- `bounds::source_of` meets its contract. Each way out has its law.
-use borrow.Author.Rules.{rules}
 use Rattle.bounds.proofs.source_of.Goals as goal
 
 pub returns-in-FinishToStart : goal.returns-in-FinishToStart

@@ -1,5 +1,4 @@
 -- `bounds::start_for` meets its contract. Each way out has its law.
-use borrow.Author.Rules.{rules}
 use mathlib.Core.Path.{sym, ◌∙◌}
 use Rattle.bounds.specs.BoundLaws.{start_after_finish, start_after_start, finish_after_finish, finish_after_start}
 use Rattle.bounds.proofs.start_for.Goals as goal
