@@ -1,7 +1,9 @@
 -- What a pass leaves of what stands: under its frame the plan is ready, recorded work is recorded, and the dates of other fields are the same.
 use Rattle.std.specs.Prelude.{◌≡◌, true, List, ℕ, ◌≤◌, ℤ, length, Ok}
 use Rattle.std.proofs.Common.{◌∙◌, arith}
-use Rattle.memory.specs.State.{State, state_of}
+use Rattle.memory.specs.State.{State}
+use Rattle.memory.specs.declared.Tables.{Tables}
+use Rattle.memory.specs.Seen.{state, SameSlice}
 use Rattle.memory.specs.Fields.{late_start, late_finish, early_start, early_finish, work_left, free_float, recorded_as, recorded_start, recorded_finish}
 use Rattle.topology.specs.Frame.{outside, Frame}
 use Rattle.sheet.specs.declared.Contents.{Contents}
@@ -13,12 +15,13 @@ use Rattle.dates.specs.ColumnLaws.{column_same}
 use Rattle.dates.specs.Standing.{actual_of, Ready, Recorded}
 use Rattle.dates.specs.StandingLaws.{standing_kept}
 
-pub ready_kept : {lo hi : ℕ} {s : List ℕ} {c : Contents} {calendars : List PlanCalendar} {t : ℕ} {xs ys : List ℤ} → Ready s c calendars t xs
-    → Frame lo hi 0 0 (state_of c.activities c.links xs) (state_of c.activities c.links ys) → length ys ≡ length xs → 10 ≤ lo
-    → Ready s c calendars t ys
+pub ready_kept : {lo hi : ℕ} {s : List ℕ} {c : Contents} {calendars : List PlanCalendar} {t : ℕ} {tables tables' : Tables} → Ready s c calendars t tables
+    → Frame lo hi 0 0 (state tables) (state tables') → SameSlice tables tables' → 10 ≤ lo
+    → Ready s c calendars t tables'
 ready_kept {lo} {hi} {s} {c} R F e l = record {
   read = R.read;
-  room = omega (arith, R.room, e);
+  activities = e.activities ∙ R.activities;
+  links = e.links ∙ R.links;
   located = R.located;
   fine = R.fine;
   standing = standing_kept F (plan_of s c) l R.standing;

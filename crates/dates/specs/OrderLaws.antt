@@ -5,7 +5,9 @@ use mathlib.Core.List.{List, [], ◌∷◌, reverse, reverse-cons}
 use Rattle.std.proofs.lemmas.List.{length-reverse, get_or_at}
 use Rattle.std.proofs.Math.ListN.{get_or-append}
 use Rattle.number.specs.Order.{lt_or_le}
-use Rattle.memory.specs.State.{State, state_of}
+use Rattle.memory.specs.State.{State}
+use Rattle.memory.specs.declared.Tables.{Tables}
+use Rattle.memory.specs.Seen.{state}
 use Rattle.memory.specs.Fields.{order_at}
 use Rattle.sheet.specs.declared.Contents.{Contents}
 use Rattle.order.specs.Plan.{Plan, plan_of}
@@ -46,7 +48,7 @@ module _ (p : Plan) (fine : (checked p).number ≡ 0) where
   back_below W q l = at_below W (p.activities - (q + 1)) (omega arith)
 
 -- ---- as it is lent
-module _ {s : List ℕ} {c : Contents} {calendars : List PlanCalendar} {t : ℕ} {xs : List ℤ} (R : Ready s c calendars t xs) where
+module _ {s : List ℕ} {c : Contents} {calendars : List PlanCalendar} {t : ℕ} {xs : Tables} (R : Ready s c calendars t xs) where
   pub order_length : length (order (plan_of s c)) ≡ c.activities
   unfolding plan_of
   order_length = (fine_ordered (plan_of s c) R.fine).all
@@ -56,18 +58,18 @@ module _ {s : List ℕ} {c : Contents} {calendars : List PlanCalendar} {t : ℕ}
   backward_length = back_length (plan_of s c) R.fine
 
   module _ (q : ℕ) (l : q < c.activities) where
-    pub order_at_lem : (state_of c.activities c.links xs).act order_at q ≡ get_or (order (plan_of s c)) q 0
+    pub order_at_lem : (state xs).act order_at q ≡ get_or (order (plan_of s c)) q 0
     unfolding plan_of
     order_at_lem = R.standing.ordered q l
 
-    pub order_below : (state_of c.activities c.links xs).act order_at q < c.activities
+    pub order_below : (state xs).act order_at q < c.activities
     unfolding plan_of
     order_below = at_below (plan_of s c) R.fine R.standing q l
 
-    pub backward_at : (state_of c.activities c.links xs).act order_at (c.activities - (q + 1)) ≡ get_or (reverse (order (plan_of s c))) q 0
+    pub backward_at : (state xs).act order_at (c.activities - (q + 1)) ≡ get_or (reverse (order (plan_of s c))) q 0
     unfolding plan_of
     backward_at = back_at (plan_of s c) R.fine R.standing q l
 
-    pub backward_below : (state_of c.activities c.links xs).act order_at (c.activities - (q + 1)) < c.activities
+    pub backward_below : (state xs).act order_at (c.activities - (q + 1)) < c.activities
     unfolding plan_of
     backward_below = back_below (plan_of s c) R.fine R.standing q l

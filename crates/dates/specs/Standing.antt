@@ -1,10 +1,12 @@
 -- What the checks leave in the lent memory for the passes: the kept links and their chains, the order, parents and summaries; and what is recorded of work.
-use Rattle.std.specs.Prelude.{◌≡◌, true, false, List, ℕ, ◌≤◌, ◌<◌, eqb, ℤ, length, get_or, Ok}
+use Rattle.std.specs.Prelude.{◌≡◌, true, false, List, ℕ, ◌≤◌, ◌<◌, eqb, length, get_or, Ok}
 use Rattle.number.specs.Bit.{bit}
 use Rattle.project.specs.Records.{relationship_type_of}
 use Rattle.placing.specs.declared.Actual.{Actual}
 use Rattle.placing.specs.declared.Actual.TheVariants.{Unstarted, Begun, Completed}
-use Rattle.memory.specs.State.{State, Room, state_of}
+use Rattle.memory.specs.State.{State}
+use Rattle.memory.specs.declared.Tables.{Tables}
+use Rattle.memory.specs.Seen.{state}
 use Rattle.memory.specs.Fields.{parent, is_summary, order_at, recorded_as, recorded_start, recorded_finish, from_field, to_field, kind_field, lag_field, lag_calendar_field}
 use Rattle.topology.specs.Order.{ChainsIn, ChainsOut}
 use Rattle.sheet.specs.declared.Contents.{Contents}
@@ -53,12 +55,13 @@ pub record Standing (p : Plan) (t : ℕ) (S : State) : Type 0 where
   pub ordered : (q : ℕ) → q < p.activities → S.act order_at q ≡ get_or (order p) q 0
 
 -- what the passes are lent: a sheet that was read and whose plan the checks accept, its calendars' places, and memory as the checks leave it
-pub record Ready (s : List ℕ) (c : Contents) (calendars : List PlanCalendar) (t : ℕ) (xs : List ℤ) : Type 0 where
+pub record Ready (s : List ℕ) (c : Contents) (calendars : List PlanCalendar) (t : ℕ) (tables : Tables) : Type 0 where
   pub read : SheetRead s c
-  pub room : Room c.activities c.links xs
+  pub activities : tables.activities ≡ c.activities
+  pub links : tables.links ≡ c.links
   pub located : Places s c calendars
   pub fine : (checked (plan_of s c)).number ≡ 0
-  pub standing : Standing (plan_of s c) t (state_of c.activities c.links xs)
+  pub standing : Standing (plan_of s c) t (state tables)
 
 -- fields 17 to 19 of activities
 abbrev pub Recorded : Plan → State → Type 0

@@ -5,7 +5,7 @@ ghost use Rattle.std.specs.Prelude.{◌≡◌, ◌+◌, ◌^◌, ◌<◌, Ok};
 ghost use Rattle.number.specs.Zed.{dn};
 ghost use Rattle.calendar.specs.Hours.{worked};
 ghost use Rattle.worktime.specs.Walks.{shift};
-ghost use Rattle.memory.specs.State.{Room, state_of};
+ghost use Rattle.memory.specs.Seen.{state};
 ghost use Rattle.sheet.specs.Known.{SheetRead};
 ghost use Rattle.order.specs.Plan.{Plan, plan_of};
 ghost use Rattle.passes.specs.Plan.{origin, floor, begun};
@@ -13,6 +13,7 @@ ghost use Rattle.calendars.specs.Calendars.{Places};
 ghost use Rattle.dates.specs.Standing.{as_tie, tie_in, actual_in};
 
 use calendars::PlanCalendar;
+use memory::Tables;
 use placing::Actual;
 use project::{Activity, RelationshipType};
 use sheet::Contents;
@@ -29,36 +30,33 @@ pub struct Tie {
 }
 
 // The link in row `t`.
-pub fn tie_at(work: &[i64], a: usize, l: usize, t: usize) -> Tie
-    requires { Room a l work.now × (t < l) }
-    ensures { as_tie result ≡ tie_in (state_of a l work.now) t }
+pub fn tie_at(tables: &Tables, t: usize) -> Tie
+    requires { t < tables.now.links }
+    ensures { as_tie result ≡ tie_in (state tables.now) t }
 {
     Tie {
-        from: memory::get_link(work, a, l, t, memory::fields::FROM) as usize,
-        to: memory::get_link(work, a, l, t, memory::fields::TO) as usize,
-        kind: RelationshipType::from(memory::get_link(work, a, l, t, memory::fields::KIND)),
-        lag: memory::get_link_signed(work, a, l, t, memory::fields::LAG),
-        calendar: memory::get_link(work, a, l, t, memory::fields::LAG_CALENDAR) as usize,
+        from: tables.link(t, memory::fields::FROM) as usize,
+        to: tables.link(t, memory::fields::TO) as usize,
+        kind: RelationshipType::from(tables.link(t, memory::fields::KIND)),
+        lag: tables.link_signed(t, memory::fields::LAG),
+        calendar: tables.link(t, memory::fields::LAG_CALENDAR) as usize,
     }
 }
 
 // What is recorded of activity `i`, from the memory.
-pub fn recorded_at(work: &[i64], a: usize, l: usize, i: usize) -> Actual
-    requires { Room a l work.now × (i < a) }
-    ensures { result ≡ actual_in (state_of a l work.now) i }
+pub fn recorded_at(tables: &Tables, i: usize) -> Actual
+    requires { i < tables.now.activities }
+    ensures { result ≡ actual_in (state tables.now) i }
 {
-    let how = memory::get_act(work, a, l, i, memory::fields::RECORDED_AS);
+    let how = tables.act(i, memory::fields::RECORDED_AS);
     if how == 0 {
         return Actual::Unstarted;
     }
-    let start = memory::get_act(work, a, l, i, memory::fields::RECORDED_START);
+    let start = tables.act(i, memory::fields::RECORDED_START);
     if how == 1 {
         return Actual::Begun(start);
     }
-    Actual::Completed(
-        start,
-        memory::get_act(work, a, l, i, memory::fields::RECORDED_FINISH),
-    )
+    Actual::Completed(start, tables.act(i, memory::fields::RECORDED_FINISH))
 }
 
 // The start from which links count: the recorded one once work has begun.
