@@ -2,7 +2,7 @@
 #![tactic(auto)]
 
 ghost use Rattle.std.specs.Prelude.{◌≡◌, reverse, ℕ, ◌^◌, ◌≤◌, ◌<◌, length, Ok};
-ghost use Rattle.memory.specs.State.{Room, state_of};
+ghost use Rattle.memory.specs.Seen.{state, SameSlice};
 ghost use Rattle.memory.specs.Fields.{early_start, early_finish};
 ghost use Rattle.topology.specs.Frame.{Frame};
 ghost use Rattle.sheet.specs.Known.{SheetRead};
@@ -19,19 +19,18 @@ ghost use Rattle.backward.specs.Finish.{Marked, onward};
 ghost use Rattle.backward.specs.Stored.{stored};
 
 use calendars::PlanCalendar;
+use memory::Tables;
 use placing::Actual;
 use sheet::Contents;
 use worktime::ClockError;
 
 // One more than the greatest early finish so far, on with activity `i`; a summary has none.
-fn finish_onward(sheet: &[u8], contents: Contents, work: &[i64], i: usize, top: u64) -> u64
-    requires { Room contents.activities contents.links work.now × (i < contents.activities) × Marked (plan_of sheet.now contents) (state_of contents.activities contents.links work.now) × (top ≤ 2 ^ 63) }
-    ensures { (result ≡ onward (summary (plan_of sheet.now contents) i) ((state_of contents.activities contents.links work.now).act early_finish i) top) × (result ≤ 2 ^ 63) }
+fn finish_onward(sheet: &[u8], contents: Contents, tables: &Tables, i: usize, top: u64) -> u64
+    requires { (tables.now.activities ≡ contents.activities) × (tables.now.links ≡ contents.links) × (i < contents.activities) × Marked (plan_of sheet.now contents) (state tables.now) × (top ≤ 2 ^ 63) }
+    ensures { (result ≡ onward (summary (plan_of sheet.now contents) i) ((state tables.now).act early_finish i) top) × (result ≤ 2 ^ 63) }
 {
-    let a = contents.activities;
-    let l = contents.links;
-    if memory::get_act(work, a, l, i, memory::fields::IS_SUMMARY) == 0 {
-        let next = memory::get_act(work, a, l, i, memory::fields::EARLY_FINISH) + 1;
+    if tables.act(i, memory::fields::IS_SUMMARY) == 0 {
+        let next = tables.act(i, memory::fields::EARLY_FINISH) + 1;
         top.max(next)
     } else {
         top
@@ -39,13 +38,13 @@ fn finish_onward(sheet: &[u8], contents: Contents, work: &[i64], i: usize, top: 
 }
 
 // The greatest early finish of the activities that are no summaries, and the project's start where there is none.
-pub fn greatest_finish(sheet: &[u8], contents: Contents, work: &[i64]) -> u64
-    requires { SheetRead sheet.now contents × Room contents.activities contents.links work.now × Marked (plan_of sheet.now contents) (state_of contents.activities contents.links work.now) }
-    ensures { (result ≡ finish (plan_of sheet.now contents) (early_in (plan_of sheet.now contents) (state_of contents.activities contents.links work.now))) × (result < 2 ^ 63) }
+pub fn greatest_finish(sheet: &[u8], contents: Contents, tables: &Tables) -> u64
+    requires { SheetRead sheet.now contents × (tables.now.activities ≡ contents.activities) × (tables.now.links ≡ contents.links) × Marked (plan_of sheet.now contents) (state tables.now) }
+    ensures { (result ≡ finish (plan_of sheet.now contents) (early_in (plan_of sheet.now contents) (state tables.now))) × (result < 2 ^ 63) }
 {
     let mut top: u64 = 0;
     for i in 0..contents.activities {
-        top = finish_onward(sheet, contents, work, i, top);
+        top = finish_onward(sheet, contents, tables, i, top);
     }
     if top > 0 {
         return top - 1;
@@ -68,22 +67,22 @@ pub fn end_of(sheet: &[u8], contents: Contents, greatest: u64) -> Result<u64, Cl
 }
 
 // Puts the late dates of activity `i` into the memory.
-fn store_late(work: &mut [i64], a: usize, l: usize, i: usize, start: u64, finish: u64)
-    requires { Room a l work.old × (i < a) × (start < 2 ^ 63) × (finish < 2 ^ 63) }
-    ensures { (state_of a l work.new ≡ stored (state_of a l work.old) i start finish) × (length work.new ≡ length work.old) }
+fn store_late(tables: &mut Tables, i: usize, start: u64, finish: u64)
+    requires { (i < tables.old.activities) × (start < 2 ^ 63) × (finish < 2 ^ 63) }
+    ensures { (state tables.new ≡ stored (state tables.old) i start finish) × SameSlice tables.old tables.new }
 {
-    memory::put_act(work, a, l, i, memory::fields::LATE_START, start);
-    memory::put_act(work, a, l, i, memory::fields::LATE_FINISH, finish);
+    tables.put_act(i, memory::fields::LATE_START, start);
+    tables.put_act(i, memory::fields::LATE_FINISH, finish);
 }
 
 // Completed work: its late dates are its early ones.
-fn keep_early(work: &mut [i64], a: usize, l: usize, i: usize)
-    requires { Room a l work.old × (i < a) }
-    ensures { (state_of a l work.new ≡ stored (state_of a l work.old) i ((state_of a l work.old).act early_start i) ((state_of a l work.old).act early_finish i)) × (length work.new ≡ length work.old) }
+fn keep_early(tables: &mut Tables, i: usize)
+    requires { (i < tables.old.activities) }
+    ensures { (state tables.new ≡ stored (state tables.old) i ((state tables.old).act early_start i) ((state tables.old).act early_finish i)) × SameSlice tables.old tables.new }
 {
-    let start = memory::get_act(work, a, l, i, memory::fields::EARLY_START);
-    let finish = memory::get_act(work, a, l, i, memory::fields::EARLY_FINISH);
-    store_late(work, a, l, i, start, finish);
+    let start = tables.act(i, memory::fields::EARLY_START);
+    let finish = tables.act(i, memory::fields::EARLY_FINISH);
+    store_late(tables, i, start, finish);
 }
 
 // The late dates of activity `i`, of which `actual` is recorded and which is not completed.
@@ -92,23 +91,16 @@ fn place_unfinished(
     contents: Contents,
     calendars: &[PlanCalendar],
     t: usize,
-    work: &mut [i64],
+    tables: &mut Tables,
     last: u64,
     i: usize,
     actual: Actual,
 ) -> Result<(), ClockError>
-    requires { Ready sheet.now contents calendars.now t work.old × (i < contents.activities) × (Ok actual ≡ recorded (plan_of sheet.now contents) i) }
-    ensures { (ended (late_in (plan_of sheet.now contents) (state_of contents.activities contents.links work.new) last) result ≡ unfinished_late (plan_of sheet.now contents) (early_in (plan_of sheet.now contents) (state_of contents.activities contents.links work.old)) (late_in (plan_of sheet.now contents) (state_of contents.activities contents.links work.old) last) i last) × Frame 10 12 0 0 (state_of contents.activities contents.links work.old) (state_of contents.activities contents.links work.new) × (length work.new ≡ length work.old) }
+    requires { Ready sheet.now contents calendars.now t tables.old × (i < contents.activities) × (Ok actual ≡ recorded (plan_of sheet.now contents) i) }
+    ensures { (ended (late_in (plan_of sheet.now contents) (state tables.new) last) result ≡ unfinished_late (plan_of sheet.now contents) (early_in (plan_of sheet.now contents) (state tables.old)) (late_in (plan_of sheet.now contents) (state tables.old) last) i last) × Frame 10 12 0 0 (state tables.old) (state tables.new) × SameSlice tables.old tables.new }
 {
-    let dates = late::late_of(sheet, contents, calendars, t, work, i, actual, last)?;
-    store_late(
-        work,
-        contents.activities,
-        contents.links,
-        i,
-        dates.start,
-        dates.finish,
-    );
+    let dates = late::late_of(sheet, contents, calendars, t, tables, i, actual, last)?;
+    store_late(tables, i, dates.start, dates.finish);
     Ok(())
 }
 
@@ -118,20 +110,18 @@ fn backward_one(
     contents: Contents,
     calendars: &[PlanCalendar],
     t: usize,
-    work: &mut [i64],
+    tables: &mut Tables,
     last: u64,
     i: usize,
 ) -> Result<(), ClockError>
-    requires { Ready sheet.now contents calendars.now t work.old × Recorded (plan_of sheet.now contents) (state_of contents.activities contents.links work.old) × (i < contents.activities) }
-    ensures { (ended (late_in (plan_of sheet.now contents) (state_of contents.activities contents.links work.new) last) result ≡ backward (plan_of sheet.now contents) (early_in (plan_of sheet.now contents) (state_of contents.activities contents.links work.old)) last (late_in (plan_of sheet.now contents) (state_of contents.activities contents.links work.old) last) i) × Frame 10 12 0 0 (state_of contents.activities contents.links work.old) (state_of contents.activities contents.links work.new) × (length work.new ≡ length work.old) }
+    requires { Ready sheet.now contents calendars.now t tables.old × Recorded (plan_of sheet.now contents) (state tables.old) × (i < contents.activities) }
+    ensures { (ended (late_in (plan_of sheet.now contents) (state tables.new) last) result ≡ backward (plan_of sheet.now contents) (early_in (plan_of sheet.now contents) (state tables.old)) last (late_in (plan_of sheet.now contents) (state tables.old) last) i) × Frame 10 12 0 0 (state tables.old) (state tables.new) × SameSlice tables.old tables.new }
 {
-    let a = contents.activities;
-    let l = contents.links;
-    let actual = dates::recorded_at(work, a, l, i);
+    let actual = dates::recorded_at(tables, i);
     let Actual::Completed(_, _) = actual else {
-        return place_unfinished(sheet, contents, calendars, t, work, last, i, actual);
+        return place_unfinished(sheet, contents, calendars, t, tables, last, i, actual);
     };
-    keep_early(work, a, l, i);
+    keep_early(tables, i);
     Ok(())
 }
 
@@ -141,17 +131,15 @@ fn backward_all(
     contents: Contents,
     calendars: &[PlanCalendar],
     t: usize,
-    work: &mut [i64],
+    tables: &mut Tables,
     last: u64,
 ) -> Result<(), ClockError>
-    requires { Ready sheet.now contents calendars.now t work.old × Recorded (plan_of sheet.now contents) (state_of contents.activities contents.links work.old) }
-    ensures { (ended (late_in (plan_of sheet.now contents) (state_of contents.activities contents.links work.new) last) result ≡ through (backward (plan_of sheet.now contents) (early_in (plan_of sheet.now contents) (state_of contents.activities contents.links work.old)) last) (reverse (order (plan_of sheet.now contents))) (late_in (plan_of sheet.now contents) (state_of contents.activities contents.links work.old) last)) × Frame 10 12 0 0 (state_of contents.activities contents.links work.old) (state_of contents.activities contents.links work.new) × (length work.new ≡ length work.old) }
+    requires { Ready sheet.now contents calendars.now t tables.old × Recorded (plan_of sheet.now contents) (state tables.old) }
+    ensures { (ended (late_in (plan_of sheet.now contents) (state tables.new) last) result ≡ through (backward (plan_of sheet.now contents) (early_in (plan_of sheet.now contents) (state tables.old)) last) (reverse (order (plan_of sheet.now contents))) (late_in (plan_of sheet.now contents) (state tables.old) last)) × Frame 10 12 0 0 (state tables.old) (state tables.new) × SameSlice tables.old tables.new }
 {
-    let a = contents.activities;
-    let l = contents.links;
     for q in (0..a).rev() {
-        let i = memory::get_act(work, a, l, q, memory::fields::ORDER_AT) as usize;
-        backward_one(sheet, contents, calendars, t, work, last, i)?;
+        let i = tables.act(q, memory::fields::ORDER_AT) as usize;
+        backward_one(sheet, contents, calendars, t, tables, last, i)?;
     }
     Ok(())
 }
@@ -162,15 +150,13 @@ pub fn backward_pass(
     contents: Contents,
     calendars: &[PlanCalendar],
     t: usize,
-    work: &mut [i64],
+    tables: &mut Tables,
     last: u64,
 ) -> Result<(), ClockError>
-    requires { Ready sheet.now contents calendars.now t work.old × Recorded (plan_of sheet.now contents) (state_of contents.activities contents.links work.old) × (last < 2 ^ 63) }
-    ensures { (ended (late_in (plan_of sheet.now contents) (state_of contents.activities contents.links work.new) last) result ≡ through (backward (plan_of sheet.now contents) (early_in (plan_of sheet.now contents) (state_of contents.activities contents.links work.old)) last) (reverse (order (plan_of sheet.now contents))) (record { ls = λ i. last; lf = λ i. last })) × Frame 10 12 0 0 (state_of contents.activities contents.links work.old) (state_of contents.activities contents.links work.new) × (length work.new ≡ length work.old) }
+    requires { Ready sheet.now contents calendars.now t tables.old × Recorded (plan_of sheet.now contents) (state tables.old) × (last < 2 ^ 63) }
+    ensures { (ended (late_in (plan_of sheet.now contents) (state tables.new) last) result ≡ through (backward (plan_of sheet.now contents) (early_in (plan_of sheet.now contents) (state tables.old)) last) (reverse (order (plan_of sheet.now contents))) (record { ls = λ i. last; lf = λ i. last })) × Frame 10 12 0 0 (state tables.old) (state tables.new) × SameSlice tables.old tables.new }
 {
-    let a = contents.activities;
-    let l = contents.links;
-    memory::fill_act(work, a, l, memory::fields::LATE_START, last);
-    memory::fill_act(work, a, l, memory::fields::LATE_FINISH, last);
-    backward_all(sheet, contents, calendars, t, work, last)
+    tables.fill_act(memory::fields::LATE_START, last);
+    tables.fill_act(memory::fields::LATE_FINISH, last);
+    backward_all(sheet, contents, calendars, t, tables, last)
 }

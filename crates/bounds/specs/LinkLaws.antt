@@ -4,7 +4,9 @@ use Rattle.worktime.specs.declared.ClockError.{ClockError}
 use Rattle.std.proofs.Common.{sym, ap, ap₂, ◌∙◌, arith}
 use Rattle.number.specs.Zed.{up, dn}
 use Rattle.placing.specs.declared.Actual.{Actual}
-use Rattle.memory.specs.State.{State, state_of}
+use Rattle.memory.specs.State.{State}
+use Rattle.memory.specs.declared.Tables.{Tables}
+use Rattle.memory.specs.Seen.{state}
 use Rattle.memory.specs.Fields.{early_start, early_finish}
 use Rattle.sheet.specs.declared.Contents.{Contents}
 use Rattle.order.specs.Plan.{Plan, plan_of}
@@ -19,8 +21,8 @@ use Rattle.dates.specs.ColumnLaws.{column_at}
 use Rattle.dates.specs.Standing.{as_tie, tie_in, actual_in, Ready, Recorded}
 use Rattle.bounds.specs.ReadyLaws.{activities_are, tie_from_below, tie_to_below, tie_lag_fits}
 
-module _ {s : List ℕ} {c : Contents} {calendars : List PlanCalendar} {t : ℕ} {xs : List ℤ} (R : Ready s c calendars t xs) (k : ℕ) (l : k < t) (τ : Tie)
-    (e : as_tie τ ≡ tie_in (state_of c.activities c.links xs) k) where
+module _ {s : List ℕ} {c : Contents} {calendars : List PlanCalendar} {t : ℕ} {tables : Tables} (R : Ready s c calendars t tables) (k : ℕ) (l : k < t) (τ : Tie)
+    (e : as_tie τ ≡ tie_in (state tables) k) where
   -- the link in hand is the k-th kept one
   pub tie_is : as_tie τ ≡ tie (plan_of s c) k
   tie_is = e ∙ R.standing.tied k l
@@ -43,12 +45,12 @@ module _ {s : List ℕ} {c : Contents} {calendars : List PlanCalendar} {t : ℕ}
   pub lead_fits : dn τ.lag < 2 ^ 63
   lead_fits = omega (arith, lag_in)
 
-  module _ (N : Recorded (plan_of s c) (state_of c.activities c.links xs)) where
+  module _ (N : Recorded (plan_of s c) (state tables)) where
     abbrev p : Plan
     p = plan_of s c
 
     abbrev S : State
-    S = state_of c.activities c.links xs
+    S = state tables
 
     within : τ.from < (plan_of s c).activities
     within = omega (arith, from_in, activities_are s c)

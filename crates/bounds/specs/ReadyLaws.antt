@@ -1,4 +1,5 @@
 -- What the checks say of the kept links that the passes are lent: their ends are activities, and their lags fit.
+use Rattle.memory.specs.declared.Tables.{Tables}
 use Rattle.std.specs.Prelude.{◌≡◌, refl, List, ℕ, ◌+◌, ◌≤◌, ◌<◌, ℤ, length}
 use Rattle.std.proofs.Common.{arith}
 use Rattle.number.specs.Zed.{up, dn}
@@ -18,7 +19,7 @@ pub links_are : (s : List ℕ) (c : Contents) → (plan_of s c).links ≡ c.link
 unfolding plan_of
 links_are s c = refl
 
-module _ {s : List ℕ} {c : Contents} {calendars : List PlanCalendar} {t : ℕ} {xs : List ℤ} (R : Ready s c calendars t xs) where
+module _ {s : List ℕ} {c : Contents} {calendars : List PlanCalendar} {t : ℕ} {tables : Tables} (R : Ready s c calendars t tables) where
   -- the number of link records that the kept ones are among
   pub kept_within : t ≤ c.links
   kept_within = omega (arith, R.standing.within, links_are s c)

@@ -4,7 +4,7 @@
 ghost use Rattle.std.specs.Prelude.{◌≡◌, ℕ, ◌^◌, ◌<◌};
 ghost use Rattle.number.specs.Zed.{dn};
 ghost use Rattle.clock.specs.On.{worked_by};
-ghost use Rattle.memory.specs.State.{state_of};
+ghost use Rattle.memory.specs.Seen.{state};
 ghost use Rattle.sheet.specs.Known.{SheetRead};
 ghost use Rattle.order.specs.Plan.{Plan, plan_of};
 ghost use Rattle.passes.specs.Plan.{own};
@@ -16,6 +16,7 @@ ghost use Rattle.dates.specs.Standing.{as_tie, Ready, Recorded};
 use calendar::Calendar;
 use calendars::PlanCalendar;
 use dates::Tie;
+use memory::Tables;
 use project::{Activity, RelationshipType};
 use sheet::Contents;
 use worktime::ClockError;
@@ -79,19 +80,17 @@ pub fn link_bound(
     contents: Contents,
     calendars: &[PlanCalendar],
     t: usize,
-    work: &[i64],
+    tables: &Tables,
     k: usize,
 ) -> Result<u64, ClockError>
-    requires { Ready sheet.now contents calendars.now t work.now × Recorded (plan_of sheet.now contents) (state_of contents.activities contents.links work.now) × (k < t) }
-    ensures { result ≡ link_bound (plan_of sheet.now contents) (early_in (plan_of sheet.now contents) (state_of contents.activities contents.links work.now)) k }
+    requires { Ready sheet.now contents calendars.now t tables.now × Recorded (plan_of sheet.now contents) (state tables.now) × (k < t) }
+    ensures { result ≡ link_bound (plan_of sheet.now contents) (early_in (plan_of sheet.now contents) (state tables.now)) k }
 {
-    let a = contents.activities;
-    let l = contents.links;
-    let tie = dates::tie_at(work, a, l, k);
+    let tie = dates::tie_at(tables, k);
     let from = tie.from;
-    let recorded = dates::recorded_at(work, a, l, from);
-    let early = memory::get_act(work, a, l, from, memory::fields::EARLY_START);
+    let recorded = dates::recorded_at(tables, from);
+    let early = tables.act(from, memory::fields::EARLY_START);
     let es = dates::begun_at(recorded, early);
-    let ef = memory::get_act(work, a, l, from, memory::fields::EARLY_FINISH);
+    let ef = tables.act(from, memory::fields::EARLY_FINISH);
     forward_bound(sheet, contents, calendars, tie, es, ef)
 }

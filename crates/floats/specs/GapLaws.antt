@@ -11,7 +11,9 @@ use Rattle.placing.specs.declared.Actual.{Actual}
 use Rattle.placing.proofs.PlacingLaws.{via_at, via_refused}
 use Rattle.cells.specs.Chain.{after, gather}
 use Rattle.cells.specs.ChainLaws.{Cursor, cursor_start, cursor_turn, cursor_stop, cursor_end}
-use Rattle.memory.specs.State.{State, state_of}
+use Rattle.memory.specs.State.{State}
+use Rattle.memory.specs.declared.Tables.{Tables}
+use Rattle.memory.specs.Seen.{state}
 use Rattle.memory.specs.Fields.{first_out, early_start, early_finish, from_field, next_out}
 use Rattle.sheet.specs.declared.Contents.{Contents}
 use Rattle.order.specs.Plan.{Plan, plan_of}
@@ -39,12 +41,12 @@ target_read p S StartToStart j = refl
 target_read p S FinishToFinish j = refl
 target_read p S StartToFinish j = refl
 
-module _ {s : List ℕ} {c : Contents} {calendars : List PlanCalendar} {t : ℕ} {xs : List ℤ} (R : Ready s c calendars t xs) where
+module _ {s : List ℕ} {c : Contents} {calendars : List PlanCalendar} {t : ℕ} {tables : Tables} (R : Ready s c calendars t tables) where
   abbrev p : Plan
   p = plan_of s c
 
   abbrev S : State
-  S = state_of c.activities c.links xs
+  S = state tables
 
   abbrev d : Early
   d = early_in p S

@@ -4,7 +4,7 @@
 ghost use Rattle.std.specs.Prelude.{◌≡◌, ◌&&◌, reverse, ℕ, ◌^◌, ◌<◌, ltb, length, Ok};
 ghost use Rattle.number.specs.Bit.{bit};
 ghost use Rattle.clock.specs.On.{worked_by};
-ghost use Rattle.memory.specs.State.{Room, state_of};
+ghost use Rattle.memory.specs.Seen.{state, SameSlice};
 ghost use Rattle.memory.specs.Fields.{is_summary, late_finish, early_start, early_finish};
 ghost use Rattle.topology.specs.Frame.{Frame};
 ghost use Rattle.order.specs.Plan.{Plan, plan_of};
@@ -21,6 +21,7 @@ ghost use Rattle.floats.specs.Slack.{freed_in, Own, marked_late, start_moved, da
 
 use calendar::Calendar;
 use calendars::PlanCalendar;
+use memory::Tables;
 use placing::Actual;
 use project::{Activity, Constraint, RelationshipType};
 use sheet::Contents;
@@ -121,22 +122,20 @@ fn gap_at(
     contents: Contents,
     calendars: &[PlanCalendar],
     t: usize,
-    work: &[i64],
+    tables: &Tables,
     k: usize,
     start: u64,
     finish: u64,
     calendar: &Calendar,
 ) -> Result<i64, ClockError>
-    requires { Ready sheet.now contents calendars.now t work.now × (k < t) }
-    ensures { result ≡ gap_by (plan_of sheet.now contents) (worked_by calendar.now) (tie (plan_of sheet.now contents) k) start finish ((early_in (plan_of sheet.now contents) (state_of contents.activities contents.links work.now)).es (tie (plan_of sheet.now contents) k).to) ((early_in (plan_of sheet.now contents) (state_of contents.activities contents.links work.now)).ef (tie (plan_of sheet.now contents) k).to) }
+    requires { Ready sheet.now contents calendars.now t tables.now × (k < t) }
+    ensures { result ≡ gap_by (plan_of sheet.now contents) (worked_by calendar.now) (tie (plan_of sheet.now contents) k) start finish ((early_in (plan_of sheet.now contents) (state tables.now)).es (tie (plan_of sheet.now contents) k).to) ((early_in (plan_of sheet.now contents) (state tables.now)).ef (tie (plan_of sheet.now contents) k).to) }
 {
-    let a = contents.activities;
-    let l = contents.links;
-    let tie = dates::tie_at(work, a, l, k);
+    let tie = dates::tie_at(tables, k);
     let b = bounds::forward_bound(sheet, contents, calendars, tie, start, finish)?;
     let kind = tie.kind;
     let field = target_field(kind);
-    let target = memory::get_act(work, a, l, tie.to, field);
+    let target = tables.act(tie.to, field);
     clock::between(calendar, b, target)
 }
 
@@ -146,27 +145,25 @@ fn least_slack(
     contents: Contents,
     calendars: &[PlanCalendar],
     t: usize,
-    work: &[i64],
+    tables: &Tables,
     i: usize,
     start: u64,
     finish: u64,
     calendar: &Calendar,
     slack: i64,
 ) -> Result<i64, ClockError>
-    requires { Ready sheet.now contents calendars.now t work.now × (i < contents.activities) × InPlan sheet.now contents (calendar_of (plan_of sheet.now contents) i) calendar.now × From (plan_of sheet.now contents) (early_in (plan_of sheet.now contents) (state_of contents.activities contents.links work.now)) i start finish }
-    ensures { result ≡ least_slack (plan_of sheet.now contents) (early_in (plan_of sheet.now contents) (state_of contents.activities contents.links work.now)) i (ties_out (plan_of sheet.now contents) i) slack }
+    requires { Ready sheet.now contents calendars.now t tables.now × (i < contents.activities) × InPlan sheet.now contents (calendar_of (plan_of sheet.now contents) i) calendar.now × From (plan_of sheet.now contents) (early_in (plan_of sheet.now contents) (state tables.now)) i start finish }
+    ensures { result ≡ least_slack (plan_of sheet.now contents) (early_in (plan_of sheet.now contents) (state tables.now)) i (ties_out (plan_of sheet.now contents) i) slack }
 {
-    let a = contents.activities;
-    let l = contents.links;
     let mut least = slack;
-    let mut k = memory::get_act(work, a, l, i, memory::fields::FIRST_OUT) as usize;
+    let mut k = tables.act(i, memory::fields::FIRST_OUT) as usize;
     // A `while`: the next link is read from the memory, so no range has the links.
     while k < t {
         let gap = gap_at(
-            sheet, contents, calendars, t, work, k, start, finish, calendar,
+            sheet, contents, calendars, t, tables, k, start, finish, calendar,
         )?;
         least = number::sign::min(least, gap);
-        k = memory::get_link(work, a, l, k, memory::fields::NEXT_OUT) as usize;
+        k = tables.link(k, memory::fields::NEXT_OUT) as usize;
     }
     Ok(least)
 }
@@ -177,23 +174,21 @@ fn slack_of(
     contents: Contents,
     calendars: &[PlanCalendar],
     t: usize,
-    work: &[i64],
+    tables: &Tables,
     finish: u64,
     i: usize,
     calendar: &Calendar,
 ) -> Result<i64, ClockError>
-    requires { Ready sheet.now contents calendars.now t work.now × Recorded (plan_of sheet.now contents) (state_of contents.activities contents.links work.now) × (i < contents.activities) × InPlan sheet.now contents (calendar_of (plan_of sheet.now contents) i) calendar.now }
-    ensures { result ≡ slack_of (plan_of sheet.now contents) (early_in (plan_of sheet.now contents) (state_of contents.activities contents.links work.now)) finish i }
+    requires { Ready sheet.now contents calendars.now t tables.now × Recorded (plan_of sheet.now contents) (state tables.now) × (i < contents.activities) × InPlan sheet.now contents (calendar_of (plan_of sheet.now contents) i) calendar.now }
+    ensures { result ≡ slack_of (plan_of sheet.now contents) (early_in (plan_of sheet.now contents) (state tables.now)) finish i }
 {
-    let a = contents.activities;
-    let l = contents.links;
-    let recorded = dates::recorded_at(work, a, l, i);
-    let es = memory::get_act(work, a, l, i, memory::fields::EARLY_START);
+    let recorded = dates::recorded_at(tables, i);
+    let es = tables.act(i, memory::fields::EARLY_START);
     let start = dates::begun_at(recorded, es);
-    let ef = memory::get_act(work, a, l, i, memory::fields::EARLY_FINISH);
+    let ef = tables.act(i, memory::fields::EARLY_FINISH);
     let slack = clock::between(calendar, ef, finish)?;
     least_slack(
-        sheet, contents, calendars, t, work, i, start, ef, calendar, slack,
+        sheet, contents, calendars, t, tables, i, start, ef, calendar, slack,
     )
 }
 
@@ -203,21 +198,19 @@ fn free_of(
     contents: Contents,
     calendars: &[PlanCalendar],
     t: usize,
-    work: &[i64],
+    tables: &Tables,
     finish: u64,
     i: usize,
     calendar: &Calendar,
 ) -> Result<u64, ClockError>
-    requires { Ready sheet.now contents calendars.now t work.now × Recorded (plan_of sheet.now contents) (state_of contents.activities contents.links work.now) × (i < contents.activities) × InPlan sheet.now contents (calendar_of (plan_of sheet.now contents) i) calendar.now }
-    ensures { (result ≡ free_of (plan_of sheet.now contents) (early_in (plan_of sheet.now contents) (state_of contents.activities contents.links work.now)) finish ((state_of contents.activities contents.links work.now).act late_finish i) i) × ((m : ℕ) → result ≡ Ok m → m < 2 ^ 63) }
+    requires { Ready sheet.now contents calendars.now t tables.now × Recorded (plan_of sheet.now contents) (state tables.now) × (i < contents.activities) × InPlan sheet.now contents (calendar_of (plan_of sheet.now contents) i) calendar.now }
+    ensures { (result ≡ free_of (plan_of sheet.now contents) (early_in (plan_of sheet.now contents) (state tables.now)) finish ((state tables.now).act late_finish i) i) × ((m : ℕ) → result ≡ Ok m → m < 2 ^ 63) }
 {
-    let a = contents.activities;
-    let l = contents.links;
-    let slack = slack_of(sheet, contents, calendars, t, work, finish, i, calendar)?;
-    let ef = memory::get_act(work, a, l, i, memory::fields::EARLY_FINISH);
-    let lf = memory::get_act(work, a, l, i, memory::fields::LATE_FINISH);
+    let slack = slack_of(sheet, contents, calendars, t, tables, finish, i, calendar)?;
+    let ef = tables.act(i, memory::fields::EARLY_FINISH);
+    let lf = tables.act(i, memory::fields::LATE_FINISH);
     let total = clock::between(calendar, ef, lf)?;
-    let recorded = dates::recorded_at(work, a, l, i);
+    let recorded = dates::recorded_at(tables, i);
     Ok(free_by(recorded, slack, total))
 }
 
@@ -225,58 +218,54 @@ fn free_of(
 fn is_moved(
     sheet: &[u8],
     contents: Contents,
-    work: &[i64],
+    tables: &Tables,
     i: usize,
     activity: Activity,
     free: u64,
 ) -> bool
-    requires { Room contents.activities contents.links work.now × (i < contents.activities) × (activity ≡ (plan_of sheet.now contents).activity i) × ((state_of contents.activities contents.links work.now).act is_summary i ≡ bit (summary (plan_of sheet.now contents) i)) × (Ok (actual_in (state_of contents.activities contents.links work.now) i) ≡ recorded (plan_of sheet.now contents) i) }
-    ensures { result ≡ (holds_late (plan_of sheet.now contents) (early_in (plan_of sheet.now contents) (state_of contents.activities contents.links work.now)) i && ltb 0 free) }
+    requires { (tables.now.activities ≡ contents.activities) × (tables.now.links ≡ contents.links) × (i < contents.activities) × (activity ≡ (plan_of sheet.now contents).activity i) × ((state tables.now).act is_summary i ≡ bit (summary (plan_of sheet.now contents) i)) × (Ok (actual_in (state tables.now) i) ≡ recorded (plan_of sheet.now contents) i) }
+    ensures { result ≡ (holds_late (plan_of sheet.now contents) (early_in (plan_of sheet.now contents) (state tables.now)) i && ltb 0 free) }
 {
-    let a = contents.activities;
-    let l = contents.links;
     if free == 0 {
         return false;
     }
-    if memory::get_act(work, a, l, i, memory::fields::IS_SUMMARY) > 0 {
+    if tables.act(i, memory::fields::IS_SUMMARY) > 0 {
         return false;
     }
-    let recorded = dates::recorded_at(work, a, l, i);
+    let recorded = dates::recorded_at(tables, i);
     let first = activity.constraint;
     let second = activity.secondary_constraint;
     is_marked_late(recorded, first, second)
 }
 
 // Stores the dates of a held late move, whose free float is used up.
-fn store_move(work: &mut [i64], a: usize, l: usize, i: usize, start: u64, finish: u64)
-    requires { Room a l work.old × (i < a) × (start < 2 ^ 63) × (finish < 2 ^ 63) }
-    ensures { (state_of a l work.new ≡ stored (state_of a l work.old) i start finish) × (length work.new ≡ length work.old) }
+fn store_move(tables: &mut Tables, i: usize, start: u64, finish: u64)
+    requires { (i < tables.old.activities) × (start < 2 ^ 63) × (finish < 2 ^ 63) }
+    ensures { (state tables.new ≡ stored (state tables.old) i start finish) × SameSlice tables.old tables.new }
 {
-    memory::put_act(work, a, l, i, memory::fields::EARLY_START, start);
-    memory::put_act(work, a, l, i, memory::fields::EARLY_FINISH, finish);
-    memory::put_act(work, a, l, i, memory::fields::FREE_FLOAT, 0);
+    tables.put_act(i, memory::fields::EARLY_START, start);
+    tables.put_act(i, memory::fields::EARLY_FINISH, finish);
+    tables.put_act(i, memory::fields::FREE_FLOAT, 0);
 }
 
 // Moves activity `i`, which is held late, by its free float; its predecessors see the new dates.
 fn hold_late(
     sheet: &[u8],
     contents: Contents,
-    work: &mut [i64],
+    tables: &mut Tables,
     i: usize,
     activity: Activity,
     calendar: &Calendar,
     free: u64,
 ) -> Result<(), ClockError>
-    requires { Room contents.activities contents.links work.old × (i < contents.activities) × Own sheet.now contents i activity calendar.now }
-    ensures { (ended (freed_in (plan_of sheet.now contents) (state_of contents.activities contents.links work.new)) result ≡ held_move (plan_of sheet.now contents) (early_in (plan_of sheet.now contents) (state_of contents.activities contents.links work.old)) i free (free_in (plan_of sheet.now contents) (state_of contents.activities contents.links work.old))) × Frame 12 16 0 0 (state_of contents.activities contents.links work.old) (state_of contents.activities contents.links work.new) × (length work.new ≡ length work.old) }
+    requires { (tables.old.activities ≡ contents.activities) × (tables.old.links ≡ contents.links) × (i < contents.activities) × Own sheet.now contents i activity calendar.now }
+    ensures { (ended (freed_in (plan_of sheet.now contents) (state tables.new)) result ≡ held_move (plan_of sheet.now contents) (early_in (plan_of sheet.now contents) (state tables.old)) i free (free_in (plan_of sheet.now contents) (state tables.old))) × Frame 12 16 0 0 (state tables.old) (state tables.new) × SameSlice tables.old tables.new }
 {
-    let a = contents.activities;
-    let l = contents.links;
-    let es = memory::get_act(work, a, l, i, memory::fields::EARLY_START);
-    let ef = memory::get_act(work, a, l, i, memory::fields::EARLY_FINISH);
-    let left = memory::get_act(work, a, l, i, memory::fields::WORK_LEFT);
+    let es = tables.act(i, memory::fields::EARLY_START);
+    let ef = tables.act(i, memory::fields::EARLY_FINISH);
+    let left = tables.act(i, memory::fields::WORK_LEFT);
     let moved = held_move(activity, calendar, es, ef, left, free)?;
-    store_move(work, a, l, i, moved.start, moved.finish);
+    store_move(tables, i, moved.start, moved.finish);
     Ok(())
 }
 
@@ -284,26 +273,19 @@ fn hold_late(
 fn use_float(
     sheet: &[u8],
     contents: Contents,
-    work: &mut [i64],
+    tables: &mut Tables,
     i: usize,
     activity: Activity,
     calendar: &Calendar,
     free: u64,
 ) -> Result<(), ClockError>
-    requires { Room contents.activities contents.links work.old × (i < contents.activities) × Own sheet.now contents i activity calendar.now × ((state_of contents.activities contents.links work.old).act is_summary i ≡ bit (summary (plan_of sheet.now contents) i)) × (Ok (actual_in (state_of contents.activities contents.links work.old) i) ≡ recorded (plan_of sheet.now contents) i) × (free < 2 ^ 63) }
-    ensures { (ended (freed_in (plan_of sheet.now contents) (state_of contents.activities contents.links work.new)) result ≡ freed (plan_of sheet.now contents) (early_in (plan_of sheet.now contents) (state_of contents.activities contents.links work.old)) i free (free_in (plan_of sheet.now contents) (state_of contents.activities contents.links work.old))) × Frame 12 16 0 0 (state_of contents.activities contents.links work.old) (state_of contents.activities contents.links work.new) × (length work.new ≡ length work.old) }
+    requires { (tables.old.activities ≡ contents.activities) × (tables.old.links ≡ contents.links) × (i < contents.activities) × Own sheet.now contents i activity calendar.now × ((state tables.old).act is_summary i ≡ bit (summary (plan_of sheet.now contents) i)) × (Ok (actual_in (state tables.old) i) ≡ recorded (plan_of sheet.now contents) i) × (free < 2 ^ 63) }
+    ensures { (ended (freed_in (plan_of sheet.now contents) (state tables.new)) result ≡ freed (plan_of sheet.now contents) (early_in (plan_of sheet.now contents) (state tables.old)) i free (free_in (plan_of sheet.now contents) (state tables.old))) × Frame 12 16 0 0 (state tables.old) (state tables.new) × SameSlice tables.old tables.new }
 {
-    if is_moved(sheet, contents, work, i, activity, free) {
-        return hold_late(sheet, contents, work, i, activity, calendar, free);
+    if is_moved(sheet, contents, tables, i, activity, free) {
+        return hold_late(sheet, contents, tables, i, activity, calendar, free);
     }
-    memory::put_act(
-        work,
-        contents.activities,
-        contents.links,
-        i,
-        memory::fields::FREE_FLOAT,
-        free,
-    );
+    tables.put_act(i, memory::fields::FREE_FLOAT, free);
     Ok(())
 }
 
@@ -313,18 +295,18 @@ fn free_at(
     contents: Contents,
     calendars: &[PlanCalendar],
     t: usize,
-    work: &mut [i64],
+    tables: &mut Tables,
     finish: u64,
     i: usize,
 ) -> Result<(), ClockError>
-    requires { Ready sheet.now contents calendars.now t work.old × Recorded (plan_of sheet.now contents) (state_of contents.activities contents.links work.old) × (i < contents.activities) }
-    ensures { ((e : ℕ) → ended (freed_in (plan_of sheet.now contents) (state_of contents.activities contents.links work.new)) result ≡ free_float (plan_of sheet.now contents) finish (late_in (plan_of sheet.now contents) (state_of contents.activities contents.links work.old) e) (freed_in (plan_of sheet.now contents) (state_of contents.activities contents.links work.old)) i) × Frame 12 16 0 0 (state_of contents.activities contents.links work.old) (state_of contents.activities contents.links work.new) × (length work.new ≡ length work.old) }
+    requires { Ready sheet.now contents calendars.now t tables.old × Recorded (plan_of sheet.now contents) (state tables.old) × (i < contents.activities) }
+    ensures { ((e : ℕ) → ended (freed_in (plan_of sheet.now contents) (state tables.new)) result ≡ free_float (plan_of sheet.now contents) finish (late_in (plan_of sheet.now contents) (state tables.old) e) (freed_in (plan_of sheet.now contents) (state tables.old)) i) × Frame 12 16 0 0 (state tables.old) (state tables.new) × SameSlice tables.old tables.new }
 {
     let activity = dates::activity_of(sheet, contents, i);
     let k = activity.calendar as usize;
     let calendar = calendars::calendar_of(sheet, contents, calendars, k);
-    let free = free_of(sheet, contents, calendars, t, work, finish, i, &calendar)?;
-    use_float(sheet, contents, work, i, activity, &calendar, free)
+    let free = free_of(sheet, contents, calendars, t, tables, finish, i, &calendar)?;
+    use_float(sheet, contents, tables, i, activity, &calendar, free)
 }
 
 // The free float of each activity, successors first.
@@ -333,17 +315,15 @@ fn free_each(
     contents: Contents,
     calendars: &[PlanCalendar],
     t: usize,
-    work: &mut [i64],
+    tables: &mut Tables,
     finish: u64,
 ) -> Result<(), ClockError>
-    requires { Ready sheet.now contents calendars.now t work.old × Recorded (plan_of sheet.now contents) (state_of contents.activities contents.links work.old) }
-    ensures { ((e : ℕ) → ended (freed_in (plan_of sheet.now contents) (state_of contents.activities contents.links work.new)) result ≡ through (free_float (plan_of sheet.now contents) finish (late_in (plan_of sheet.now contents) (state_of contents.activities contents.links work.old) e)) (reverse (order (plan_of sheet.now contents))) (freed_in (plan_of sheet.now contents) (state_of contents.activities contents.links work.old))) × Frame 12 16 0 0 (state_of contents.activities contents.links work.old) (state_of contents.activities contents.links work.new) × (length work.new ≡ length work.old) }
+    requires { Ready sheet.now contents calendars.now t tables.old × Recorded (plan_of sheet.now contents) (state tables.old) }
+    ensures { ((e : ℕ) → ended (freed_in (plan_of sheet.now contents) (state tables.new)) result ≡ through (free_float (plan_of sheet.now contents) finish (late_in (plan_of sheet.now contents) (state tables.old) e)) (reverse (order (plan_of sheet.now contents))) (freed_in (plan_of sheet.now contents) (state tables.old))) × Frame 12 16 0 0 (state tables.old) (state tables.new) × SameSlice tables.old tables.new }
 {
-    let a = contents.activities;
-    let l = contents.links;
     for q in (0..a).rev() {
-        let i = memory::get_act(work, a, l, q, memory::fields::ORDER_AT) as usize;
-        free_at(sheet, contents, calendars, t, work, finish, i)?;
+        let i = tables.act(q, memory::fields::ORDER_AT) as usize;
+        free_at(sheet, contents, calendars, t, tables, finish, i)?;
     }
     Ok(())
 }
@@ -354,18 +334,12 @@ pub fn free_pass(
     contents: Contents,
     calendars: &[PlanCalendar],
     t: usize,
-    work: &mut [i64],
+    tables: &mut Tables,
     finish: u64,
 ) -> Result<(), ClockError>
-    requires { Ready sheet.now contents calendars.now t work.old × Recorded (plan_of sheet.now contents) (state_of contents.activities contents.links work.old) }
-    ensures { ((e : ℕ) → ended (freed_in (plan_of sheet.now contents) (state_of contents.activities contents.links work.new)) result ≡ through (free_float (plan_of sheet.now contents) finish (late_in (plan_of sheet.now contents) (state_of contents.activities contents.links work.old) e)) (reverse (order (plan_of sheet.now contents))) (record { early = early_in (plan_of sheet.now contents) (state_of contents.activities contents.links work.old); free = λ i. 0 })) × Frame 12 16 0 0 (state_of contents.activities contents.links work.old) (state_of contents.activities contents.links work.new) × (length work.new ≡ length work.old) }
+    requires { Ready sheet.now contents calendars.now t tables.old × Recorded (plan_of sheet.now contents) (state tables.old) }
+    ensures { ((e : ℕ) → ended (freed_in (plan_of sheet.now contents) (state tables.new)) result ≡ through (free_float (plan_of sheet.now contents) finish (late_in (plan_of sheet.now contents) (state tables.old) e)) (reverse (order (plan_of sheet.now contents))) (record { early = early_in (plan_of sheet.now contents) (state tables.old); free = λ i. 0 })) × Frame 12 16 0 0 (state tables.old) (state tables.new) × SameSlice tables.old tables.new }
 {
-    memory::fill_act(
-        work,
-        contents.activities,
-        contents.links,
-        memory::fields::FREE_FLOAT,
-        0,
-    );
-    free_each(sheet, contents, calendars, t, work, finish)
+    tables.fill_act(memory::fields::FREE_FLOAT, 0);
+    free_each(sheet, contents, calendars, t, tables, finish)
 }

@@ -9,7 +9,9 @@ use Rattle.project.specs.declared.Activity.{Activity}
 use Rattle.placing.specs.Placing.{via}
 use Rattle.cells.specs.Chain.{after}
 use Rattle.cells.specs.ChainLaws.{Cursor, cursor_start, cursor_turn, cursor_stop, cursor_end}
-use Rattle.memory.specs.State.{State, state_of}
+use Rattle.memory.specs.State.{State}
+use Rattle.memory.specs.declared.Tables.{Tables}
+use Rattle.memory.specs.Seen.{state}
 use Rattle.memory.specs.Fields.{to_field, first_in, next_into, work_left, is_summary}
 use Rattle.sheet.specs.declared.Contents.{Contents}
 use Rattle.order.specs.Plan.{Plan, plan_of, week_of_calendar, exception_place, exception_number}
@@ -29,12 +31,12 @@ use Rattle.bounds.specs.ReadyLaws.{activities_are}
 use Rattle.early.specs.InHand.{InHand}
 use Rattle.forward.specs.LinkedLaws.{raise_step, raised_gathers, raise_turn, raise_stop}
 
-module _ (s : List ℕ) (c : Contents) (t : ℕ) (xs : List ℤ) (i floor : ℕ) where
+module _ (s : List ℕ) (c : Contents) (t : ℕ) (tables : Tables) (i floor : ℕ) where
   abbrev pub plan : Plan
   plan = plan_of s c
 
   abbrev pub state : State
-  state = state_of c.activities c.links xs
+  state = state tables
 
   abbrev pub dates : Early
   dates = early_in plan state
@@ -43,7 +45,7 @@ module _ (s : List ℕ) (c : Contents) (t : ℕ) (xs : List ℤ) (i floor : ℕ)
   abbrev pub Raising : ℕ → ℕ → Type 0
   Raising start k = Cursor (raise_step plan dates i) Ok (state.link to_field) t i floor start k
 
-  module _ {calendars : List PlanCalendar} (R : Ready s c calendars t xs) where
+  module _ {calendars : List PlanCalendar} (R : Ready s c calendars t tables) where
     pub raising_start : i < c.activities → (k : ℕ) → k ≡ state.act first_in i → Raising floor k
     raising_start l k e =
         rw e

@@ -4,7 +4,8 @@
 ghost use Rattle.std.specs.Prelude.{◌≡◌, ℕ, ◌^◌, ◌<◌, max, length, Ok, Err};
 ghost use Rattle.clock.specs.On.{worked_by};
 ghost use Rattle.placing.specs.Placing.{via};
-ghost use Rattle.memory.specs.State.{Room, state_of, put_act};
+ghost use Rattle.memory.specs.State.{put_act};
+ghost use Rattle.memory.specs.Seen.{state, SameSlice};
 ghost use Rattle.memory.specs.Fields.{early_start, early_finish, work_left};
 ghost use Rattle.topology.specs.Frame.{Frame};
 ghost use Rattle.order.specs.Plan.{plan_of};
@@ -23,6 +24,7 @@ ghost use Rattle.forward.specs.Linked.{after_links, Settled};
 use calendar::Calendar;
 use calendars::PlanCalendar;
 use early::Placement;
+use memory::Tables;
 use placing::Actual;
 use project::Activity;
 use sheet::Contents;
@@ -34,17 +36,17 @@ fn link_start(
     contents: Contents,
     calendars: &[PlanCalendar],
     t: usize,
-    work: &[i64],
+    tables: &Tables,
     k: usize,
     activity: Activity,
     calendar: &Calendar,
     left: u64,
 ) -> Result<u64, ClockError>
-    requires { Ready sheet.now contents calendars.now t work.now × Recorded (plan_of sheet.now contents) (state_of contents.activities contents.links work.now) × (k < t) }
-    ensures { (i : ℕ) → InHand (plan_of sheet.now contents) (early_in (plan_of sheet.now contents) (state_of contents.activities contents.links work.now)) i activity (worked_by calendar.now) left → result ≡ link_start (plan_of sheet.now contents) (early_in (plan_of sheet.now contents) (state_of contents.activities contents.links work.now)) i k }
+    requires { Ready sheet.now contents calendars.now t tables.now × Recorded (plan_of sheet.now contents) (state tables.now) × (k < t) }
+    ensures { (i : ℕ) → InHand (plan_of sheet.now contents) (early_in (plan_of sheet.now contents) (state tables.now)) i activity (worked_by calendar.now) left → result ≡ link_start (plan_of sheet.now contents) (early_in (plan_of sheet.now contents) (state tables.now)) i k }
 {
-    let b = bounds::link_bound(sheet, contents, calendars, t, work, k)?;
-    let tie = dates::tie_at(work, contents.activities, contents.links, k);
+    let b = bounds::link_bound(sheet, contents, calendars, t, tables, k)?;
+    let tie = dates::tie_at(tables, k);
     let kind = tie.kind;
     bounds::start_for(activity, calendar, left, kind, b)
 }
@@ -55,18 +57,18 @@ fn raised_by(
     contents: Contents,
     calendars: &[PlanCalendar],
     t: usize,
-    work: &[i64],
+    tables: &Tables,
     k: usize,
     activity: Activity,
     calendar: &Calendar,
     left: u64,
     start: u64,
 ) -> Result<u64, ClockError>
-    requires { Ready sheet.now contents calendars.now t work.now × Recorded (plan_of sheet.now contents) (state_of contents.activities contents.links work.now) × (k < t) }
-    ensures { (i : ℕ) → InHand (plan_of sheet.now contents) (early_in (plan_of sheet.now contents) (state_of contents.activities contents.links work.now)) i activity (worked_by calendar.now) left → result ≡ via Err (link_start (plan_of sheet.now contents) (early_in (plan_of sheet.now contents) (state_of contents.activities contents.links work.now)) i k) (λ s. Ok (max start s)) }
+    requires { Ready sheet.now contents calendars.now t tables.now × Recorded (plan_of sheet.now contents) (state tables.now) × (k < t) }
+    ensures { (i : ℕ) → InHand (plan_of sheet.now contents) (early_in (plan_of sheet.now contents) (state tables.now)) i activity (worked_by calendar.now) left → result ≡ via Err (link_start (plan_of sheet.now contents) (early_in (plan_of sheet.now contents) (state tables.now)) i k) (λ s. Ok (max start s)) }
 {
     let s = link_start(
-        sheet, contents, calendars, t, work, k, activity, calendar, left,
+        sheet, contents, calendars, t, tables, k, activity, calendar, left,
     )?;
     Ok(start.max(s))
 }
@@ -77,27 +79,25 @@ fn raise(
     contents: Contents,
     calendars: &[PlanCalendar],
     t: usize,
-    work: &[i64],
+    tables: &Tables,
     i: usize,
     activity: Activity,
     calendar: &Calendar,
     left: u64,
     floor: u64,
 ) -> Result<u64, ClockError>
-    requires { Ready sheet.now contents calendars.now t work.now × Recorded (plan_of sheet.now contents) (state_of contents.activities contents.links work.now) × (i < contents.activities) × InHand (plan_of sheet.now contents) (early_in (plan_of sheet.now contents) (state_of contents.activities contents.links work.now)) i activity (worked_by calendar.now) left }
-    ensures { result ≡ raised (plan_of sheet.now contents) (early_in (plan_of sheet.now contents) (state_of contents.activities contents.links work.now)) i (ties_into (plan_of sheet.now contents) i) floor }
+    requires { Ready sheet.now contents calendars.now t tables.now × Recorded (plan_of sheet.now contents) (state tables.now) × (i < contents.activities) × InHand (plan_of sheet.now contents) (early_in (plan_of sheet.now contents) (state tables.now)) i activity (worked_by calendar.now) left }
+    ensures { result ≡ raised (plan_of sheet.now contents) (early_in (plan_of sheet.now contents) (state tables.now)) i (ties_into (plan_of sheet.now contents) i) floor }
 {
-    let a = contents.activities;
-    let l = contents.links;
     let mut start = floor;
-    let mut k = memory::get_act(work, a, l, i, memory::fields::FIRST_IN) as usize;
+    let mut k = tables.act(i, memory::fields::FIRST_IN) as usize;
     // A `while`: the next link is read from the memory, so no range has the links.
     while k < t {
         let s = raised_by(
-            sheet, contents, calendars, t, work, k, activity, calendar, left, start,
+            sheet, contents, calendars, t, tables, k, activity, calendar, left, start,
         )?;
         start = s;
-        k = memory::get_link(work, a, l, k, memory::fields::NEXT_INTO) as usize;
+        k = tables.link(k, memory::fields::NEXT_INTO) as usize;
     }
     Ok(start)
 }
@@ -108,26 +108,24 @@ fn early_with(
     contents: Contents,
     calendars: &[PlanCalendar],
     t: usize,
-    work: &[i64],
+    tables: &Tables,
     i: usize,
     recorded: Actual,
     activity: Activity,
     calendar: &Calendar,
 ) -> Result<Placement, ClockError>
-    requires { Ready sheet.now contents calendars.now t work.now × Recorded (plan_of sheet.now contents) (state_of contents.activities contents.links work.now) × (i < contents.activities) × (activity ≡ (plan_of sheet.now contents).activity i) × InPlan sheet.now contents (calendar_of (plan_of sheet.now contents) i) calendar.now }
-    ensures { (placed_as (plan_of sheet.now contents) (early_in (plan_of sheet.now contents) (state_of contents.activities contents.links work.now)) i result ≡ after_links (plan_of sheet.now contents) (early_in (plan_of sheet.now contents) (state_of contents.activities contents.links work.now)) i recorded) × Fits result }
+    requires { Ready sheet.now contents calendars.now t tables.now × Recorded (plan_of sheet.now contents) (state tables.now) × (i < contents.activities) × (activity ≡ (plan_of sheet.now contents).activity i) × InPlan sheet.now contents (calendar_of (plan_of sheet.now contents) i) calendar.now }
+    ensures { (placed_as (plan_of sheet.now contents) (early_in (plan_of sheet.now contents) (state tables.now)) i result ≡ after_links (plan_of sheet.now contents) (early_in (plan_of sheet.now contents) (state tables.now)) i recorded) × Fits result }
 {
-    let a = contents.activities;
-    let l = contents.links;
-    let left = memory::get_act(work, a, l, i, memory::fields::WORK_LEFT);
-    let mark = memory::get_act(work, a, l, i, memory::fields::IS_SUMMARY);
+    let left = tables.act(i, memory::fields::WORK_LEFT);
+    let mark = tables.act(i, memory::fields::IS_SUMMARY);
     let times = early::times_of(sheet, contents);
     let start = raise(
         sheet,
         contents,
         calendars,
         t,
-        work,
+        tables,
         i,
         activity,
         calendar,
@@ -143,44 +141,42 @@ fn early_of(
     contents: Contents,
     calendars: &[PlanCalendar],
     t: usize,
-    work: &[i64],
+    tables: &Tables,
     i: usize,
     recorded: Actual,
 ) -> Result<Placement, ClockError>
-    requires { Ready sheet.now contents calendars.now t work.now × Recorded (plan_of sheet.now contents) (state_of contents.activities contents.links work.now) × (i < contents.activities) }
-    ensures { (placed_as (plan_of sheet.now contents) (early_in (plan_of sheet.now contents) (state_of contents.activities contents.links work.now)) i result ≡ after_links (plan_of sheet.now contents) (early_in (plan_of sheet.now contents) (state_of contents.activities contents.links work.now)) i recorded) × Fits result }
+    requires { Ready sheet.now contents calendars.now t tables.now × Recorded (plan_of sheet.now contents) (state tables.now) × (i < contents.activities) }
+    ensures { (placed_as (plan_of sheet.now contents) (early_in (plan_of sheet.now contents) (state tables.now)) i result ≡ after_links (plan_of sheet.now contents) (early_in (plan_of sheet.now contents) (state tables.now)) i recorded) × Fits result }
 {
     let activity = dates::activity_of(sheet, contents, i);
     let k = activity.calendar as usize;
     let calendar = calendars::calendar_of(sheet, contents, calendars, k);
     early_with(
-        sheet, contents, calendars, t, work, i, recorded, activity, &calendar,
+        sheet, contents, calendars, t, tables, i, recorded, activity, &calendar,
     )
 }
 
 // Stores an activity's early dates and its minutes of work left.
-fn store(work: &mut [i64], a: usize, l: usize, i: usize, s: u64, f: u64, m: u64)
-    requires { Room a l work.old × (i < a) × (s < 2 ^ 63) × (f < 2 ^ 63) × (m < 2 ^ 63) }
-    ensures { (state_of a l work.new ≡ put_act (put_act (put_act (state_of a l work.old) early_start i s) early_finish i f) work_left i m) × (length work.new ≡ length work.old) }
+fn store(tables: &mut Tables, i: usize, s: u64, f: u64, m: u64)
+    requires { (i < tables.old.activities) × (s < 2 ^ 63) × (f < 2 ^ 63) × (m < 2 ^ 63) }
+    ensures { (state tables.new ≡ put_act (put_act (put_act (state tables.old) early_start i s) early_finish i f) work_left i m) × SameSlice tables.old tables.new }
 {
-    memory::put_act(work, a, l, i, memory::fields::EARLY_START, s);
-    memory::put_act(work, a, l, i, memory::fields::EARLY_FINISH, f);
-    memory::put_act(work, a, l, i, memory::fields::WORK_LEFT, m);
+    tables.put_act(i, memory::fields::EARLY_START, s);
+    tables.put_act(i, memory::fields::EARLY_FINISH, f);
+    tables.put_act(i, memory::fields::WORK_LEFT, m);
 }
 
 // Stores what was found, unless a walk was refused.
 fn settle(
-    work: &mut [i64],
-    a: usize,
-    l: usize,
+    tables: &mut Tables,
     i: usize,
     placement: Result<Placement, ClockError>,
 ) -> Result<(), ClockError>
-    requires { Room a l work.old × (i < a) × Fits placement }
-    ensures { Settled i placement (state_of a l work.old) (state_of a l work.new) result × (length work.new ≡ length work.old) }
+    requires { (i < tables.old.activities) × Fits placement }
+    ensures { Settled i placement (state tables.old) (state tables.new) result × SameSlice tables.old tables.new }
 {
     let placed = placement?;
-    store(work, a, l, i, placed.start, placed.finish, placed.left);
+    store(tables, i, placed.start, placed.finish, placed.left);
     Ok(())
 }
 
@@ -190,21 +186,19 @@ fn forward_one(
     contents: Contents,
     calendars: &[PlanCalendar],
     t: usize,
-    work: &mut [i64],
+    tables: &mut Tables,
     i: usize,
 ) -> Result<(), ClockError>
-    requires { Ready sheet.now contents calendars.now t work.old × Recorded (plan_of sheet.now contents) (state_of contents.activities contents.links work.old) × (i < contents.activities) }
-    ensures { (ended (early_in (plan_of sheet.now contents) (state_of contents.activities contents.links work.new)) result ≡ forward (plan_of sheet.now contents) (early_in (plan_of sheet.now contents) (state_of contents.activities contents.links work.old)) i) × Frame 12 15 0 0 (state_of contents.activities contents.links work.old) (state_of contents.activities contents.links work.new) × (length work.new ≡ length work.old) }
+    requires { Ready sheet.now contents calendars.now t tables.old × Recorded (plan_of sheet.now contents) (state tables.old) × (i < contents.activities) }
+    ensures { (ended (early_in (plan_of sheet.now contents) (state tables.new)) result ≡ forward (plan_of sheet.now contents) (early_in (plan_of sheet.now contents) (state tables.old)) i) × Frame 12 15 0 0 (state tables.old) (state tables.new) × SameSlice tables.old tables.new }
 {
-    let a = contents.activities;
-    let l = contents.links;
-    let recorded = dates::recorded_at(work, a, l, i);
+    let recorded = dates::recorded_at(tables, i);
     let Actual::Completed(s, f) = recorded else {
-        let placement = early_of(sheet, contents, calendars, t, work, i, recorded);
-        return settle(work, a, l, i, placement);
+        let placement = early_of(sheet, contents, calendars, t, tables, i, recorded);
+        return settle(tables, i, placement);
     };
-    let left = memory::get_act(work, a, l, i, memory::fields::WORK_LEFT);
-    store(work, a, l, i, s, f, left);
+    let left = tables.act(i, memory::fields::WORK_LEFT);
+    store(tables, i, s, f, left);
     Ok(())
 }
 
@@ -214,16 +208,14 @@ fn forward_all(
     contents: Contents,
     calendars: &[PlanCalendar],
     t: usize,
-    work: &mut [i64],
+    tables: &mut Tables,
 ) -> Result<(), ClockError>
-    requires { Ready sheet.now contents calendars.now t work.old × Recorded (plan_of sheet.now contents) (state_of contents.activities contents.links work.old) }
-    ensures { (ended (early_in (plan_of sheet.now contents) (state_of contents.activities contents.links work.new)) result ≡ through (forward (plan_of sheet.now contents)) (order (plan_of sheet.now contents)) (early_in (plan_of sheet.now contents) (state_of contents.activities contents.links work.old))) × Frame 12 15 0 0 (state_of contents.activities contents.links work.old) (state_of contents.activities contents.links work.new) × (length work.new ≡ length work.old) }
+    requires { Ready sheet.now contents calendars.now t tables.old × Recorded (plan_of sheet.now contents) (state tables.old) }
+    ensures { (ended (early_in (plan_of sheet.now contents) (state tables.new)) result ≡ through (forward (plan_of sheet.now contents)) (order (plan_of sheet.now contents)) (early_in (plan_of sheet.now contents) (state tables.old))) × Frame 12 15 0 0 (state tables.old) (state tables.new) × SameSlice tables.old tables.new }
 {
-    let a = contents.activities;
-    let l = contents.links;
     for q in 0..a {
-        let i = memory::get_act(work, a, l, q, memory::fields::ORDER_AT) as usize;
-        forward_one(sheet, contents, calendars, t, work, i)?;
+        let i = tables.act(q, memory::fields::ORDER_AT) as usize;
+        forward_one(sheet, contents, calendars, t, tables, i)?;
     }
     Ok(())
 }
@@ -234,15 +226,13 @@ pub fn forward_pass(
     contents: Contents,
     calendars: &[PlanCalendar],
     t: usize,
-    work: &mut [i64],
+    tables: &mut Tables,
 ) -> Result<(), ClockError>
-    requires { Ready sheet.now contents calendars.now t work.old × Recorded (plan_of sheet.now contents) (state_of contents.activities contents.links work.old) }
-    ensures { (ended (early_in (plan_of sheet.now contents) (state_of contents.activities contents.links work.new)) result ≡ forward_pass (plan_of sheet.now contents) (left_in (plan_of sheet.now contents) (state_of contents.activities contents.links work.old))) × Frame 12 15 0 0 (state_of contents.activities contents.links work.old) (state_of contents.activities contents.links work.new) × (length work.new ≡ length work.old) }
+    requires { Ready sheet.now contents calendars.now t tables.old × Recorded (plan_of sheet.now contents) (state tables.old) }
+    ensures { (ended (early_in (plan_of sheet.now contents) (state tables.new)) result ≡ forward_pass (plan_of sheet.now contents) (left_in (plan_of sheet.now contents) (state tables.old))) × Frame 12 15 0 0 (state tables.old) (state tables.new) × SameSlice tables.old tables.new }
 {
-    let a = contents.activities;
-    let l = contents.links;
     let origin = dates::origin_of(sheet, contents);
-    memory::fill_act(work, a, l, memory::fields::EARLY_START, origin);
-    memory::fill_act(work, a, l, memory::fields::EARLY_FINISH, origin);
-    forward_all(sheet, contents, calendars, t, work)
+    tables.fill_act(memory::fields::EARLY_START, origin);
+    tables.fill_act(memory::fields::EARLY_FINISH, origin);
+    forward_all(sheet, contents, calendars, t, tables)
 }

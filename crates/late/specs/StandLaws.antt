@@ -5,7 +5,9 @@ use Rattle.std.proofs.Common.{sym, ap, ◌∙◌, arith}
 use Rattle.number.specs.BitLaws.{mark_is}
 use Rattle.cells.specs.Chain.{after, gather}
 use Rattle.cells.specs.ChainLaws.{Cursor, cursor_start, cursor_turn, cursor_stop, cursor_end}
-use Rattle.memory.specs.State.{State, state_of}
+use Rattle.memory.specs.State.{State}
+use Rattle.memory.specs.declared.Tables.{Tables}
+use Rattle.memory.specs.Seen.{state}
 use Rattle.memory.specs.Fields.{late_start, late_finish, early_finish, work_left, is_summary, from_field, first_out, next_out}
 use Rattle.sheet.specs.declared.Contents.{Contents}
 use Rattle.placing.proofs.PlacingLaws.{via_at, via_refused}
@@ -37,12 +39,12 @@ module _ (p : Plan) (d : Early) (l : Late) (i last : ℕ) where
   pub unfinished_placed : (f g : ℕ) → lowered p d l i (ties_out p i) last ≡ Ok f → held_late p d l i f ≡ Ok g → unfinished_late p d l i last ≡ placed_late p d l i g
   unfinished_placed f g e h = via_at refused _ _ f e ∙ via_at refused _ _ g h
 
-module _ {s : List ℕ} {c : Contents} {calendars : List PlanCalendar} {t : ℕ} {xs : List ℤ} (R : Ready s c calendars t xs) where
+module _ {s : List ℕ} {c : Contents} {calendars : List PlanCalendar} {t : ℕ} {tables : Tables} (R : Ready s c calendars t tables) where
   abbrev p : Plan
   p = plan_of s c
 
   abbrev S : State
-  S = state_of c.activities c.links xs
+  S = state tables
 
   pub early_at : (i : ℕ) → i < c.activities → (early_in p S).ef i ≡ S.act early_finish i
   early_at i b = column_at p.activities (λ j. origin p) early_finish S i (omega (arith, activities_are s c))

@@ -3,7 +3,7 @@
 
 ghost use Rattle.std.specs.Prelude.{◌≡◌, ℕ, ◌^◌, ◌<◌, Ok};
 ghost use Rattle.clock.specs.On.{worked_by};
-ghost use Rattle.memory.specs.State.{state_of};
+ghost use Rattle.memory.specs.Seen.{state};
 ghost use Rattle.order.specs.Plan.{Plan, plan_of};
 ghost use Rattle.passes.specs.Plan.{recorded};
 ghost use Rattle.passes.specs.Dates.{Early, Late};
@@ -15,6 +15,7 @@ ghost use Rattle.late.specs.Times.{dated, unfinished_late, Fitting};
 
 use calendar::Calendar;
 use calendars::PlanCalendar;
+use memory::Tables;
 use placing::Actual;
 use project::Activity;
 use sheet::Contents;
@@ -92,22 +93,20 @@ fn late_from(
     contents: Contents,
     calendars: &[PlanCalendar],
     t: usize,
-    work: &[i64],
+    tables: &Tables,
     calendar: &Calendar,
     unfinished: Unfinished,
     i: usize,
     actual: Actual,
     last: u64,
 ) -> Result<LateDates, ClockError>
-    requires { Ready sheet.now contents calendars.now t work.now × (i < contents.activities) × IsUnfinished (plan_of sheet.now contents) (early_in (plan_of sheet.now contents) (state_of contents.activities contents.links work.now)) i (worked_by calendar.now) unfinished × (unfinished.origin < 2 ^ 43) × (Ok actual ≡ recorded (plan_of sheet.now contents) i) }
-    ensures { (dated (plan_of sheet.now contents) (early_in (plan_of sheet.now contents) (state_of contents.activities contents.links work.now)) (late_in (plan_of sheet.now contents) (state_of contents.activities contents.links work.now) last) i result ≡ unfinished_late (plan_of sheet.now contents) (early_in (plan_of sheet.now contents) (state_of contents.activities contents.links work.now)) (late_in (plan_of sheet.now contents) (state_of contents.activities contents.links work.now) last) i last) × Fitting result }
+    requires { Ready sheet.now contents calendars.now t tables.now × (i < contents.activities) × IsUnfinished (plan_of sheet.now contents) (early_in (plan_of sheet.now contents) (state tables.now)) i (worked_by calendar.now) unfinished × (unfinished.origin < 2 ^ 43) × (Ok actual ≡ recorded (plan_of sheet.now contents) i) }
+    ensures { (dated (plan_of sheet.now contents) (early_in (plan_of sheet.now contents) (state tables.now)) (late_in (plan_of sheet.now contents) (state tables.now) last) i result ≡ unfinished_late (plan_of sheet.now contents) (early_in (plan_of sheet.now contents) (state tables.now)) (late_in (plan_of sheet.now contents) (state tables.now) last) i last) × Fitting result }
 {
-    let a = contents.activities;
-    let l = contents.links;
-    let mark = memory::get_act(work, a, l, i, memory::fields::IS_SUMMARY);
-    let early = memory::get_act(work, a, l, i, memory::fields::EARLY_FINISH);
+    let mark = tables.act(i, memory::fields::IS_SUMMARY);
+    let early = tables.act(i, memory::fields::EARLY_FINISH);
     let f = links::lower(
-        sheet, contents, calendars, t, work, calendar, unfinished, i, last,
+        sheet, contents, calendars, t, tables, calendar, unfinished, i, last,
     )?;
     let g = limits::hold_late(calendar, unfinished, mark == 1, actual, f)?;
     place_late(calendar, unfinished, early, g)
@@ -119,24 +118,18 @@ pub fn late_of(
     contents: Contents,
     calendars: &[PlanCalendar],
     t: usize,
-    work: &[i64],
+    tables: &Tables,
     i: usize,
     actual: Actual,
     last: u64,
 ) -> Result<LateDates, ClockError>
-    requires { Ready sheet.now contents calendars.now t work.now × (i < contents.activities) × (Ok actual ≡ recorded (plan_of sheet.now contents) i) }
-    ensures { (dated (plan_of sheet.now contents) (early_in (plan_of sheet.now contents) (state_of contents.activities contents.links work.now)) (late_in (plan_of sheet.now contents) (state_of contents.activities contents.links work.now) last) i result ≡ unfinished_late (plan_of sheet.now contents) (early_in (plan_of sheet.now contents) (state_of contents.activities contents.links work.now)) (late_in (plan_of sheet.now contents) (state_of contents.activities contents.links work.now) last) i last) × Fitting result }
+    requires { Ready sheet.now contents calendars.now t tables.now × (i < contents.activities) × (Ok actual ≡ recorded (plan_of sheet.now contents) i) }
+    ensures { (dated (plan_of sheet.now contents) (early_in (plan_of sheet.now contents) (state tables.now)) (late_in (plan_of sheet.now contents) (state tables.now) last) i result ≡ unfinished_late (plan_of sheet.now contents) (early_in (plan_of sheet.now contents) (state tables.now)) (late_in (plan_of sheet.now contents) (state tables.now) last) i last) × Fitting result }
 {
     let activity = dates::activity_of(sheet, contents, i);
     let k = activity.calendar as usize;
     let calendar = calendars::calendar_of(sheet, contents, calendars, k);
-    let left = memory::get_act(
-        work,
-        contents.activities,
-        contents.links,
-        i,
-        memory::fields::WORK_LEFT,
-    );
+    let left = tables.act(i, memory::fields::WORK_LEFT);
     let origin = dates::origin_of(sheet, contents);
     let unfinished = Unfinished {
         activity: activity,
@@ -144,6 +137,6 @@ pub fn late_of(
         origin: origin,
     };
     late_from(
-        sheet, contents, calendars, t, work, &calendar, unfinished, i, actual, last,
+        sheet, contents, calendars, t, tables, &calendar, unfinished, i, actual, last,
     )
 }

@@ -2,7 +2,7 @@
 ghost use Rattle.std.specs.Prelude.{◌≡◌, ℕ, ◌+◌, ◌^◌, ◌<◌};
 ghost use Rattle.number.specs.Zed.{up, dn};
 ghost use Rattle.clock.specs.On.{worked_by};
-ghost use Rattle.memory.specs.State.{Room, state_of};
+ghost use Rattle.memory.specs.Seen.{state};
 ghost use Rattle.memory.specs.Fields.{late_start, late_finish};
 ghost use Rattle.sheet.specs.Known.{SheetRead};
 ghost use Rattle.order.specs.Plan.{plan_of};
@@ -19,6 +19,7 @@ ghost use Rattle.late.specs.Times.{times_of, target_of, finish_by};
 use crate::{LateDates, Unfinished};
 use calendar::Calendar;
 use calendars::PlanCalendar;
+use memory::Tables;
 use project::RelationshipType;
 use sheet::Contents;
 use worktime::ClockError;
@@ -49,19 +50,17 @@ fn successor_times(
     sheet: &[u8],
     contents: Contents,
     calendars: &[PlanCalendar],
-    work: &[i64],
+    tables: &Tables,
     j: usize,
 ) -> Result<LateDates, ClockError>
-    requires { SheetRead sheet.now contents × Places sheet.now contents calendars.now × Room contents.activities contents.links work.now × (j < contents.activities) }
-    ensures { result ≡ times_of (own (plan_of sheet.now contents) j) ((state_of contents.activities contents.links work.now).act late_start j) ((state_of contents.activities contents.links work.now).act late_finish j) }
+    requires { SheetRead sheet.now contents × Places sheet.now contents calendars.now × (tables.now.activities ≡ contents.activities) × (tables.now.links ≡ contents.links) × (j < contents.activities) }
+    ensures { result ≡ times_of (own (plan_of sheet.now contents) j) ((state tables.now).act late_start j) ((state tables.now).act late_finish j) }
 {
     let activity = dates::activity_of(sheet, contents, j);
     let k = activity.calendar as usize;
     let calendar = calendars::calendar_of(sheet, contents, calendars, k);
-    let a = contents.activities;
-    let l = contents.links;
-    let start = memory::get_act(work, a, l, j, memory::fields::LATE_START);
-    let finish = memory::get_act(work, a, l, j, memory::fields::LATE_FINISH);
+    let start = tables.act(j, memory::fields::LATE_START);
+    let finish = tables.act(j, memory::fields::LATE_FINISH);
     let s = placing::latest_same(activity, &calendar, start)?;
     let f = placing::latest_same(activity, &calendar, finish)?;
     Ok(LateDates {
@@ -103,17 +102,17 @@ fn link_finish(
     contents: Contents,
     calendars: &[PlanCalendar],
     t: usize,
-    work: &[i64],
+    tables: &Tables,
     calendar: &Calendar,
     unfinished: Unfinished,
     k: usize,
 ) -> Result<u64, ClockError>
-    requires { Ready sheet.now contents calendars.now t work.now × (k < t) }
-    ensures { (i last : ℕ) → IsUnfinished (plan_of sheet.now contents) (early_in (plan_of sheet.now contents) (state_of contents.activities contents.links work.now)) i (worked_by calendar.now) unfinished → result ≡ link_finish (plan_of sheet.now contents) (early_in (plan_of sheet.now contents) (state_of contents.activities contents.links work.now)) (late_in (plan_of sheet.now contents) (state_of contents.activities contents.links work.now) last) i k }
+    requires { Ready sheet.now contents calendars.now t tables.now × (k < t) }
+    ensures { (i last : ℕ) → IsUnfinished (plan_of sheet.now contents) (early_in (plan_of sheet.now contents) (state tables.now)) i (worked_by calendar.now) unfinished → result ≡ link_finish (plan_of sheet.now contents) (early_in (plan_of sheet.now contents) (state tables.now)) (late_in (plan_of sheet.now contents) (state tables.now) last) i k }
 {
-    let tie = dates::tie_at(work, contents.activities, contents.links, k);
+    let tie = dates::tie_at(tables, k);
     let kind = tie.kind;
-    let times = successor_times(sheet, contents, calendars, work, tie.to)?;
+    let times = successor_times(sheet, contents, calendars, tables, tie.to)?;
     let x = target(kind, times.start, times.finish);
     let v = over_lag(sheet, contents, calendars, tie.calendar, tie.lag, x)?;
     let f = finish_by(calendar, unfinished, kind, v)?;
@@ -126,24 +125,24 @@ pub fn lower(
     contents: Contents,
     calendars: &[PlanCalendar],
     t: usize,
-    work: &[i64],
+    tables: &Tables,
     calendar: &Calendar,
     unfinished: Unfinished,
     i: usize,
     last: u64,
 ) -> Result<u64, ClockError>
-    requires { Ready sheet.now contents calendars.now t work.now × (i < contents.activities) × IsUnfinished (plan_of sheet.now contents) (early_in (plan_of sheet.now contents) (state_of contents.activities contents.links work.now)) i (worked_by calendar.now) unfinished }
-    ensures { result ≡ lowered (plan_of sheet.now contents) (early_in (plan_of sheet.now contents) (state_of contents.activities contents.links work.now)) (late_in (plan_of sheet.now contents) (state_of contents.activities contents.links work.now) last) i (ties_out (plan_of sheet.now contents) i) last }
+    requires { Ready sheet.now contents calendars.now t tables.now × (i < contents.activities) × IsUnfinished (plan_of sheet.now contents) (early_in (plan_of sheet.now contents) (state tables.now)) i (worked_by calendar.now) unfinished }
+    ensures { result ≡ lowered (plan_of sheet.now contents) (early_in (plan_of sheet.now contents) (state tables.now)) (late_in (plan_of sheet.now contents) (state tables.now) last) i (ties_out (plan_of sheet.now contents) i) last }
 {
-    let a = contents.activities;
-    let l = contents.links;
     let mut latest = last;
-    let mut k = memory::get_act(work, a, l, i, memory::fields::FIRST_OUT) as usize;
+    let mut k = tables.act(i, memory::fields::FIRST_OUT) as usize;
     // A `while`: the next link is read from the memory, so no range has the links.
     while k < t {
-        let f = link_finish(sheet, contents, calendars, t, work, calendar, unfinished, k)?;
+        let f = link_finish(
+            sheet, contents, calendars, t, tables, calendar, unfinished, k,
+        )?;
         latest = latest.min(f);
-        k = memory::get_link(work, a, l, k, memory::fields::NEXT_OUT) as usize;
+        k = tables.link(k, memory::fields::NEXT_OUT) as usize;
     }
     Ok(latest)
 }

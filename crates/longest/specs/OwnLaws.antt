@@ -9,7 +9,9 @@ use Rattle.project.specs.declared.RelationshipType.{RelationshipType}
 use Rattle.project.specs.Records.{relationship_type_of}
 use Rattle.placing.specs.declared.Actual.{Actual}
 use Rattle.placing.specs.Placing.{place_start}
-use Rattle.memory.specs.State.{State, state_of}
+use Rattle.memory.specs.State.{State}
+use Rattle.memory.specs.declared.Tables.{Tables}
+use Rattle.memory.specs.Seen.{state}
 use Rattle.memory.specs.Fields.{early_start, work_left, from_field, kind_field}
 use Rattle.sheet.specs.declared.Contents.{Contents}
 use Rattle.order.specs.Plan.{Plan, plan_of}
@@ -41,12 +43,12 @@ module _ {s : List ℕ} {c : Contents} {i : ℕ} {activity : Activity} {calendar
   pub own_place : (u : ℕ) (r : Result ℕ ClockError) → r ≡ place_start (worked_by calendar) activity.kind u → r ≡ place_start (own (plan_of s c) i) (kind_of (plan_of s c) i) u
   own_place u r e = e ∙ (λ z. place_start (sym own_worked z) (sym own_kind z) u)
 
-module _ {s : List ℕ} {c : Contents} {calendars : List PlanCalendar} {t : ℕ} {xs : List ℤ} (L : Lent s c calendars t xs) where
+module _ {s : List ℕ} {c : Contents} {calendars : List PlanCalendar} {t : ℕ} {tables : Tables} (L : Lent s c calendars t tables) where
   abbrev p : Plan
   p = plan_of s c
 
   abbrev S : State
-  S = state_of c.activities c.links xs
+  S = state tables
 
   -- ---- dates of activity i
   module _ (i : ℕ) (l : i < c.activities) where

@@ -4,7 +4,8 @@ use Rattle.worktime.specs.declared.ClockError.{ClockError}
 use Rattle.calendar.specs.declared.value.Calendar.{Calendar}
 use Rattle.project.specs.declared.Activity.{Activity}
 use Rattle.placing.specs.Placing.{via, place_start}
-use Rattle.memory.specs.State.{state_of}
+use Rattle.memory.specs.declared.Tables.{Tables}
+use Rattle.memory.specs.Seen.{state}
 use Rattle.sheet.specs.declared.Contents.{Contents}
 use Rattle.order.specs.Plan.{Plan, plan_of}
 use Rattle.order.specs.Ties.{calendar_of}
@@ -17,9 +18,9 @@ use Rattle.calendars.specs.Calendars.{InPlan}
 use Rattle.dates.specs.Standing.{Ready, Recorded}
 
 -- what the passes are lent, with what is recorded of work
-pub record Lent (s : List ℕ) (c : Contents) (calendars : List PlanCalendar) (t : ℕ) (xs : List ℤ) : Type 0 where
-  pub ready : Ready s c calendars t xs
-  pub recorded : Recorded (plan_of s c) (state_of c.activities c.links xs)
+pub record Lent (s : List ℕ) (c : Contents) (calendars : List PlanCalendar) (t : ℕ) (tables : Tables) : Type 0 where
+  pub ready : Ready s c calendars t tables
+  pub recorded : Recorded (plan_of s c) (state tables)
 
 -- activity i in hand, with its own calendar
 pub record Own (s : List ℕ) (c : Contents) (i : ℕ) (activity : Activity) (calendar : Calendar) : Type 0 where

@@ -2,7 +2,7 @@
 #![tactic(auto)]
 
 ghost use Rattle.std.specs.Prelude.{◌≡◌, Bool, reverse, ℕ, ◌<◌, length, Ok};
-ghost use Rattle.memory.specs.State.{Room, state_of};
+ghost use Rattle.memory.specs.Seen.{state, SameSlice};
 ghost use Rattle.topology.specs.Frame.{Frame};
 ghost use Rattle.order.specs.Plan.{Plan, plan_of};
 ghost use Rattle.order.specs.Checks.{order};
@@ -16,6 +16,7 @@ ghost use Rattle.longest.specs.Path.{Lent, Own, driven, bound_start, marks};
 
 use calendar::Calendar;
 use calendars::PlanCalendar;
+use memory::Tables;
 use placing::Actual;
 use project::{Activity, RelationshipType};
 use sheet::Contents;
@@ -31,28 +32,27 @@ fn is_completed(actual: Actual) -> bool
 // ---- what finishes the project
 
 // Whether activity `i` finishes the project, whose greatest finish is `finish`.
-fn is_last(work: &[i64], a: usize, l: usize, i: usize, finish: u64) -> bool
-    requires { Room a l work.now × (i < a) }
-    ensures { (p : Plan) (t : ℕ) → p.activities ≡ a → Standing p t (state_of a l work.now) → Recorded p (state_of a l work.now) → result ≡ last_ones p (early_in p (state_of a l work.now)) finish i }
+fn is_last(tables: &Tables, i: usize, finish: u64) -> bool
+    requires { (i < tables.now.activities) }
+    ensures { (p : Plan) (t : ℕ) → p.activities ≡ tables.now.activities → Standing p t (state tables.now) → Recorded p (state tables.now) → result ≡ last_ones p (early_in p (state tables.now)) finish i }
 {
-    if memory::get_act(work, a, l, i, memory::fields::IS_SUMMARY) != 0 {
+    if tables.act(i, memory::fields::IS_SUMMARY) != 0 {
         return false;
     }
-    let recorded = dates::recorded_at(work, a, l, i);
+    let recorded = dates::recorded_at(tables, i);
     if is_completed(recorded) {
         return false;
     }
-    memory::get_act(work, a, l, i, memory::fields::EARLY_FINISH) == finish
+    tables.act(i, memory::fields::EARLY_FINISH) == finish
 }
 
 // Marks what finishes the project.
-fn mark_last(work: &mut [i64], a: usize, l: usize, finish: u64)
-    requires { Room a l work.old }
-    ensures { ((p : Plan) (t : ℕ) → p.activities ≡ a → Standing p t (state_of a l work.old) → Recorded p (state_of a l work.old) → path_in p (state_of a l work.new) (last_ones p (early_in p (state_of a l work.old)) finish) ≡ last_ones p (early_in p (state_of a l work.old)) finish) × Frame 16 17 0 0 (state_of a l work.old) (state_of a l work.new) × (length work.new ≡ length work.old) }
+fn mark_last(tables: &mut Tables, finish: u64)
+    ensures { ((p : Plan) (t : ℕ) → p.activities ≡ tables.old.activities → Standing p t (state tables.old) → Recorded p (state tables.old) → path_in p (state tables.new) (last_ones p (early_in p (state tables.old)) finish) ≡ last_ones p (early_in p (state tables.old)) finish) × Frame 16 17 0 0 (state tables.old) (state tables.new) × SameSlice tables.old tables.new }
 {
     for i in 0..a {
-        let v = u64::from(is_last(work, a, l, i, finish));
-        memory::put_act(work, a, l, i, memory::fields::LONGEST_PATH, v);
+        let v = u64::from(is_last(tables, i, finish));
+        tables.put_act(i, memory::fields::LONGEST_PATH, v);
     }
 }
 
@@ -64,20 +64,18 @@ fn bound_start(
     contents: Contents,
     calendars: &[PlanCalendar],
     t: usize,
-    work: &[i64],
+    tables: &Tables,
     activity: Activity,
     calendar: &Calendar,
     i: usize,
     k: usize,
 ) -> Result<u64, ClockError>
-    requires { Lent sheet.now contents calendars.now t work.now × Own sheet.now contents i activity calendar.now × (i < contents.activities) × (k < t) }
-    ensures { result ≡ bound_start (plan_of sheet.now contents) (early_in (plan_of sheet.now contents) (state_of contents.activities contents.links work.now)) i k }
+    requires { Lent sheet.now contents calendars.now t tables.now × Own sheet.now contents i activity calendar.now × (i < contents.activities) × (k < t) }
+    ensures { result ≡ bound_start (plan_of sheet.now contents) (early_in (plan_of sheet.now contents) (state tables.now)) i k }
 {
-    let b = bounds::link_bound(sheet, contents, calendars, t, work, k)?;
-    let a = contents.activities;
-    let l = contents.links;
-    let left = memory::get_act(work, a, l, i, memory::fields::WORK_LEFT);
-    let code = memory::get_link(work, a, l, k, memory::fields::KIND);
+    let b = bounds::link_bound(sheet, contents, calendars, t, tables, k)?;
+    let left = tables.act(i, memory::fields::WORK_LEFT);
+    let code = tables.link(k, memory::fields::KIND);
     let kind = RelationshipType::from(code);
     let s = bounds::start_for(activity, calendar, left, kind, b)?;
     placing::place_start(activity, calendar, s)
@@ -89,25 +87,23 @@ fn drives(
     contents: Contents,
     calendars: &[PlanCalendar],
     t: usize,
-    work: &[i64],
+    tables: &Tables,
     activity: Activity,
     calendar: &Calendar,
     i: usize,
     k: usize,
 ) -> Result<bool, ClockError>
-    requires { Lent sheet.now contents calendars.now t work.now × Own sheet.now contents i activity calendar.now × (i < contents.activities) × (k < t) }
-    ensures { (go : Bool → Pass (ℕ → Bool)) → driven result go ≡ drives (plan_of sheet.now contents) (early_in (plan_of sheet.now contents) (state_of contents.activities contents.links work.now)) i k go }
+    requires { Lent sheet.now contents calendars.now t tables.now × Own sheet.now contents i activity calendar.now × (i < contents.activities) × (k < t) }
+    ensures { (go : Bool → Pass (ℕ → Bool)) → driven result go ≡ drives (plan_of sheet.now contents) (early_in (plan_of sheet.now contents) (state tables.now)) i k go }
 {
     let u = bound_start(
-        sheet, contents, calendars, t, work, activity, calendar, i, k,
+        sheet, contents, calendars, t, tables, activity, calendar, i, k,
     )?;
-    let a = contents.activities;
-    let l = contents.links;
-    if u != memory::get_act(work, a, l, i, memory::fields::EARLY_START) {
+    if u != tables.act(i, memory::fields::EARLY_START) {
         return Ok(false);
     }
-    let from = memory::get_link(work, a, l, k, memory::fields::FROM) as usize;
-    let recorded = dates::recorded_at(work, a, l, from);
+    let from = tables.link(k, memory::fields::FROM) as usize;
+    let recorded = dates::recorded_at(tables, from);
     Ok(!is_completed(recorded))
 }
 
@@ -117,23 +113,21 @@ fn mark_link(
     contents: Contents,
     calendars: &[PlanCalendar],
     t: usize,
-    work: &mut [i64],
+    tables: &mut Tables,
     activity: Activity,
     calendar: &Calendar,
     i: usize,
     k: usize,
 ) -> Result<(), ClockError>
-    requires { Lent sheet.now contents calendars.now t work.old × Own sheet.now contents i activity calendar.now × (i < contents.activities) × (k < t) }
-    ensures { ((other : ℕ → Bool) (go : (ℕ → Bool) → Pass (ℕ → Bool)) → after (ended (path_in (plan_of sheet.now contents) (state_of contents.activities contents.links work.new) other) result) go ≡ marks (plan_of sheet.now contents) (early_in (plan_of sheet.now contents) (state_of contents.activities contents.links work.old)) i (path_in (plan_of sheet.now contents) (state_of contents.activities contents.links work.old) other) k go) × Frame 16 17 0 0 (state_of contents.activities contents.links work.old) (state_of contents.activities contents.links work.new) × (length work.new ≡ length work.old) }
+    requires { Lent sheet.now contents calendars.now t tables.old × Own sheet.now contents i activity calendar.now × (i < contents.activities) × (k < t) }
+    ensures { ((other : ℕ → Bool) (go : (ℕ → Bool) → Pass (ℕ → Bool)) → after (ended (path_in (plan_of sheet.now contents) (state tables.new) other) result) go ≡ marks (plan_of sheet.now contents) (early_in (plan_of sheet.now contents) (state tables.old)) i (path_in (plan_of sheet.now contents) (state tables.old) other) k go) × Frame 16 17 0 0 (state tables.old) (state tables.new) × SameSlice tables.old tables.new }
 {
     let sets = drives(
-        sheet, contents, calendars, t, work, activity, calendar, i, k,
+        sheet, contents, calendars, t, tables, activity, calendar, i, k,
     )?;
     if sets {
-        let a = contents.activities;
-        let l = contents.links;
-        let from = memory::get_link(work, a, l, k, memory::fields::FROM) as usize;
-        memory::put_act(work, a, l, from, memory::fields::LONGEST_PATH, 1);
+        let from = tables.link(k, memory::fields::FROM) as usize;
+        tables.put_act(from, memory::fields::LONGEST_PATH, 1);
     }
     Ok(())
 }
@@ -144,23 +138,21 @@ fn mark_links(
     contents: Contents,
     calendars: &[PlanCalendar],
     t: usize,
-    work: &mut [i64],
+    tables: &mut Tables,
     activity: Activity,
     calendar: &Calendar,
     i: usize,
 ) -> Result<(), ClockError>
-    requires { Lent sheet.now contents calendars.now t work.old × Own sheet.now contents i activity calendar.now × (i < contents.activities) }
-    ensures { ((other : ℕ → Bool) → ended (path_in (plan_of sheet.now contents) (state_of contents.activities contents.links work.new) other) result ≡ marked (plan_of sheet.now contents) (early_in (plan_of sheet.now contents) (state_of contents.activities contents.links work.old)) i (ties_into (plan_of sheet.now contents) i) (path_in (plan_of sheet.now contents) (state_of contents.activities contents.links work.old) other)) × Frame 16 17 0 0 (state_of contents.activities contents.links work.old) (state_of contents.activities contents.links work.new) × (length work.new ≡ length work.old) }
+    requires { Lent sheet.now contents calendars.now t tables.old × Own sheet.now contents i activity calendar.now × (i < contents.activities) }
+    ensures { ((other : ℕ → Bool) → ended (path_in (plan_of sheet.now contents) (state tables.new) other) result ≡ marked (plan_of sheet.now contents) (early_in (plan_of sheet.now contents) (state tables.old)) i (ties_into (plan_of sheet.now contents) i) (path_in (plan_of sheet.now contents) (state tables.old) other)) × Frame 16 17 0 0 (state tables.old) (state tables.new) × SameSlice tables.old tables.new }
 {
-    let a = contents.activities;
-    let l = contents.links;
-    let mut k = memory::get_act(work, a, l, i, memory::fields::FIRST_IN) as usize;
+    let mut k = tables.act(i, memory::fields::FIRST_IN) as usize;
     // A `while`: the next link is read from the memory, so no range has the links.
     while k < t {
         mark_link(
-            sheet, contents, calendars, t, work, activity, calendar, i, k,
+            sheet, contents, calendars, t, tables, activity, calendar, i, k,
         )?;
-        k = memory::get_link(work, a, l, k, memory::fields::NEXT_INTO) as usize;
+        k = tables.link(k, memory::fields::NEXT_INTO) as usize;
     }
     Ok(())
 }
@@ -173,21 +165,21 @@ fn on_path(
     contents: Contents,
     calendars: &[PlanCalendar],
     t: usize,
-    work: &mut [i64],
+    tables: &mut Tables,
     i: usize,
 ) -> Result<(), ClockError>
-    requires { Lent sheet.now contents calendars.now t work.old × (i < contents.activities) }
-    ensures { ((other : ℕ → Bool) → ended (path_in (plan_of sheet.now contents) (state_of contents.activities contents.links work.new) other) result ≡ on_path (plan_of sheet.now contents) (early_in (plan_of sheet.now contents) (state_of contents.activities contents.links work.old)) (path_in (plan_of sheet.now contents) (state_of contents.activities contents.links work.old) other) i) × Frame 16 17 0 0 (state_of contents.activities contents.links work.old) (state_of contents.activities contents.links work.new) × (length work.new ≡ length work.old) }
+    requires { Lent sheet.now contents calendars.now t tables.old × (i < contents.activities) }
+    ensures { ((other : ℕ → Bool) → ended (path_in (plan_of sheet.now contents) (state tables.new) other) result ≡ on_path (plan_of sheet.now contents) (early_in (plan_of sheet.now contents) (state tables.old)) (path_in (plan_of sheet.now contents) (state tables.old) other) i) × Frame 16 17 0 0 (state tables.old) (state tables.new) × SameSlice tables.old tables.new }
 {
-    let a = contents.activities;
-    let l = contents.links;
-    if memory::get_act(work, a, l, i, memory::fields::LONGEST_PATH) == 0 {
+    if tables.act(i, memory::fields::LONGEST_PATH) == 0 {
         return Ok(());
     }
     let activity = dates::activity_of(sheet, contents, i);
     let k = activity.calendar as usize;
     let calendar = calendars::calendar_of(sheet, contents, calendars, k);
-    mark_links(sheet, contents, calendars, t, work, activity, &calendar, i)
+    mark_links(
+        sheet, contents, calendars, t, tables, activity, &calendar, i,
+    )
 }
 
 // The activities in turn, from the last of the order to the first.
@@ -196,16 +188,14 @@ fn path_back(
     contents: Contents,
     calendars: &[PlanCalendar],
     t: usize,
-    work: &mut [i64],
+    tables: &mut Tables,
 ) -> Result<(), ClockError>
-    requires { Lent sheet.now contents calendars.now t work.old }
-    ensures { ((other : ℕ → Bool) → ended (path_in (plan_of sheet.now contents) (state_of contents.activities contents.links work.new) other) result ≡ through (on_path (plan_of sheet.now contents) (early_in (plan_of sheet.now contents) (state_of contents.activities contents.links work.old))) (reverse (order (plan_of sheet.now contents))) (path_in (plan_of sheet.now contents) (state_of contents.activities contents.links work.old) other)) × Frame 16 17 0 0 (state_of contents.activities contents.links work.old) (state_of contents.activities contents.links work.new) × (length work.new ≡ length work.old) }
+    requires { Lent sheet.now contents calendars.now t tables.old }
+    ensures { ((other : ℕ → Bool) → ended (path_in (plan_of sheet.now contents) (state tables.new) other) result ≡ through (on_path (plan_of sheet.now contents) (early_in (plan_of sheet.now contents) (state tables.old))) (reverse (order (plan_of sheet.now contents))) (path_in (plan_of sheet.now contents) (state tables.old) other)) × Frame 16 17 0 0 (state tables.old) (state tables.new) × SameSlice tables.old tables.new }
 {
-    let a = contents.activities;
-    let l = contents.links;
     for q in (0..a).rev() {
-        let i = memory::get_act(work, a, l, q, memory::fields::ORDER_AT) as usize;
-        on_path(sheet, contents, calendars, t, work, i)?;
+        let i = tables.act(q, memory::fields::ORDER_AT) as usize;
+        on_path(sheet, contents, calendars, t, tables, i)?;
     }
     Ok(())
 }
@@ -216,14 +206,12 @@ pub fn path_pass(
     contents: Contents,
     calendars: &[PlanCalendar],
     t: usize,
-    work: &mut [i64],
+    tables: &mut Tables,
     finish: u64,
 ) -> Result<(), ClockError>
-    requires { Ready sheet.now contents calendars.now t work.old × Recorded (plan_of sheet.now contents) (state_of contents.activities contents.links work.old) }
-    ensures { (ended (path_in (plan_of sheet.now contents) (state_of contents.activities contents.links work.new) (last_ones (plan_of sheet.now contents) (early_in (plan_of sheet.now contents) (state_of contents.activities contents.links work.old)) finish)) result ≡ path_pass (plan_of sheet.now contents) finish (early_in (plan_of sheet.now contents) (state_of contents.activities contents.links work.old))) × Frame 16 17 0 0 (state_of contents.activities contents.links work.old) (state_of contents.activities contents.links work.new) × (length work.new ≡ length work.old) }
+    requires { Ready sheet.now contents calendars.now t tables.old × Recorded (plan_of sheet.now contents) (state tables.old) }
+    ensures { (ended (path_in (plan_of sheet.now contents) (state tables.new) (last_ones (plan_of sheet.now contents) (early_in (plan_of sheet.now contents) (state tables.old)) finish)) result ≡ path_pass (plan_of sheet.now contents) finish (early_in (plan_of sheet.now contents) (state tables.old))) × Frame 16 17 0 0 (state tables.old) (state tables.new) × SameSlice tables.old tables.new }
 {
-    let a = contents.activities;
-    let l = contents.links;
-    mark_last(work, a, l, finish);
-    path_back(sheet, contents, calendars, t, work)
+    mark_last(tables, finish);
+    path_back(sheet, contents, calendars, t, tables)
 }

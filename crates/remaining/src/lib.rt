@@ -4,7 +4,7 @@
 ghost use Rattle.std.specs.Prelude.{◌≡◌, false, ◌^◌, ◌<◌, length, Ok};
 ghost use Rattle.number.specs.Zed.{up};
 ghost use Rattle.sheet.specs.Known.{SheetRead};
-ghost use Rattle.memory.specs.State.{Room, state_of};
+ghost use Rattle.memory.specs.Seen.{state, SameSlice};
 ghost use Rattle.topology.specs.Frame.{Frame};
 ghost use Rattle.order.specs.Plan.{plan_of};
 ghost use Rattle.order.specs.Ids.{summary};
@@ -20,6 +20,7 @@ ghost use Rattle.remaining.specs.Rows.{how_of, start_of, finish_of, kept, Row};
 
 use calendar::Calendar;
 use calendars::PlanCalendar;
+use memory::Tables;
 use placing::Actual;
 use project::{Activity, Status};
 use sheet::Contents;
@@ -128,28 +129,14 @@ fn finish_of(actual: Actual) -> u64
 }
 
 // Keeps what is recorded of activity `i` and the work left of it.
-fn keep(work: &mut [i64], a: usize, l: usize, i: usize, actual: Actual, left: u64)
-    requires { Room a l work.old × (i < a) × ActualBelow (Ok actual) × (left < 2 ^ 63) }
-    ensures { (state_of a l work.new ≡ kept (state_of a l work.old) i actual left) × (length work.new ≡ length work.old) }
+fn keep(tables: &mut Tables, i: usize, actual: Actual, left: u64)
+    requires { (i < tables.old.activities) × ActualBelow (Ok actual) × (left < 2 ^ 63) }
+    ensures { (state tables.new ≡ kept (state tables.old) i actual left) × SameSlice tables.old tables.new }
 {
-    memory::put_act(work, a, l, i, memory::fields::RECORDED_AS, how_of(actual));
-    memory::put_act(
-        work,
-        a,
-        l,
-        i,
-        memory::fields::RECORDED_START,
-        start_of(actual),
-    );
-    memory::put_act(
-        work,
-        a,
-        l,
-        i,
-        memory::fields::RECORDED_FINISH,
-        finish_of(actual),
-    );
-    memory::put_act(work, a, l, i, memory::fields::WORK_LEFT, left);
+    tables.put_act(i, memory::fields::RECORDED_AS, how_of(actual));
+    tables.put_act(i, memory::fields::RECORDED_START, start_of(actual));
+    tables.put_act(i, memory::fields::RECORDED_FINISH, finish_of(actual));
+    tables.put_act(i, memory::fields::WORK_LEFT, left);
 }
 
 // Activity `i`, no summary, of which a date is recorded.
@@ -157,19 +144,19 @@ fn record_dated(
     sheet: &[u8],
     contents: Contents,
     calendars: &[PlanCalendar],
-    work: &mut [i64],
+    tables: &mut Tables,
     i: usize,
     activity: Activity,
     whole: u64,
 ) -> Result<(), ClockError>
-    requires { SheetRead sheet.now contents × Places sheet.now contents calendars.now × Room contents.activities contents.links work.old × (i < contents.activities) × (activity ≡ (plan_of sheet.now contents).activity i) × (summary (plan_of sheet.now contents) i ≡ false) × (whole ≡ full (plan_of sheet.now contents) i) × (whole < 2 ^ 63) }
-    ensures { Row (plan_of sheet.now contents) i (state_of contents.activities contents.links work.old) (state_of contents.activities contents.links work.new) result × (length work.new ≡ length work.old) }
+    requires { SheetRead sheet.now contents × Places sheet.now contents calendars.now × (tables.old.activities ≡ contents.activities) × (tables.old.links ≡ contents.links) × (i < contents.activities) × (activity ≡ (plan_of sheet.now contents).activity i) × (summary (plan_of sheet.now contents) i ≡ false) × (whole ≡ full (plan_of sheet.now contents) i) × (whole < 2 ^ 63) }
+    ensures { Row (plan_of sheet.now contents) i (state tables.old) (state tables.new) result × SameSlice tables.old tables.new }
 {
     let k = activity.calendar as usize;
     let calendar = calendars::calendar_of(sheet, contents, calendars, k);
     let actual = placing::dates::actual(activity, &calendar)?;
     let left = left_of(sheet, contents, i, activity, &calendar, actual, whole)?;
-    keep(work, contents.activities, contents.links, i, actual, left);
+    keep(tables, i, actual, left);
     Ok(())
 }
 
@@ -179,17 +166,15 @@ fn record_one(
     contents: Contents,
     calendars: &[PlanCalendar],
     t: usize,
-    work: &mut [i64],
+    tables: &mut Tables,
     i: usize,
 ) -> Result<(), ClockError>
-    requires { Ready sheet.now contents calendars.now t work.old × (i < contents.activities) }
-    ensures { Row (plan_of sheet.now contents) i (state_of contents.activities contents.links work.old) (state_of contents.activities contents.links work.new) result × (length work.new ≡ length work.old) }
+    requires { Ready sheet.now contents calendars.now t tables.old × (i < contents.activities) }
+    ensures { Row (plan_of sheet.now contents) i (state tables.old) (state tables.new) result × SameSlice tables.old tables.new }
 {
-    let a = contents.activities;
-    let l = contents.links;
-    let mark = memory::get_act(work, a, l, i, memory::fields::IS_SUMMARY);
+    let mark = tables.act(i, memory::fields::IS_SUMMARY);
     if mark != 0 {
-        keep(work, a, l, i, Actual::Unstarted, 0);
+        keep(tables, i, Actual::Unstarted, 0);
         return Ok(());
     }
     let activity = dates::activity_of(sheet, contents, i);
@@ -198,9 +183,9 @@ fn record_one(
     let last = activity.actual_finish;
     let status = project::status_of(first, last);
     let Status::NotStarted = status else {
-        return record_dated(sheet, contents, calendars, work, i, activity, whole);
+        return record_dated(sheet, contents, calendars, tables, i, activity, whole);
     };
-    keep(work, a, l, i, Actual::Unstarted, whole);
+    keep(tables, i, Actual::Unstarted, whole);
     Ok(())
 }
 
@@ -210,13 +195,13 @@ pub fn remaining(
     contents: Contents,
     calendars: &[PlanCalendar],
     t: usize,
-    work: &mut [i64],
+    tables: &mut Tables,
 ) -> Result<(), ClockError>
-    requires { Ready sheet.now contents calendars.now t work.old }
-    ensures { (ended (left_in (plan_of sheet.now contents) (state_of contents.activities contents.links work.new)) result ≡ remaining (plan_of sheet.now contents)) × (result ≡ (Ok tt) → Recorded (plan_of sheet.now contents) (state_of contents.activities contents.links work.new)) × Frame 14 20 0 0 (state_of contents.activities contents.links work.old) (state_of contents.activities contents.links work.new) × (length work.new ≡ length work.old) }
+    requires { Ready sheet.now contents calendars.now t tables.old }
+    ensures { (ended (left_in (plan_of sheet.now contents) (state tables.new)) result ≡ remaining (plan_of sheet.now contents)) × (result ≡ (Ok tt) → Recorded (plan_of sheet.now contents) (state tables.new)) × Frame 14 20 0 0 (state tables.old) (state tables.new) × SameSlice tables.old tables.new }
 {
     for i in 0..contents.activities {
-        record_one(sheet, contents, calendars, t, work, i)?;
+        record_one(sheet, contents, calendars, t, tables, i)?;
     }
     Ok(())
 }

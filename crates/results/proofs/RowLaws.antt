@@ -5,7 +5,9 @@ use Rattle.std.proofs.Common.{sym, ◌∙◌, ⊎_elim, add-one, arith}
 use Rattle.std.proofs.Math.Path.{ap}
 use Prim.Native.Nat.{ℕ, zero, suc, ◌+◌, ◌≤◌, ◌<◌}
 use Rattle.number.specs.Order.{lt_or_le}
-use Rattle.memory.specs.State.{State, state_of, put_act_z}
+use Rattle.memory.specs.State.{State, put_act_z}
+use Rattle.memory.specs.declared.Tables.{Tables}
+use Rattle.memory.specs.Seen.{state, SameSlice}
 use Rattle.memory.specs.Fields.{late_start, late_finish, early_start, early_finish, work_left, free_float, longest_path, recorded_as, recorded_start, recorded_finish, shown_start, shown_finish, shown_late_start, shown_late_finish, total_float, shown_free, is_critical, is_longest, greatest_finish, greatest_late}
 use Rattle.topology.specs.Frame.{Frame}
 use Rattle.topology.specs.FrameLaws.{outside_below, frame_refl, frame_put, frame_then}
@@ -35,8 +37,8 @@ use Rattle.results.specs.Row.{ToShow, row_shown}
 use Rattle.results.specs.RowLaws.{shown_next}
 
 -- ---- what is lent
-module _ {s : List ℕ} {c : Contents} {calendars : List PlanCalendar} {xs : List ℤ} where
-  pub to_show : {t : ℕ} → Ready s c calendars t xs → Lengths (plan_of s c) calendars → Recorded (plan_of s c) (state_of c.activities c.links xs) → ToShow s c calendars xs
+module _ {s : List ℕ} {c : Contents} {calendars : List PlanCalendar} {tables : Tables} where
+  pub to_show : {t : ℕ} → Ready s c calendars t tables → Lengths (plan_of s c) calendars → Recorded (plan_of s c) (state tables) → ToShow s c calendars tables
   unfolding plan_of
   to_show R L D = record {
     read = R.read;
@@ -48,9 +50,9 @@ module _ {s : List ℕ} {c : Contents} {calendars : List PlanCalendar} {xs : Lis
   }
 
   -- it stays where only later fields change
-  pub to_show_kept : {lo hi : ℕ} {ys : List ℤ} → 20 ≤ lo → Frame lo hi 0 0 (state_of c.activities c.links xs) (state_of c.activities c.links ys)
-      → length ys ≡ length xs → ToShow s c calendars xs → ToShow s c calendars ys
-  to_show_kept {lo} {hi} {ys} l F e W = record {
+  pub to_show_kept : {lo hi : ℕ} {tables' : Tables} → 20 ≤ lo → Frame lo hi 0 0 (state tables) (state tables')
+      → SameSlice tables tables' → ToShow s c calendars tables → ToShow s c calendars tables'
+  to_show_kept {lo} {hi} {tables'} l F e W = record {
     read = W.read;
     room = omega (arith, W.room);
     located = W.located;

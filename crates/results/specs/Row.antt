@@ -1,6 +1,8 @@
 -- What the results are lent, and what is shown of an activity by its row of the memory.
 use Rattle.std.specs.Prelude.{List, ℕ, ◌<◌, ℤ}
-use Rattle.memory.specs.State.{State, Room, state_of}
+use Rattle.memory.specs.State.{State, Room}
+use Rattle.memory.specs.declared.Tables.{Tables}
+use Rattle.memory.specs.Seen.{state}
 use Rattle.sheet.specs.declared.Contents.{Contents}
 use Rattle.sheet.specs.Known.{SheetRead}
 use Rattle.order.specs.Plan.{Plan, plan_of}
@@ -16,13 +18,13 @@ use Rattle.results.specs.View.{times_in}
 use Rattle.results.specs.Showing.{shown_from}
 
 -- a sheet that was read, its calendars' places and day lengths, each activity's calendar among them, and the recorded work in the memory
-pub record ToShow (s : List ℕ) (c : Contents) (calendars : List PlanCalendar) (xs : List ℤ) : Type 0 where
+pub record ToShow (s : List ℕ) (c : Contents) (calendars : List PlanCalendar) (tables : Tables) : Type 0 where
   pub read : SheetRead s c
-  pub room : Room c.activities c.links xs
+  pub room : Room c.activities c.links tables
   pub located : Places s c calendars
   pub days : Lengths (plan_of s c) calendars
   pub named : (i : ℕ) → i < c.activities → calendar_of (plan_of s c) i < c.calendars
-  pub recorded : Recorded (plan_of s c) (state_of c.activities c.links xs)
+  pub recorded : Recorded (plan_of s c) (state tables)
 
 -- what is shown of activity i, by its row
 unfoldable pub row_shown : Plan → State → ℕ → Pass Shown

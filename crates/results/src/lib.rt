@@ -4,7 +4,7 @@
 ghost use Rattle.std.specs.Prelude.{◌≡◌, Bool, ℕ, ◌+◌, ◌-◌, ◌^◌, ◌≤◌, ◌<◌, pos, ◌*ℤ◌, length, Ok};
 ghost use Rattle.number.specs.Bit.{bit};
 ghost use Rattle.clock.specs.On.{worked_by};
-ghost use Rattle.memory.specs.State.{Room, state_of};
+ghost use Rattle.memory.specs.Seen.{state, SameSlice};
 ghost use Rattle.order.specs.Plan.{Plan, plan_of};
 ghost use Rattle.passes.specs.Floats.{float_by};
 ghost use Rattle.results.specs.Results.{start_minute, finish_minute, total_by, shown_below};
@@ -17,6 +17,7 @@ ghost use Rattle.results.specs.Showing.{Holds, DaysHold, HoldsIf, showing, all_i
 
 use calendar::Calendar;
 use calendars::PlanCalendar;
+use memory::Tables;
 use placing::Actual;
 use project::{ActivityKind, CriticalBy, FloatKind, Project};
 use sheet::Contents;
@@ -200,17 +201,17 @@ fn shown_of(
 }
 
 // ---- an activity's row of the memory
-pub fn times_at(work: &[i64], a: usize, l: usize, i: usize) -> Times
-    requires { Room a l work.now × (i < a) }
-    ensures { (result ≡ times_in (state_of a l work.now) i) × (result.ef < 2 ^ 63) × (result.lf < 2 ^ 63) × (result.free < 2 ^ 63) }
+pub fn times_at(tables: &Tables, i: usize) -> Times
+    requires { (i < tables.now.activities) }
+    ensures { (result ≡ times_in (state tables.now) i) × (result.ef < 2 ^ 63) × (result.lf < 2 ^ 63) × (result.free < 2 ^ 63) }
 {
-    let es = memory::get_act(work, a, l, i, memory::fields::EARLY_START);
-    let ef = memory::get_act(work, a, l, i, memory::fields::EARLY_FINISH);
-    let left = memory::get_act(work, a, l, i, memory::fields::WORK_LEFT);
-    let ls = memory::get_act(work, a, l, i, memory::fields::LATE_START);
-    let lf = memory::get_act(work, a, l, i, memory::fields::LATE_FINISH);
-    let free = memory::get_act(work, a, l, i, memory::fields::FREE_FLOAT);
-    let path = memory::get_act(work, a, l, i, memory::fields::LONGEST_PATH) > 0;
+    let es = tables.act(i, memory::fields::EARLY_START);
+    let ef = tables.act(i, memory::fields::EARLY_FINISH);
+    let left = tables.act(i, memory::fields::WORK_LEFT);
+    let ls = tables.act(i, memory::fields::LATE_START);
+    let lf = tables.act(i, memory::fields::LATE_FINISH);
+    let free = tables.act(i, memory::fields::FREE_FLOAT);
+    let path = tables.act(i, memory::fields::LONGEST_PATH) > 0;
     Times {
         es,
         ef,
@@ -222,29 +223,29 @@ pub fn times_at(work: &[i64], a: usize, l: usize, i: usize) -> Times
     }
 }
 
-fn days_at(work: &[i64], a: usize, l: usize, i: usize) -> Days
-    requires { Room a l work.now × (i < a) }
-    ensures { (result ≡ days_in (state_of a l work.now) i) × DaysHold result }
+fn days_at(tables: &Tables, i: usize) -> Days
+    requires { (i < tables.now.activities) }
+    ensures { (result ≡ days_in (state tables.now) i) × DaysHold result }
 {
-    let es = memory::get_act(work, a, l, i, memory::fields::SHOWN_START);
-    let ef = memory::get_act(work, a, l, i, memory::fields::SHOWN_FINISH);
-    let ls = memory::get_act(work, a, l, i, memory::fields::SHOWN_LATE_START);
-    let lf = memory::get_act(work, a, l, i, memory::fields::SHOWN_LATE_FINISH);
+    let es = tables.act(i, memory::fields::SHOWN_START);
+    let ef = tables.act(i, memory::fields::SHOWN_FINISH);
+    let ls = tables.act(i, memory::fields::SHOWN_LATE_START);
+    let lf = tables.act(i, memory::fields::SHOWN_LATE_FINISH);
     Days { es, ef, ls, lf }
 }
 
 // What is shown of activity `i`, from its row.
-pub fn shown_at(work: &[i64], a: usize, l: usize, i: usize) -> Shown
-    requires { Room a l work.now × (i < a) }
-    ensures { (result ≡ shown_at (state_of a l work.now) i) × Holds result }
+pub fn shown_at(tables: &Tables, i: usize) -> Shown
+    requires { (i < tables.now.activities) }
+    ensures { (result ≡ shown_at (state tables.now) i) × Holds result }
 {
-    let d = days_at(work, a, l, i);
-    let total = memory::get_act_signed(work, a, l, i, memory::fields::TOTAL_FLOAT);
-    let free = memory::get_act(work, a, l, i, memory::fields::SHOWN_FREE);
-    let critical = memory::get_act(work, a, l, i, memory::fields::IS_CRITICAL) > 0;
-    let path = memory::get_act(work, a, l, i, memory::fields::IS_LONGEST) > 0;
-    let finish = memory::get_act(work, a, l, i, memory::fields::GREATEST_FINISH);
-    let late = memory::get_act(work, a, l, i, memory::fields::GREATEST_LATE);
+    let d = days_at(tables, i);
+    let total = tables.act_signed(i, memory::fields::TOTAL_FLOAT);
+    let free = tables.act(i, memory::fields::SHOWN_FREE);
+    let critical = tables.act(i, memory::fields::IS_CRITICAL) > 0;
+    let path = tables.act(i, memory::fields::IS_LONGEST) > 0;
+    let finish = tables.act(i, memory::fields::GREATEST_FINISH);
+    let late = tables.act(i, memory::fields::GREATEST_LATE);
     Shown {
         es: d.es,
         ef: d.ef,
@@ -265,49 +266,42 @@ pub fn number_of(b: bool) -> u64
     b as u64
 }
 
-fn put_days(work: &mut [i64], a: usize, l: usize, i: usize, x: Shown)
-    requires { Room a l work.old × (i < a) × Holds x }
-    ensures { (state_of a l work.new ≡ put_days (state_of a l work.old) i x) × (length work.new ≡ length work.old) }
+fn put_days(tables: &mut Tables, i: usize, x: Shown)
+    requires { (i < tables.old.activities) × Holds x }
+    ensures { (state tables.new ≡ put_days (state tables.old) i x) × SameSlice tables.old tables.new }
 {
-    memory::put_act(work, a, l, i, memory::fields::SHOWN_START, x.es);
-    memory::put_act(work, a, l, i, memory::fields::SHOWN_FINISH, x.ef);
-    memory::put_act(work, a, l, i, memory::fields::SHOWN_LATE_START, x.ls);
-    memory::put_act(work, a, l, i, memory::fields::SHOWN_LATE_FINISH, x.lf);
+    tables.put_act(i, memory::fields::SHOWN_START, x.es);
+    tables.put_act(i, memory::fields::SHOWN_FINISH, x.ef);
+    tables.put_act(i, memory::fields::SHOWN_LATE_START, x.ls);
+    tables.put_act(i, memory::fields::SHOWN_LATE_FINISH, x.lf);
 }
 
-fn put_floats(work: &mut [i64], a: usize, l: usize, i: usize, x: Shown)
-    requires { Room a l work.old × (i < a) × Holds x }
-    ensures { (state_of a l work.new ≡ put_floats (state_of a l work.old) i x) × (length work.new ≡ length work.old) }
+fn put_floats(tables: &mut Tables, i: usize, x: Shown)
+    requires { (i < tables.old.activities) × Holds x }
+    ensures { (state tables.new ≡ put_floats (state tables.old) i x) × SameSlice tables.old tables.new }
 {
-    memory::put_act_signed(work, a, l, i, memory::fields::TOTAL_FLOAT, x.total);
-    memory::put_act(work, a, l, i, memory::fields::SHOWN_FREE, x.free);
-    memory::put_act(
-        work,
-        a,
-        l,
-        i,
-        memory::fields::IS_CRITICAL,
-        number_of(x.critical),
-    );
-    memory::put_act(work, a, l, i, memory::fields::IS_LONGEST, number_of(x.path));
+    tables.put_act_signed(i, memory::fields::TOTAL_FLOAT, x.total);
+    tables.put_act(i, memory::fields::SHOWN_FREE, x.free);
+    tables.put_act(i, memory::fields::IS_CRITICAL, number_of(x.critical));
+    tables.put_act(i, memory::fields::IS_LONGEST, number_of(x.path));
 }
 
-fn put_bounds(work: &mut [i64], a: usize, l: usize, i: usize, x: Shown)
-    requires { Room a l work.old × (i < a) × Holds x }
-    ensures { (state_of a l work.new ≡ put_bounds (state_of a l work.old) i x) × (length work.new ≡ length work.old) }
+fn put_bounds(tables: &mut Tables, i: usize, x: Shown)
+    requires { (i < tables.old.activities) × Holds x }
+    ensures { (state tables.new ≡ put_bounds (state tables.old) i x) × SameSlice tables.old tables.new }
 {
-    memory::put_act(work, a, l, i, memory::fields::GREATEST_FINISH, x.finish);
-    memory::put_act(work, a, l, i, memory::fields::GREATEST_LATE, x.late);
+    tables.put_act(i, memory::fields::GREATEST_FINISH, x.finish);
+    tables.put_act(i, memory::fields::GREATEST_LATE, x.late);
 }
 
 // Puts what is shown into the row of activity `i`.
-pub fn put_shown(work: &mut [i64], a: usize, l: usize, i: usize, x: Shown)
-    requires { Room a l work.old × (i < a) × Holds x }
-    ensures { (state_of a l work.new ≡ put_shown (state_of a l work.old) i x) × (length work.new ≡ length work.old) }
+pub fn put_shown(tables: &mut Tables, i: usize, x: Shown)
+    requires { (i < tables.old.activities) × Holds x }
+    ensures { (state tables.new ≡ put_shown (state tables.old) i x) × SameSlice tables.old tables.new }
 {
-    put_days(work, a, l, i, x);
-    put_floats(work, a, l, i, x);
-    put_bounds(work, a, l, i, x);
+    put_days(tables, i, x);
+    put_floats(tables, i, x);
+    put_bounds(tables, i, x);
 }
 
 // ---- all activities
@@ -317,18 +311,18 @@ fn row_of(
     contents: Contents,
     calendars: &[PlanCalendar],
     project: Project,
-    work: &[i64],
+    tables: &Tables,
     i: usize,
 ) -> Result<Shown, ClockError>
-    requires { ToShow sheet.now contents calendars.now work.now × (i < contents.activities) × (project ≡ (plan_of sheet.now contents).project) }
-    ensures { (showing result ≡ row_shown (plan_of sheet.now contents) (state_of contents.activities contents.links work.now) i) × HoldsIf result }
+    requires { ToShow sheet.now contents calendars.now tables.now × (i < contents.activities) × (project ≡ (plan_of sheet.now contents).project) }
+    ensures { (showing result ≡ row_shown (plan_of sheet.now contents) (state tables.now) i) × HoldsIf result }
 {
     let activity = dates::activity_of(sheet, contents, i);
     let kind = activity.kind;
     let k = activity.calendar as usize;
     let calendar = calendars::calendar_of(sheet, contents, calendars, k);
-    let actual = dates::recorded_at(work, contents.activities, contents.links, i);
-    let t = times_at(work, contents.activities, contents.links, i);
+    let actual = dates::recorded_at(tables, i);
+    let t = times_at(tables, i);
     shown_of(project, kind, calendars[k].day_length, actual, t, &calendar)
 }
 
@@ -338,14 +332,14 @@ fn show_one(
     contents: Contents,
     calendars: &[PlanCalendar],
     project: Project,
-    work: &mut [i64],
+    tables: &mut Tables,
     i: usize,
 ) -> Result<(), ClockError>
-    requires { ToShow sheet.now contents calendars.now work.old × (i < contents.activities) × (project ≡ (plan_of sheet.now contents).project) }
-    ensures { (ended (shown_to (i + 1) (state_of contents.activities contents.links work.new)) result ≡ shown_next (row_shown (plan_of sheet.now contents) (state_of contents.activities contents.links work.old) i) (shown_to i (state_of contents.activities contents.links work.old)) i) × Frame 20 30 0 0 (state_of contents.activities contents.links work.old) (state_of contents.activities contents.links work.new) × (length work.new ≡ length work.old) }
+    requires { ToShow sheet.now contents calendars.now tables.old × (i < contents.activities) × (project ≡ (plan_of sheet.now contents).project) }
+    ensures { (ended (shown_to (i + 1) (state tables.new)) result ≡ shown_next (row_shown (plan_of sheet.now contents) (state tables.old) i) (shown_to i (state tables.old)) i) × Frame 20 30 0 0 (state tables.old) (state tables.new) × SameSlice tables.old tables.new }
 {
-    let x = row_of(sheet, contents, calendars, project, work, i)?;
-    put_shown(work, contents.activities, contents.links, i, x);
+    let x = row_of(sheet, contents, calendars, project, tables, i)?;
+    put_shown(tables, i, x);
     Ok(())
 }
 
@@ -354,14 +348,14 @@ pub fn show_all(
     sheet: &[u8],
     contents: Contents,
     calendars: &[PlanCalendar],
-    work: &mut [i64],
+    tables: &mut Tables,
 ) -> Result<(), ClockError>
-    requires { ToShow sheet.now contents calendars.now work.old }
-    ensures { ((e : ℕ) (other : ℕ → Bool) → ended (shown_to contents.activities (state_of contents.activities contents.links work.new)) result ≡ shown_below (plan_of sheet.now contents) (ran_in (plan_of sheet.now contents) (state_of contents.activities contents.links work.old) e other) contents.activities) × Frame 20 30 0 0 (state_of contents.activities contents.links work.old) (state_of contents.activities contents.links work.new) × (length work.new ≡ length work.old) }
+    requires { ToShow sheet.now contents calendars.now tables.old }
+    ensures { ((e : ℕ) (other : ℕ → Bool) → ended (shown_to contents.activities (state tables.new)) result ≡ shown_below (plan_of sheet.now contents) (ran_in (plan_of sheet.now contents) (state tables.old) e other) contents.activities) × Frame 20 30 0 0 (state tables.old) (state tables.new) × SameSlice tables.old tables.new }
 {
     let project = project::records::read_project(sheet, 0);
     for i in 0..contents.activities {
-        show_one(sheet, contents, calendars, project, work, i)?;
+        show_one(sheet, contents, calendars, project, tables, i)?;
     }
     Ok(())
 }

@@ -6,7 +6,9 @@ use Rattle.std.proofs.Common.{sym, ◌∙◌, arith}
 use Rattle.std.proofs.Math.Bool.{true, false}
 use Prim.Native.Nat.{ℕ, zero, suc, ◌≤◌, ◌<◌}
 use Rattle.number.specs.Bit.{bit}
-use Rattle.memory.specs.State.{State, state_of}
+use Rattle.memory.specs.State.{State}
+use Rattle.memory.specs.declared.Tables.{Tables}
+use Rattle.memory.specs.Seen.{state}
 use Rattle.memory.specs.Fields.{parent, is_summary, depth_of, first_deep, next_deep, first_child, shown_start, shown_finish, shown_late_start, shown_late_finish, total_float, shown_free, is_critical, is_longest, greatest_finish, greatest_late}
 use Rattle.topology.specs.Frame.{Frame}
 use Rattle.topology.specs.FrameLaws.{outside_below, frame_then, frame_wider}
@@ -116,7 +118,7 @@ to_roll_kept p {lo} {hi} {S} {T} l F W = record {
 pub keys_in : (p : Plan) (S : State) → ToRoll p S → KeysIn parent p.activities S
 keys_in p S W j b = omega (arith, W.parents j b, W.within j b)
 
-pub to_roll : {s : List ℕ} {c : Contents} {calendars : List PlanCalendar} {t : ℕ} {xs : List ℤ} → Ready s c calendars t xs → ToRoll (plan_of s c) (state_of c.activities c.links xs)
+pub to_roll : {s : List ℕ} {c : Contents} {calendars : List PlanCalendar} {t : ℕ} {tables : Tables} → Ready s c calendars t tables → ToRoll (plan_of s c) (state tables)
 to_roll {s} {c} R = record {
   parents = R.standing.parents;
   marks = R.standing.marks;

@@ -2,7 +2,8 @@
 #![tactic(auto)]
 
 ghost use Rattle.std.specs.Prelude.{◌≡◌, Bool, ℕ, ◌+◌, ◌^◌, ◌≤◌, ◌<◌, length};
-ghost use Rattle.memory.specs.State.{Room, state_of, put_act};
+ghost use Rattle.memory.specs.State.{put_act};
+ghost use Rattle.memory.specs.Seen.{state, SameSlice};
 ghost use Rattle.memory.specs.Fields.{parent, depth_of, first_child};
 ghost use Rattle.topology.specs.Frame.{Frame};
 ghost use Rattle.network.specs.ParentLinks.{depth};
@@ -25,6 +26,7 @@ ghost use Rattle.rollup.specs.Depths.{depth_key, DepthsTo};
 ghost use Rattle.rollup.specs.Roll.{joined, child_sum};
 
 use calendars::PlanCalendar;
+use memory::Tables;
 use project::Project;
 use results::Shown;
 use sheet::Contents;
@@ -33,74 +35,74 @@ use worktime::ClockError;
 // ---- chains through the activities
 // They are not `memory::chain`'s: those chain links by an activity, these activities by a key that may be none, and in another table.
 // Puts activity `c` before those with its key.
-fn chain_one(work: &mut [i64], a: usize, l: usize, key: usize, head: usize, c: usize)
-    requires { Room a l work.old × (c < a) × (key < head) × (head + 2 ≤ 64) × KeysIn key a (state_of a l work.old) × LinkedIn key head a (c + 1) (state_of a l work.old) }
-    ensures { LinkedIn key head a c (state_of a l work.new) × Frame head (head + 2) 0 0 (state_of a l work.old) (state_of a l work.new) × (length work.new ≡ length work.old) }
+fn chain_one(tables: &mut Tables, key: usize, head: usize, c: usize)
+    requires { (c < tables.old.activities) × (key < head) × (head + 2 ≤ 64) × KeysIn key tables.old.activities (state tables.old) × LinkedIn key head tables.old.activities (c + 1) (state tables.old) }
+    ensures { LinkedIn key head tables.old.activities c (state tables.new) × Frame head (head + 2) 0 0 (state tables.old) (state tables.new) × SameSlice tables.old tables.new }
 {
-    let k = memory::get_act(work, a, l, c, key) as usize;
+    let k = tables.act(c, key) as usize;
     if k == 0 {
         return;
     }
-    let first = memory::get_act(work, a, l, k - 1, head);
-    memory::put_act(work, a, l, c, head + 1, first);
-    memory::put_act(work, a, l, k - 1, head, c as u64);
+    let first = tables.act(k - 1, head);
+    tables.put_act(c, head + 1, first);
+    tables.put_act(k - 1, head, c as u64);
 }
 
 // Puts all activities before those with their keys, from the last to the first.
-fn chain_down(work: &mut [i64], a: usize, l: usize, key: usize, head: usize)
-    requires { Room a l work.old × (key < head) × (head + 2 ≤ 64) × KeysIn key a (state_of a l work.old) × LinkedIn key head a a (state_of a l work.old) }
-    ensures { LinkedIn key head a 0 (state_of a l work.new) × Frame head (head + 2) 0 0 (state_of a l work.old) (state_of a l work.new) × (length work.new ≡ length work.old) }
+fn chain_down(tables: &mut Tables, key: usize, head: usize)
+    requires { (key < head) × (head + 2 ≤ 64) × KeysIn key tables.old.activities (state tables.old) × LinkedIn key head tables.old.activities tables.old.activities (state tables.old) }
+    ensures { LinkedIn key head tables.old.activities 0 (state tables.new) × Frame head (head + 2) 0 0 (state tables.old) (state tables.new) × SameSlice tables.old tables.new }
 {
     for c in (0..a).rev() {
-        chain_one(work, a, l, key, head, c);
+        chain_one(tables, key, head, c);
     }
 }
 
 // Chains the activities by the field `key`, where 0 is no key: `head` of row i is the first whose key is i + 1, and the field after it the next with the same key.
-fn chain(work: &mut [i64], a: usize, l: usize, key: usize, head: usize)
-    requires { Room a l work.old × (a < 2 ^ 63) × (key < head) × (head + 2 ≤ 64) × KeysIn key a (state_of a l work.old) }
-    ensures { LinkedIn key head a 0 (state_of a l work.new) × Frame head (head + 2) 0 0 (state_of a l work.old) (state_of a l work.new) × (length work.new ≡ length work.old) }
+fn chain(tables: &mut Tables, key: usize, head: usize)
+    requires { (tables.old.activities < 2 ^ 63) × (key < head) × (head + 2 ≤ 64) × KeysIn key tables.old.activities (state tables.old) }
+    ensures { LinkedIn key head tables.old.activities 0 (state tables.new) × Frame head (head + 2) 0 0 (state tables.old) (state tables.new) × SameSlice tables.old tables.new }
 {
-    memory::fill_act(work, a, l, head, a as u64);
-    chain_down(work, a, l, key, head);
+    tables.fill_act(head, tables.activities as u64);
+    chain_down(tables, key, head);
 }
 
 // ---- depths
 // How deep activity `i` lies: 1 where it has no parent.
-fn depth_of(work: &[i64], a: usize, l: usize, i: usize) -> usize
-    requires { Room a l work.now × (i < a) × KeysIn parent a (state_of a l work.now) }
-    ensures { (result ≡ depth ((state_of a l work.now).act parent) a i) × (result ≤ a) }
+fn depth_of(tables: &Tables, i: usize) -> usize
+    requires { (i < tables.now.activities) × KeysIn parent tables.now.activities (state tables.now) }
+    ensures { (result ≡ depth ((state tables.now).act parent) tables.now.activities i) × (result ≤ tables.now.activities) }
 {
     let mut y = i + 1;
     for k in 0..a {
         if y == 0 {
             return k;
         }
-        y = memory::get_act(work, a, l, y - 1, memory::fields::PARENT) as usize;
+        y = tables.act(y - 1, memory::fields::PARENT) as usize;
     }
-    a
+    tables.activities
 }
 
 // Puts the depth of activity `i` into its row, where it is a summary, and else 0.
-fn mark_one(work: &mut [i64], a: usize, l: usize, i: usize)
-    requires { Room a l work.old × (a < 2 ^ 63) × (i < a) × KeysIn parent a (state_of a l work.old) }
-    ensures { (state_of a l work.new ≡ put_act (state_of a l work.old) depth_of i (depth_key (state_of a l work.old) a i)) × (length work.new ≡ length work.old) }
+fn mark_one(tables: &mut Tables, i: usize)
+    requires { (tables.old.activities < 2 ^ 63) × (i < tables.old.activities) × KeysIn parent tables.old.activities (state tables.old) }
+    ensures { (state tables.new ≡ put_act (state tables.old) depth_of i (depth_key (state tables.old) tables.old.activities i)) × SameSlice tables.old tables.new }
 {
-    if memory::get_act(work, a, l, i, memory::fields::IS_SUMMARY) == 0 {
-        memory::put_act(work, a, l, i, memory::fields::DEPTH_OF, 0);
+    if tables.act(i, memory::fields::IS_SUMMARY) == 0 {
+        tables.put_act(i, memory::fields::DEPTH_OF, 0);
         return;
     }
-    let d = depth_of(work, a, l, i) as u64;
-    memory::put_act(work, a, l, i, memory::fields::DEPTH_OF, d);
+    let d = depth_of(tables, i) as u64;
+    tables.put_act(i, memory::fields::DEPTH_OF, d);
 }
 
 // Puts the depth of each summary into its row, and 0 into the others'.
-fn mark_depths(work: &mut [i64], a: usize, l: usize)
-    requires { Room a l work.old × (a < 2 ^ 63) × KeysIn parent a (state_of a l work.old) }
-    ensures { DepthsTo (state_of a l work.old) (state_of a l work.new) a a × Frame 30 31 0 0 (state_of a l work.old) (state_of a l work.new) × (length work.new ≡ length work.old) }
+fn mark_depths(tables: &mut Tables)
+    requires { (tables.old.activities < 2 ^ 63) × KeysIn parent tables.old.activities (state tables.old) }
+    ensures { DepthsTo (state tables.old) (state tables.new) tables.old.activities tables.old.activities × Frame 30 31 0 0 (state tables.old) (state tables.new) × SameSlice tables.old tables.new }
 {
     for i in 0..a {
-        mark_one(work, a, l, i);
+        mark_one(tables, i);
     }
 }
 
@@ -123,16 +125,16 @@ fn join(x: Shown, y: Shown) -> Shown
 }
 
 // The children of summary `s`, joined, from the first of them on.
-fn sum_children(work: &[i64], a: usize, l: usize, s: usize, first: usize) -> Shown
-    requires { Room a l work.now × (s < a) × LinkedIn parent first_child a 0 (state_of a l work.now) × (first ≡ (state_of a l work.now).act first_child s) × (first < a) }
-    ensures { (result ≡ child_sum (state_of a l work.now) a s) × Holds result }
+fn sum_children(tables: &Tables, s: usize, first: usize) -> Shown
+    requires { (s < tables.now.activities) × LinkedIn parent first_child tables.now.activities 0 (state tables.now) × (first ≡ (state tables.now).act first_child s) × (first < tables.now.activities) }
+    ensures { (result ≡ child_sum (state tables.now) tables.now.activities s) × Holds result }
 {
-    let mut x = results::shown_at(work, a, l, first);
-    let mut k = memory::get_act(work, a, l, first, memory::fields::NEXT_CHILD) as usize;
+    let mut x = results::shown_at(tables, first);
+    let mut k = tables.act(first, memory::fields::NEXT_CHILD) as usize;
     // The next child comes from the memory: no range or iterator of std gives it, and an iterator of our own would need its own proof for this one loop.
-    while k < a {
-        x = join(x, results::shown_at(work, a, l, k));
-        k = memory::get_act(work, a, l, k, memory::fields::NEXT_CHILD) as usize;
+    while k < tables.activities {
+        x = join(x, results::shown_at(tables, k));
+        k = tables.act(k, memory::fields::NEXT_CHILD) as usize;
     }
     x
 }
@@ -170,25 +172,19 @@ fn roll_one(
     contents: Contents,
     calendars: &[PlanCalendar],
     project: Project,
-    work: &mut [i64],
+    tables: &mut Tables,
     s: usize,
 ) -> Result<(), ClockError>
-    requires { ToShow sheet.now contents calendars.now work.old × Deep (plan_of sheet.now contents) (state_of contents.activities contents.links work.old) × (s < contents.activities) × (project ≡ (plan_of sheet.now contents).project) }
-    ensures { ((q : Ran) → ended (shown_in (plan_of sheet.now contents) (state_of contents.activities contents.links work.new)) result ≡ rolled (plan_of sheet.now contents) q (shown_in (plan_of sheet.now contents) (state_of contents.activities contents.links work.old)) s) × Frame 20 30 0 0 (state_of contents.activities contents.links work.old) (state_of contents.activities contents.links work.new) × (length work.new ≡ length work.old) }
+    requires { ToShow sheet.now contents calendars.now tables.old × Deep (plan_of sheet.now contents) (state tables.old) × (s < contents.activities) × (project ≡ (plan_of sheet.now contents).project) }
+    ensures { ((q : Ran) → ended (shown_in (plan_of sheet.now contents) (state tables.new)) result ≡ rolled (plan_of sheet.now contents) q (shown_in (plan_of sheet.now contents) (state tables.old)) s) × Frame 20 30 0 0 (state tables.old) (state tables.new) × SameSlice tables.old tables.new }
 {
-    let first = memory::get_act(
-        work,
-        contents.activities,
-        contents.links,
-        s,
-        memory::fields::FIRST_CHILD,
-    ) as usize;
+    let first = tables.act(s, memory::fields::FIRST_CHILD) as usize;
     if first >= contents.activities {
         return Ok(());
     }
-    let x = sum_children(work, contents.activities, contents.links, s, first);
+    let x = sum_children(tables, s, first);
     let y = summed_of(sheet, contents, calendars, project, s, x)?;
-    results::put_shown(work, contents.activities, contents.links, s, y);
+    results::put_shown(tables, s, y);
     Ok(())
 }
 
@@ -199,29 +195,17 @@ fn roll_depth(
     contents: Contents,
     calendars: &[PlanCalendar],
     project: Project,
-    work: &mut [i64],
+    tables: &mut Tables,
     d: usize,
 ) -> Result<(), ClockError>
-    requires { ToShow sheet.now contents calendars.now work.old × Deep (plan_of sheet.now contents) (state_of contents.activities contents.links work.old) × (0 < d) × (d ≤ contents.activities) × (project ≡ (plan_of sheet.now contents).project) }
-    ensures { ((q : Ran) → ended (shown_in (plan_of sheet.now contents) (state_of contents.activities contents.links work.new)) result ≡ through (rolled (plan_of sheet.now contents) q) (summaries_at (plan_of sheet.now contents) q d contents.activities) (shown_in (plan_of sheet.now contents) (state_of contents.activities contents.links work.old))) × Frame 20 30 0 0 (state_of contents.activities contents.links work.old) (state_of contents.activities contents.links work.new) × (length work.new ≡ length work.old) }
+    requires { ToShow sheet.now contents calendars.now tables.old × Deep (plan_of sheet.now contents) (state tables.old) × (0 < d) × (d ≤ contents.activities) × (project ≡ (plan_of sheet.now contents).project) }
+    ensures { ((q : Ran) → ended (shown_in (plan_of sheet.now contents) (state tables.new)) result ≡ through (rolled (plan_of sheet.now contents) q) (summaries_at (plan_of sheet.now contents) q d contents.activities) (shown_in (plan_of sheet.now contents) (state tables.old))) × Frame 20 30 0 0 (state tables.old) (state tables.new) × SameSlice tables.old tables.new }
 {
-    let mut k = memory::get_act(
-        work,
-        contents.activities,
-        contents.links,
-        d - 1,
-        memory::fields::FIRST_DEEP,
-    ) as usize;
+    let mut k = tables.act(d - 1, memory::fields::FIRST_DEEP) as usize;
     // As in `sum_children`, the next comes from the memory, which `roll_one` writes to meanwhile.
     while k < contents.activities {
-        roll_one(sheet, contents, calendars, project, work, k)?;
-        k = memory::get_act(
-            work,
-            contents.activities,
-            contents.links,
-            k,
-            memory::fields::NEXT_DEEP,
-        ) as usize;
+        roll_one(sheet, contents, calendars, project, tables, k)?;
+        k = tables.act(k, memory::fields::NEXT_DEEP) as usize;
     }
     Ok(())
 }
@@ -231,37 +215,25 @@ fn roll_all(
     contents: Contents,
     calendars: &[PlanCalendar],
     project: Project,
-    work: &mut [i64],
+    tables: &mut Tables,
 ) -> Result<(), ClockError>
-    requires { ToShow sheet.now contents calendars.now work.old × Deep (plan_of sheet.now contents) (state_of contents.activities contents.links work.old) × (project ≡ (plan_of sheet.now contents).project) }
-    ensures { ((q : Ran) → ended (shown_in (plan_of sheet.now contents) (state_of contents.activities contents.links work.new)) result ≡ through (rolled (plan_of sheet.now contents) q) (deepest_first (plan_of sheet.now contents) q contents.activities) (shown_in (plan_of sheet.now contents) (state_of contents.activities contents.links work.old))) × Frame 20 30 0 0 (state_of contents.activities contents.links work.old) (state_of contents.activities contents.links work.new) × (length work.new ≡ length work.old) }
+    requires { ToShow sheet.now contents calendars.now tables.old × Deep (plan_of sheet.now contents) (state tables.old) × (project ≡ (plan_of sheet.now contents).project) }
+    ensures { ((q : Ran) → ended (shown_in (plan_of sheet.now contents) (state tables.new)) result ≡ through (rolled (plan_of sheet.now contents) q) (deepest_first (plan_of sheet.now contents) q contents.activities) (shown_in (plan_of sheet.now contents) (state tables.old))) × Frame 20 30 0 0 (state tables.old) (state tables.new) × SameSlice tables.old tables.new }
 {
     for d in (0..contents.activities).rev() {
-        roll_depth(sheet, contents, calendars, project, work, d + 1)?;
+        roll_depth(sheet, contents, calendars, project, tables, d + 1)?;
     }
     Ok(())
 }
 
 // Finds depths and chains for the roll-up.
-fn prepare(work: &mut [i64], a: usize, l: usize)
-    requires { Room a l work.old × (a < 2 ^ 63) × KeysIn parent a (state_of a l work.old) }
-    ensures { Prepared a (state_of a l work.old) (state_of a l work.new) × (length work.new ≡ length work.old) }
+fn prepare(tables: &mut Tables)
+    requires { (tables.old.activities < 2 ^ 63) × KeysIn parent tables.old.activities (state tables.old) }
+    ensures { Prepared tables.old.activities (state tables.old) (state tables.new) × SameSlice tables.old tables.new }
 {
-    mark_depths(work, a, l);
-    chain(
-        work,
-        a,
-        l,
-        memory::fields::DEPTH_OF,
-        memory::fields::FIRST_DEEP,
-    );
-    chain(
-        work,
-        a,
-        l,
-        memory::fields::PARENT,
-        memory::fields::FIRST_CHILD,
-    );
+    mark_depths(tables);
+    chain(tables, memory::fields::DEPTH_OF, memory::fields::FIRST_DEEP);
+    chain(tables, memory::fields::PARENT, memory::fields::FIRST_CHILD);
 }
 
 // Rolls up all summaries, deepest first.
@@ -269,14 +241,14 @@ fn roll_up(
     sheet: &[u8],
     contents: Contents,
     calendars: &[PlanCalendar],
-    work: &mut [i64],
+    tables: &mut Tables,
 ) -> Result<(), ClockError>
-    requires { ToShow sheet.now contents calendars.now work.old × ToRoll (plan_of sheet.now contents) (state_of contents.activities contents.links work.old) }
-    ensures { ((q : Ran) → ended (shown_in (plan_of sheet.now contents) (state_of contents.activities contents.links work.new)) result ≡ through (rolled (plan_of sheet.now contents) q) (deepest_first (plan_of sheet.now contents) q contents.activities) (shown_in (plan_of sheet.now contents) (state_of contents.activities contents.links work.old))) × Frame 20 35 0 0 (state_of contents.activities contents.links work.old) (state_of contents.activities contents.links work.new) × (length work.new ≡ length work.old) }
+    requires { ToShow sheet.now contents calendars.now tables.old × ToRoll (plan_of sheet.now contents) (state tables.old) }
+    ensures { ((q : Ran) → ended (shown_in (plan_of sheet.now contents) (state tables.new)) result ≡ through (rolled (plan_of sheet.now contents) q) (deepest_first (plan_of sheet.now contents) q contents.activities) (shown_in (plan_of sheet.now contents) (state tables.old))) × Frame 20 35 0 0 (state tables.old) (state tables.new) × SameSlice tables.old tables.new }
 {
     let project = project::records::read_project(sheet, 0);
-    prepare(work, contents.activities, contents.links);
-    roll_all(sheet, contents, calendars, project, work)
+    prepare(tables);
+    roll_all(sheet, contents, calendars, project, tables)
 }
 
 // The results: what is shown of each activity, and summaries rolled up from their children. `t` links are kept.
@@ -285,11 +257,11 @@ pub fn results(
     contents: Contents,
     calendars: &[PlanCalendar],
     t: usize,
-    work: &mut [i64],
+    tables: &mut Tables,
 ) -> Result<(), ClockError>
-    requires { Ready sheet.now contents calendars.now t work.old × Recorded (plan_of sheet.now contents) (state_of contents.activities contents.links work.old) × Lengths (plan_of sheet.now contents) calendars.now }
-    ensures { ((e : ℕ) (other : ℕ → Bool) → ended (shown_in (plan_of sheet.now contents) (state_of contents.activities contents.links work.new)) result ≡ results (plan_of sheet.now contents) (ran_in (plan_of sheet.now contents) (state_of contents.activities contents.links work.old) e other)) × Frame 20 35 0 0 (state_of contents.activities contents.links work.old) (state_of contents.activities contents.links work.new) × (length work.new ≡ length work.old) }
+    requires { Ready sheet.now contents calendars.now t tables.old × Recorded (plan_of sheet.now contents) (state tables.old) × Lengths (plan_of sheet.now contents) calendars.now }
+    ensures { ((e : ℕ) (other : ℕ → Bool) → ended (shown_in (plan_of sheet.now contents) (state tables.new)) result ≡ results (plan_of sheet.now contents) (ran_in (plan_of sheet.now contents) (state tables.old) e other)) × Frame 20 35 0 0 (state tables.old) (state tables.new) × SameSlice tables.old tables.new }
 {
-    results::show_all(sheet, contents, calendars, work)?;
-    roll_up(sheet, contents, calendars, work)
+    results::show_all(sheet, contents, calendars, tables)?;
+    roll_up(sheet, contents, calendars, tables)
 }

@@ -2,7 +2,7 @@
 #![tactic(auto)]
 
 ghost use Rattle.std.specs.Prelude.{◌≡◌, Bool, ◌++◌, ℕ, ◌+◌, ◌*◌, ◌^◌, ◌≤◌, ◌<◌, length, drop, Ok};
-ghost use Rattle.memory.specs.State.{Room, state_of};
+ghost use Rattle.memory.specs.Seen.{state};
 ghost use Rattle.sheet.specs.Known.{SheetRead};
 ghost use Rattle.order.specs.Plan.{plan_of};
 ghost use Rattle.passes.specs.Run.{Ran};
@@ -13,6 +13,7 @@ ghost use Rattle.results.specs.Showing.{Holds};
 ghost use Rattle.rows.specs.Writing.{ToWrite, stored_from, day_fields, float_fields, minute_if, work_fields, row_fields, row_in};
 
 use calendars::PlanCalendar;
+use memory::Tables;
 use placing::Actual;
 use results::Shown;
 use sheet::Contents;
@@ -129,24 +130,22 @@ fn write_row(
     sheet: &[u8],
     contents: Contents,
     calendars: &[PlanCalendar],
-    work: &[i64],
+    tables: &Tables,
     results: &mut [i64],
     i: usize,
 )
-    requires { ToWrite sheet.now contents calendars.now work.now × (i < contents.activities) × (15 * i + 15 ≤ length results.old) }
-    ensures { results.new ≡ stored_from results.old (15 * i) 0 (row_in (plan_of sheet.now contents) (state_of contents.activities contents.links work.now) i) }
+    requires { ToWrite sheet.now contents calendars.now tables.now × (i < contents.activities) × (15 * i + 15 ≤ length results.old) }
+    ensures { results.new ≡ stored_from results.old (15 * i) 0 (row_in (plan_of sheet.now contents) (state tables.now) i) }
 {
-    let a = contents.activities;
-    let l = contents.links;
     let activity = dates::activity_of(sheet, contents, i);
     let k = activity.calendar as usize;
     let id = activity.id as u64;
-    let x = results::shown_at(work, a, l, i);
-    let actual = dates::recorded_at(work, a, l, i);
-    let is_summary = memory::get_act(work, a, l, i, memory::fields::IS_SUMMARY) > 0;
-    let left = memory::get_act(work, a, l, i, memory::fields::WORK_LEFT);
-    let es = memory::get_act(work, a, l, i, memory::fields::EARLY_START);
-    let ef = memory::get_act(work, a, l, i, memory::fields::EARLY_FINISH);
+    let x = results::shown_at(tables, i);
+    let actual = dates::recorded_at(tables, i);
+    let is_summary = tables.act(i, memory::fields::IS_SUMMARY) > 0;
+    let left = tables.act(i, memory::fields::WORK_LEFT);
+    let es = tables.act(i, memory::fields::EARLY_START);
+    let ef = tables.act(i, memory::fields::EARLY_FINISH);
     write_fields(
         results,
         15 * i,
@@ -166,31 +165,25 @@ pub fn write_rows(
     sheet: &[u8],
     contents: Contents,
     calendars: &[PlanCalendar],
-    work: &[i64],
+    tables: &Tables,
     results: &mut [i64],
 )
-    requires { ToWrite sheet.now contents calendars.now work.now × (15 * contents.activities ≤ length results.old) }
-    ensures { (e : ℕ) (other : ℕ → Bool) → results.new ≡ rows_below (plan_of sheet.now contents) (ran_in (plan_of sheet.now contents) (state_of contents.activities contents.links work.now) e other) (shown_in (plan_of sheet.now contents) (state_of contents.activities contents.links work.now)) contents.activities ++ drop (15 * contents.activities) results.old }
+    requires { ToWrite sheet.now contents calendars.now tables.now × (15 * contents.activities ≤ length results.old) }
+    ensures { (e : ℕ) (other : ℕ → Bool) → results.new ≡ rows_below (plan_of sheet.now contents) (ran_in (plan_of sheet.now contents) (state tables.now) e other) (shown_in (plan_of sheet.now contents) (state tables.now)) contents.activities ++ drop (15 * contents.activities) results.old }
 {
     for i in 0..contents.activities {
-        write_row(sheet, contents, calendars, work, results, i);
+        write_row(sheet, contents, calendars, tables, results, i);
     }
 }
 
 // The finish day: the greatest early finish day that is shown, and not before the start.
-pub fn finish_day(sheet: &[u8], contents: Contents, work: &[i64]) -> i64
-    requires { SheetRead sheet.now contents × Room contents.activities contents.links work.now }
-    ensures { (q : Ran) → result ≡ signed_day_of (finish_day (plan_of sheet.now contents) q (shown_in (plan_of sheet.now contents) (state_of contents.activities contents.links work.now)) contents.activities) }
+pub fn finish_day(sheet: &[u8], contents: Contents, tables: &Tables) -> i64
+    requires { SheetRead sheet.now contents × (tables.now.activities ≡ contents.activities) × (tables.now.links ≡ contents.links) }
+    ensures { (q : Ran) → result ≡ signed_day_of (finish_day (plan_of sheet.now contents) q (shown_in (plan_of sheet.now contents) (state tables.now)) contents.activities) }
 {
     let mut d = dates::origin_of(sheet, contents) / 1440;
     for i in 0..contents.activities {
-        d = d.max(memory::get_act(
-            work,
-            contents.activities,
-            contents.links,
-            i,
-            memory::fields::SHOWN_FINISH,
-        ));
+        d = d.max(tables.act(i, memory::fields::SHOWN_FINISH));
     }
     signed_day_of(d)
 }

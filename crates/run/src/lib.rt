@@ -2,7 +2,7 @@
 #![tactic(auto)]
 
 ghost use Rattle.std.specs.Prelude.{◌≡◌, ℕ, ◌^◌, ◌<◌, length, Ok};
-ghost use Rattle.memory.specs.State.{state_of};
+ghost use Rattle.memory.specs.Seen.{state, SameSlice};
 ghost use Rattle.topology.specs.Frame.{Frame};
 ghost use Rattle.order.specs.Plan.{plan_of};
 ghost use Rattle.passes.specs.Backward.{finish};
@@ -11,6 +11,7 @@ ghost use Rattle.dates.specs.Standing.{Ready, Recorded};
 ghost use Rattle.run.specs.Stages.{early_dates, float_dates, floated_in, LateIn, RunIn};
 
 use calendars::PlanCalendar;
+use memory::Tables;
 use sheet::Contents;
 use worktime::ClockError;
 
@@ -20,13 +21,13 @@ fn early_dates(
     contents: Contents,
     calendars: &[PlanCalendar],
     t: usize,
-    work: &mut [i64],
+    tables: &mut Tables,
 ) -> Result<(), ClockError>
-    requires { Ready sheet.now contents calendars.now t work.old }
-    ensures { (ended (early_in (plan_of sheet.now contents) (state_of contents.activities contents.links work.new)) result ≡ early_dates (plan_of sheet.now contents)) × (result ≡ (Ok tt) → Recorded (plan_of sheet.now contents) (state_of contents.activities contents.links work.new)) × Frame 12 20 0 0 (state_of contents.activities contents.links work.old) (state_of contents.activities contents.links work.new) × (length work.new ≡ length work.old) }
+    requires { Ready sheet.now contents calendars.now t tables.old }
+    ensures { (ended (early_in (plan_of sheet.now contents) (state tables.new)) result ≡ early_dates (plan_of sheet.now contents)) × (result ≡ (Ok tt) → Recorded (plan_of sheet.now contents) (state tables.new)) × Frame 12 20 0 0 (state tables.old) (state tables.new) × SameSlice tables.old tables.new }
 {
-    remaining::remaining(sheet, contents, calendars, t, work)?;
-    forward::forward_pass(sheet, contents, calendars, t, work)
+    remaining::remaining(sheet, contents, calendars, t, tables)?;
+    forward::forward_pass(sheet, contents, calendars, t, tables)
 }
 
 // The late dates, back from the end, where `greatest` is the greatest early finish.
@@ -35,14 +36,14 @@ fn late_dates(
     contents: Contents,
     calendars: &[PlanCalendar],
     t: usize,
-    work: &mut [i64],
+    tables: &mut Tables,
     greatest: u64,
 ) -> Result<u64, ClockError>
-    requires { Ready sheet.now contents calendars.now t work.old × Recorded (plan_of sheet.now contents) (state_of contents.activities contents.links work.old) × (greatest ≡ finish (plan_of sheet.now contents) (early_in (plan_of sheet.now contents) (state_of contents.activities contents.links work.old))) × (greatest < 2 ^ 63) }
-    ensures { LateIn (plan_of sheet.now contents) (early_in (plan_of sheet.now contents) (state_of contents.activities contents.links work.old)) (state_of contents.activities contents.links work.new) result × Frame 10 12 0 0 (state_of contents.activities contents.links work.old) (state_of contents.activities contents.links work.new) × (length work.new ≡ length work.old) }
+    requires { Ready sheet.now contents calendars.now t tables.old × Recorded (plan_of sheet.now contents) (state tables.old) × (greatest ≡ finish (plan_of sheet.now contents) (early_in (plan_of sheet.now contents) (state tables.old))) × (greatest < 2 ^ 63) }
+    ensures { LateIn (plan_of sheet.now contents) (early_in (plan_of sheet.now contents) (state tables.old)) (state tables.new) result × Frame 10 12 0 0 (state tables.old) (state tables.new) × SameSlice tables.old tables.new }
 {
     let last = backward::end_of(sheet, contents, greatest)?;
-    backward::backward_pass(sheet, contents, calendars, t, work, last)?;
+    backward::backward_pass(sheet, contents, calendars, t, tables, last)?;
     Ok(last)
 }
 
@@ -52,14 +53,14 @@ fn float_dates(
     contents: Contents,
     calendars: &[PlanCalendar],
     t: usize,
-    work: &mut [i64],
+    tables: &mut Tables,
     finish: u64,
 ) -> Result<(), ClockError>
-    requires { Ready sheet.now contents calendars.now t work.old × Recorded (plan_of sheet.now contents) (state_of contents.activities contents.links work.old) }
-    ensures { ((e : ℕ) → ended (floated_in (plan_of sheet.now contents) finish (state_of contents.activities contents.links work.new)) result ≡ float_dates (plan_of sheet.now contents) finish (early_in (plan_of sheet.now contents) (state_of contents.activities contents.links work.old)) (late_in (plan_of sheet.now contents) (state_of contents.activities contents.links work.old) e)) × Frame 12 17 0 0 (state_of contents.activities contents.links work.old) (state_of contents.activities contents.links work.new) × (length work.new ≡ length work.old) }
+    requires { Ready sheet.now contents calendars.now t tables.old × Recorded (plan_of sheet.now contents) (state tables.old) }
+    ensures { ((e : ℕ) → ended (floated_in (plan_of sheet.now contents) finish (state tables.new)) result ≡ float_dates (plan_of sheet.now contents) finish (early_in (plan_of sheet.now contents) (state tables.old)) (late_in (plan_of sheet.now contents) (state tables.old) e)) × Frame 12 17 0 0 (state tables.old) (state tables.new) × SameSlice tables.old tables.new }
 {
-    floats::free_pass(sheet, contents, calendars, t, work, finish)?;
-    longest::path_pass(sheet, contents, calendars, t, work, finish)
+    floats::free_pass(sheet, contents, calendars, t, tables, finish)?;
+    longest::path_pass(sheet, contents, calendars, t, tables, finish)
 }
 
 // The late dates, the floats and the longest path, from the early dates.
@@ -68,14 +69,14 @@ fn late_and_floats(
     contents: Contents,
     calendars: &[PlanCalendar],
     t: usize,
-    work: &mut [i64],
+    tables: &mut Tables,
 ) -> Result<u64, ClockError>
-    requires { Ready sheet.now contents calendars.now t work.old × Recorded (plan_of sheet.now contents) (state_of contents.activities contents.links work.old) × (ended (early_in (plan_of sheet.now contents) (state_of contents.activities contents.links work.old)) (Ok tt) ≡ early_dates (plan_of sheet.now contents)) }
-    ensures { RunIn (plan_of sheet.now contents) (state_of contents.activities contents.links work.new) result × Frame 10 17 0 0 (state_of contents.activities contents.links work.old) (state_of contents.activities contents.links work.new) × (length work.new ≡ length work.old) }
+    requires { Ready sheet.now contents calendars.now t tables.old × Recorded (plan_of sheet.now contents) (state tables.old) × (ended (early_in (plan_of sheet.now contents) (state tables.old)) (Ok tt) ≡ early_dates (plan_of sheet.now contents)) }
+    ensures { RunIn (plan_of sheet.now contents) (state tables.new) result × Frame 10 17 0 0 (state tables.old) (state tables.new) × SameSlice tables.old tables.new }
 {
-    let finish = backward::greatest_finish(sheet, contents, work);
-    let last = late_dates(sheet, contents, calendars, t, work, finish)?;
-    float_dates(sheet, contents, calendars, t, work, finish)?;
+    let finish = backward::greatest_finish(sheet, contents, tables);
+    let last = late_dates(sheet, contents, calendars, t, tables, finish)?;
+    float_dates(sheet, contents, calendars, t, tables, finish)?;
     Ok(last)
 }
 
@@ -85,11 +86,11 @@ pub fn run(
     contents: Contents,
     calendars: &[PlanCalendar],
     t: usize,
-    work: &mut [i64],
+    tables: &mut Tables,
 ) -> Result<u64, ClockError>
-    requires { Ready sheet.now contents calendars.now t work.old }
-    ensures { RunIn (plan_of sheet.now contents) (state_of contents.activities contents.links work.new) result × ((e : ℕ) → result ≡ Ok e → Recorded (plan_of sheet.now contents) (state_of contents.activities contents.links work.new)) × Frame 10 20 0 0 (state_of contents.activities contents.links work.old) (state_of contents.activities contents.links work.new) × (length work.new ≡ length work.old) }
+    requires { Ready sheet.now contents calendars.now t tables.old }
+    ensures { RunIn (plan_of sheet.now contents) (state tables.new) result × ((e : ℕ) → result ≡ Ok e → Recorded (plan_of sheet.now contents) (state tables.new)) × Frame 10 20 0 0 (state tables.old) (state tables.new) × SameSlice tables.old tables.new }
 {
-    early_dates(sheet, contents, calendars, t, work)?;
-    late_and_floats(sheet, contents, calendars, t, work)
+    early_dates(sheet, contents, calendars, t, tables)?;
+    late_and_floats(sheet, contents, calendars, t, tables)
 }

@@ -22,13 +22,13 @@ pub loop-q-init : goal.loop-q-init
 loop-q-init c =
     let C = c.args.contents in
     let p = plan_of c.args.sheet.now C in
-    let S = state_of C.activities C.links c.args.work.now in
+    let S = state_of C.activities C.links c.args.tables.now in
     let last = c.args.last in
     let e : C.activities - C.activities ≡ 0 = omega arith in
     (refl, frame_refl 10 12 0 0 S, rw e (through_start (backward p (early_in p S) last) (reverse (order p)) (late_in p S last)))
 
-pub get_act-i-requires : goal.get_act-i-requires
-get_act-i-requires c = (omega (arith, c.requires.0.room, c.loop-q.invariant.0), omega arith, omega arith)
+pub act-i-requires : goal.act-i-requires
+act-i-requires c = (omega (arith, c.requires.0.room, c.loop-q.invariant.0), omega arith, omega arith)
 
 pub backward_one-requires : goal.backward_one-requires
 backward_one-requires c =
@@ -38,21 +38,21 @@ backward_one-requires c =
     let R = ready_kept c.requires.0 L.invariant.1 L.invariant.0 (omega arith) in
     let T = state_of C.activities C.links L.work in
     let e : C.activities - (C.activities - L.q + 1) ≡ L.q - 1 = omega arith in
-    (R, recorded_kept L.invariant.1 p refl refl refl c.requires.1, omega (arith, c.get_act-i.ensures.0, ap (T.act order_at) e, backward_below R (C.activities - L.q) (omega arith)))
+    (R, recorded_kept L.invariant.1 p refl refl refl c.requires.1, omega (arith, c.act-i.ensures.0, ap (T.act order_at) e, backward_below R (C.activities - L.q) (omega arith)))
 
 pub returns-in_err-backward_one : goal.returns-in_err-backward_one
 returns-in_err-backward_one c = rw (handed_on _ _ c.from_residual.ensures.1) (let C = c.args.contents in
     let p = plan_of c.args.sheet.now C in
-    let S = state_of C.activities C.links c.args.work.now in
+    let S = state_of C.activities C.links c.args.tables.now in
     let L = c.loop-q in
     let R = ready_kept c.requires.0 L.invariant.1 L.invariant.0 (omega arith) in
     let T = state_of C.activities C.links L.work in
-    let U = state_of C.activities C.links c.backward_one.new.work in
+    let U = state_of C.activities C.links c.backward_one.new.tables in
     let last = c.args.last in
     let b = c.backward_one.ensures in
-    let i = c.get_act-i.result in
+    let i = c.act-i.result in
     let q : L.q - 1 ≡ C.activities - (C.activities - L.q + 1) = omega arith in
-    let at = c.get_act-i.ensures.0 ∙ ap (T.act order_at) q ∙ backward_at R (C.activities - L.q) (omega arith) in
+    let at = c.act-i.ensures.0 ∙ ap (T.act order_at) q ∙ backward_at R (C.activities - L.q) (omega arith) in
     let l : C.activities - L.q < length (reverse (order p)) = omega (arith, backward_length R) in
     let e = b.0 ∙ ap (λ (d : Early). backward p d last (late_in p T last) i) (early_kept L.invariant.1 p refl refl refl) in (
       through_stop (backward p (early_in p S) last) (reverse (order p)) (late_in p S last) L.invariant.2 i at l (late_in p U last) c.backward_one.result e (late_in p U last) _ c.in_err-backward_one.was,
@@ -64,16 +64,16 @@ pub loop-q-preserved : goal.loop-q-preserved
 loop-q-preserved c =
     let C = c.args.contents in
     let p = plan_of c.args.sheet.now C in
-    let S = state_of C.activities C.links c.args.work.now in
+    let S = state_of C.activities C.links c.args.tables.now in
     let L = c.loop-q in
     let R = ready_kept c.requires.0 L.invariant.1 L.invariant.0 (omega arith) in
     let T = state_of C.activities C.links L.work in
-    let U = state_of C.activities C.links c.backward_one.new.work in
+    let U = state_of C.activities C.links c.backward_one.new.tables in
     let last = c.args.last in
     let b = c.backward_one.ensures in
-    let i = c.get_act-i.result in
+    let i = c.act-i.result in
     let q : L.q - 1 ≡ C.activities - (C.activities - L.q + 1) = omega arith in
-    let at = c.get_act-i.ensures.0 ∙ ap (T.act order_at) q ∙ backward_at R (C.activities - L.q) (omega arith) in
+    let at = c.act-i.ensures.0 ∙ ap (T.act order_at) q ∙ backward_at R (C.activities - L.q) (omega arith) in
     let l : C.activities - L.q < length (reverse (order p)) = omega (arith, backward_length R) in
     let e = b.0 ∙ ap (λ (d : Early). backward p d last (late_in p T last) i) (early_kept L.invariant.1 p refl refl refl) in
     let n : C.activities - (L.q - 1) ≡ C.activities - L.q + 1 = omega arith in (
@@ -86,7 +86,7 @@ pub returns : goal.returns
 returns c =
     let C = c.args.contents in
     let p = plan_of c.args.sheet.now C in
-    let S = state_of C.activities C.links c.args.work.now in
+    let S = state_of C.activities C.links c.args.tables.now in
     let last = c.args.last in
     let L = c.loop-q in
     (through_end (backward p (early_in p S) last) (reverse (order p)) (late_in p S last) L.invariant.2 (omega (arith, backward_length c.requires.0)), L.invariant.1, L.invariant.0)

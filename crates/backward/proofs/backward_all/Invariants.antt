@@ -9,15 +9,15 @@ use Rattle.passes.specs.Backward.{backward}
 use Rattle.order.specs.Checks.{order}
 use Rattle.order.specs.Plan.{plan_of}
 use Rattle.topology.specs.Frame.{Frame}
-use Rattle.memory.specs.State.{state_of}
+use Rattle.memory.specs.Seen.{state, SameSlice}
 use Rattle.backward.proofs.backward_all.Given as goal
 
 abbrev pub invariant-loop-q : goal.invariant-loop-q
 invariant-loop-q l =
-    (length l.work ≡ length l.initial.work)
-    × Frame 10 12 0 0 (state_of l.contents.activities l.contents.links l.initial.work) (state_of l.contents.activities l.contents.links l.work)
-    × Through (backward (plan_of l.sheet l.contents) (early_in (plan_of l.sheet l.contents) (state_of l.contents.activities l.contents.links l.initial.work)) l.last)
+    SameSlice l.initial.tables l.tables
+    × Frame 10 12 0 0 (state l.initial.tables) (state l.tables)
+    × Through (backward (plan_of l.sheet l.contents) (early_in (plan_of l.sheet l.contents) (state l.initial.tables)) l.last)
     (reverse (order (plan_of l.sheet l.contents)))
-    (late_in (plan_of l.sheet l.contents) (state_of l.contents.activities l.contents.links l.initial.work) l.last)
-    (late_in (plan_of l.sheet l.contents) (state_of l.contents.activities l.contents.links l.work) l.last)
+    (late_in (plan_of l.sheet l.contents) (state l.initial.tables) l.last)
+    (late_in (plan_of l.sheet l.contents) (state l.tables) l.last)
     (l.contents.activities - l.q)

@@ -22,7 +22,7 @@ pub returns-in_default : goal.returns-in_default
 returns-in_default c =
     let C = c.args.contents in
     let p = plan_of c.args.sheet.now C in
-    let S = state_of C.activities C.links c.args.work.now in
+    let S = state_of C.activities C.links c.args.tables.now in
     let a = c.recorded_at-actual.ensures in
     let b : c.args.i < p.activities = omega (arith, c.requires.2, activities_are c.args.sheet.now C) in (
       c.place_unfinished.ensures.0
@@ -37,11 +37,11 @@ pub returns : goal.returns
 returns c =
     let C = c.args.contents in
     let p = plan_of c.args.sheet.now C in
-    let S = state_of C.activities C.links c.args.work.now in
+    let S = state_of C.activities C.links c.args.tables.now in
     let d = early_in p S in
     let m = late_in p S c.args.last in
     let i = c.args.i in
-    let T = state_of C.activities C.links c.keep_early.new.work in
+    let T = state_of C.activities C.links c.keep_early.new.tables in
     let E = c.keep_early.ensures.0 in
     let b : i < p.activities = omega (arith, c.requires.2, activities_are c.args.sheet.now C) in
     let e = start_at c.args.sheet.now C S i c.requires.2 in

@@ -28,9 +28,9 @@ pub backward_all-requires : goal.backward_all-requires
 backward_all-requires c =
     let C = c.args.contents in
     let p = plan_of c.args.sheet.now C in
-    let S = state_of C.activities C.links c.args.work.now in
+    let S = state_of C.activities C.links c.args.tables.now in
     let last = c.args.last in
-    let T = state_of C.activities C.links c.fill_act-2.new.work in
+    let T = state_of C.activities C.links c.fill_act-2.new.tables in
     let E : T ≡ filled S C.activities last = c.fill_act-2.ensures.0 ∙ ap (λ (W : State). fill_act W late_finish C.activities c.args.last) c.fill_act.ensures.0 in
     let F : Frame 10 12 0 0 S T = rw E (filled_frame p S last C.activities) in
     (ready_kept c.requires.0 F (c.fill_act-2.ensures.1 ∙ c.fill_act.ensures.1) (omega arith), recorded_kept F p refl refl refl c.requires.1)
@@ -42,9 +42,9 @@ pub returns : goal.returns
 returns c =
     let C = c.args.contents in
     let p = plan_of c.args.sheet.now C in
-    let S = state_of C.activities C.links c.args.work.now in
+    let S = state_of C.activities C.links c.args.tables.now in
     let last = c.args.last in
-    let T = state_of C.activities C.links c.fill_act-2.new.work in
+    let T = state_of C.activities C.links c.fill_act-2.new.tables in
     let E : T ≡ filled S C.activities last = c.fill_act-2.ensures.0 ∙ ap (λ (W : State). fill_act W late_finish C.activities c.args.last) c.fill_act.ensures.0 in
     let F : Frame 10 12 0 0 S T = rw E (filled_frame p S last C.activities) in
     let b = c.backward_all.ensures in

@@ -11,19 +11,19 @@ use Rattle.bounds.specs.ReadyLaws.{activities_are}
 use Rattle.backward.specs.FinishLaws.{onward_summary, onward_met}
 use Rattle.backward.proofs.finish_onward.Goals as goal
 
-pub returns-then-get_act-eq0 : goal.returns-then-get_act-eq0
-returns-then-get_act-eq0 c =
+pub returns-then-act-eq0 : goal.returns-then-act-eq0
+returns-then-act-eq0 c =
     let C = c.args.contents in
     let B = summary (plan_of c.args.sheet.now C) c.args.i in
-    let F = (state_of C.activities C.links c.args.work.now).act early_finish c.args.i in
-    let g = c.get_act-next.ensures in
-    let m = c.get_act.ensures.0 ∙ c.requires.2 c.args.i (omega (arith, c.requires.1, activities_are c.args.sheet.now c.args.contents)) in
-    (c.max.ensures ∙ ap (λ (x : ℕ). max c.args.top (x + 1)) g.0 ∙ sym (onward_met B F c.args.top (mark_none B m c.if-get_act-eq0.true)), omega (arith, c.max.ensures, g.1, c.requires.3))
+    let F = (state_of C.activities C.links c.args.tables.now).act early_finish c.args.i in
+    let g = c.act-next.ensures in
+    let m = c.act.ensures.0 ∙ c.requires.2 c.args.i (omega (arith, c.requires.1, activities_are c.args.sheet.now c.args.contents)) in
+    (c.max.ensures ∙ ap (λ (x : ℕ). max c.args.top (x + 1)) g.0 ∙ sym (onward_met B F c.args.top (mark_none B m c.if-act-eq0.true)), omega (arith, c.max.ensures, g.1, c.requires.3))
 
-pub returns-else-get_act-eq0 : goal.returns-else-get_act-eq0
-returns-else-get_act-eq0 c =
+pub returns-else-act-eq0 : goal.returns-else-act-eq0
+returns-else-act-eq0 c =
     let C = c.args.contents in
     let B = summary (plan_of c.args.sheet.now C) c.args.i in
-    let F = (state_of C.activities C.links c.args.work.now).act early_finish c.args.i in
-    let m = c.get_act.ensures.0 ∙ c.requires.2 c.args.i (omega (arith, c.requires.1, activities_are c.args.sheet.now c.args.contents)) in
-    (sym (onward_summary B F c.args.top (mark_some B m c.if-get_act-eq0.false)), c.requires.3)
+    let F = (state_of C.activities C.links c.args.tables.now).act early_finish c.args.i in
+    let m = c.act.ensures.0 ∙ c.requires.2 c.args.i (omega (arith, c.requires.1, activities_are c.args.sheet.now c.args.contents)) in
+    (sym (onward_summary B F c.args.top (mark_some B m c.if-act-eq0.false)), c.requires.3)

@@ -10,11 +10,11 @@ tie_at-tie-requires c = (c.requires.0.room, omega (arith, kept_within c.requires
 pub recorded_at-recorded-requires : goal.recorded_at-recorded-requires
 recorded_at-recorded-requires c = (c.requires.0.room, from_in c.requires.0 _ c.requires.2 _ c.tie_at-tie.ensures)
 
-pub get_act-early-requires : goal.get_act-early-requires
-get_act-early-requires c = (c.requires.0.room, from_in c.requires.0 _ c.requires.2 _ c.tie_at-tie.ensures, omega arith)
+pub act-early-requires : goal.act-early-requires
+act-early-requires c = (omega (arith, c.requires.0.activities, from_in c.requires.0 _ c.requires.2 _ c.tie_at-tie.ensures), omega arith)
 
-pub get_act-ef-requires : goal.get_act-ef-requires
-get_act-ef-requires c = (c.requires.0.room, from_in c.requires.0 _ c.requires.2 _ c.tie_at-tie.ensures, omega arith)
+pub act-ef-requires : goal.act-ef-requires
+act-ef-requires c = (omega (arith, c.requires.0.activities, from_in c.requires.0 _ c.requires.2 _ c.tie_at-tie.ensures), omega arith)
 
 pub forward_bound-requires : goal.forward_bound-requires
 forward_bound-requires c = (c.requires.0.read, c.requires.0.located, lead_fits c.requires.0 _ c.requires.2 _ c.tie_at-tie.ensures)
@@ -22,4 +22,4 @@ forward_bound-requires c = (c.requires.0.read, c.requires.0.located, lead_fits c
 pub returns : goal.returns
 returns c =
     link_bound_is c.requires.0 _ c.requires.2 _ c.tie_at-tie.ensures c.requires.1 _ _ _ _ _
-    c.recorded_at-recorded.ensures c.get_act-early.ensures.0 c.begun_at-es.ensures c.get_act-ef.ensures.0 c.forward_bound.ensures
+    c.recorded_at-recorded.ensures c.act-early.ensures.0 c.begun_at-es.ensures c.act-ef.ensures.0 c.forward_bound.ensures

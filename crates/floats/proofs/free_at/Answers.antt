@@ -2,7 +2,7 @@
 use mathlib.Core.Path.{refl, ◌∙◌}
 use native.Mathlib.Omega.{arith}
 use Prim.Native.Nat.{◌<◌}
-use Rattle.memory.specs.State.{state_of}
+use Rattle.memory.specs.Seen.{state}
 use Rattle.topology.specs.FrameLaws.{frame_refl}
 use Rattle.order.specs.Plan.{plan_of}
 use Rattle.bounds.specs.ReadyLaws.{activities_are}
@@ -35,7 +35,7 @@ returns c =
     let x = c.args in
     let q = c.requires in
     let p = plan_of x.sheet.now x.contents in
-    let S = state_of x.contents.activities x.contents.links x.work.now in
+    let S = state x.tables.now in
     let i : x.i < p.activities = omega (arith, activities_are x.sheet.now x.contents, q.2) in
     let r = c.use_float.ensures in
     (λ e. r.0 ∙ free_found p S x.i i x.finish e _ c.free_of.ensures.0 _ c.in_ok-free.was, r.1, r.2)
@@ -44,6 +44,6 @@ pub returns-in_err-free : goal.returns-in_err-free
 returns-in_err-free c = rw (handed_on _ _ c.from_residual.ensures.1) (let x = c.args in
     let q = c.requires in
     let p = plan_of x.sheet.now x.contents in
-    let S = state_of x.contents.activities x.contents.links x.work.now in
+    let S = state x.tables.now in
     let i : x.i < p.activities = omega (arith, activities_are x.sheet.now x.contents, q.2) in
     (λ e. free_refused p S x.i i x.finish e _ c.free_of.ensures.0 _ c.in_err-free.was, frame_refl 12 16 0 0 S, refl))

@@ -3,7 +3,7 @@ use mathlib.Core.Path.{◌≡◌}
 use mathlib.Core.List.{reverse}
 use Prim.Native.Nat.{ℕ, ◌-◌}
 use lib.ListN.{length}
-use Rattle.memory.specs.State.{state_of}
+use Rattle.memory.specs.Seen.{state, SameSlice}
 use Rattle.topology.specs.Frame.{Frame}
 use Rattle.order.specs.Plan.{plan_of}
 use Rattle.order.specs.Checks.{order}
@@ -15,12 +15,12 @@ use Rattle.floats.proofs.free_each.Given as goal
 
 abbrev pub invariant-loop-q : goal.invariant-loop-q
 invariant-loop-q l =
-    (length l.work ≡ length l.initial.work)
-    × Frame 12 16 0 0 (state_of l.contents.activities l.contents.links l.initial.work) (state_of l.contents.activities l.contents.links l.work)
+    SameSlice l.initial.tables l.tables
+    × Frame 12 16 0 0 (state l.initial.tables) (state l.tables)
     × ((e : ℕ)
     → Through
-    (free_float (plan_of l.sheet l.contents) l.finish (late_in (plan_of l.sheet l.contents) (state_of l.contents.activities l.contents.links l.initial.work) e))
+    (free_float (plan_of l.sheet l.contents) l.finish (late_in (plan_of l.sheet l.contents) (state l.initial.tables) e))
     (reverse (order (plan_of l.sheet l.contents)))
-    (freed_in (plan_of l.sheet l.contents) (state_of l.contents.activities l.contents.links l.initial.work))
-    (freed_in (plan_of l.sheet l.contents) (state_of l.contents.activities l.contents.links l.work))
+    (freed_in (plan_of l.sheet l.contents) (state l.initial.tables))
+    (freed_in (plan_of l.sheet l.contents) (state l.tables))
     (l.contents.activities - l.q))

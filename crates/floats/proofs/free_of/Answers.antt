@@ -8,7 +8,7 @@ use mir.Syntax.{w64}
 use mir.Facts.{to_z-of_z}
 use Rattle.worktime.specs.Reads.{at_or_refused}
 use Rattle.clock.specs.On.{worked_by}
-use Rattle.memory.specs.State.{state_of}
+use Rattle.memory.specs.Seen.{state}
 use Rattle.order.specs.Plan.{plan_of}
 use Rattle.calendars.specs.CalendarLaws.{in_plan_worked}
 use Rattle.dates.specs.Columns.{early_in}
@@ -23,11 +23,11 @@ use Rattle.floats.proofs.free_of.Goals as goal
 pub slack_of-requires : goal.slack_of-requires
 slack_of-requires c = let q = c.requires in (q.0, q.1, q.2, q.3)
 
-pub get_act-ef-requires : goal.get_act-ef-requires
-get_act-ef-requires c = let q = c.requires in (q.0.room, q.2, omega arith)
+pub act-ef-requires : goal.act-ef-requires
+act-ef-requires c = let q = c.requires in (omega (arith, q.0.activities, q.2), omega arith)
 
-pub get_act-lf-requires : goal.get_act-lf-requires
-get_act-lf-requires c = let q = c.requires in (q.0.room, q.2, omega arith)
+pub act-lf-requires : goal.act-lf-requires
+act-lf-requires c = let q = c.requires in (omega (arith, q.0.activities, q.2), omega arith)
 
 pub recorded_at-recorded-requires : goal.recorded_at-recorded-requires
 recorded_at-recorded-requires c = let q = c.requires in (q.0.room, q.2)
@@ -37,7 +37,7 @@ returns c =
     let x = c.args in
     let q = c.requires in
     let p = plan_of x.sheet.now x.contents in
-    let S = state_of x.contents.activities x.contents.links x.work.now in
+    let S = state x.tables.now in
     let d = early_in p S in
     let w = worked_by x.calendar.now in
     let i : x.i < p.activities = omega (arith, activities_are x.sheet.now x.contents, q.2) in
@@ -45,9 +45,9 @@ returns c =
     rw (to_z-of_z {w = w64} {z = c.in_ok-slack.slack} (record { sfits = search rules }), to_z-of_z {w = w64} {z = c.in_ok-total.total} (record { sfits = search rules }))
     at (c.free_by.ensures.0 p d)
     in (
-      free_of_found q.0 x.i x.finish _ c.slack_of.ensures _ _ c.in_ok-slack.was _ w (in_plan_worked q.3) (c.get_act-ef.ensures.0 ∙ sym (ef_at p S x.i i)) _
+      free_of_found q.0 x.i x.finish _ c.slack_of.ensures _ _ c.in_ok-slack.was _ w (in_plan_worked q.3) (c.act-ef.ensures.0 ∙ sym (ef_at p S x.i i)) _
           (sym c.between.ensures ∙ c.in_ok-total.was) _ (ap Ok c.recorded_at-recorded.ensures ∙ q.1 x.i i) _ f
-          ∙ ap (λ (u : ℕ). free_of p d x.finish u x.i) c.get_act-lf.ensures.0,
+          ∙ ap (λ (u : ℕ). free_of p d x.finish u x.i) c.act-lf.ensures.0,
       λ m e. let k = same_time refl e in omega (arith, c.free_by.ensures.1),
     )
 
@@ -55,13 +55,13 @@ pub returns-in_err-total : goal.returns-in_err-total
 returns-in_err-total c = rw (handed_on _ _ c.from_residual-in_err-total.ensures.1) (let x = c.args in
     let q = c.requires in
     let p = plan_of x.sheet.now x.contents in
-    let S = state_of x.contents.activities x.contents.links x.work.now in
+    let S = state x.tables.now in
     let d = early_in p S in
     let w = worked_by x.calendar.now in
     let i : x.i < p.activities = omega (arith, activities_are x.sheet.now x.contents, q.2) in (
-      free_of_late q.0 x.i x.finish _ c.slack_of.ensures _ _ c.in_ok-slack.was _ w (in_plan_worked q.3) (c.get_act-ef.ensures.0 ∙ sym (ef_at p S x.i i)) _
+      free_of_late q.0 x.i x.finish _ c.slack_of.ensures _ _ c.in_ok-slack.was _ w (in_plan_worked q.3) (c.act-ef.ensures.0 ∙ sym (ef_at p S x.i i)) _
           (sym c.between.ensures ∙ c.in_err-total.was)
-          ∙ ap (λ (u : ℕ). free_of p d x.finish u x.i) c.get_act-lf.ensures.0,
+          ∙ ap (λ (u : ℕ). free_of p d x.finish u x.i) c.act-lf.ensures.0,
       λ m e. absurd (at_or_refused e refl),
     ))
 
@@ -69,6 +69,6 @@ pub returns-in_err-slack : goal.returns-in_err-slack
 returns-in_err-slack c = rw (handed_on _ _ c.from_residual.ensures.1) (let x = c.args in
     let q = c.requires in
     let p = plan_of x.sheet.now x.contents in
-    let S = state_of x.contents.activities x.contents.links x.work.now in
+    let S = state x.tables.now in
     let d = early_in p S in
     (free_of_refused q.0 x.i x.finish _ c.slack_of.ensures _ _ c.in_err-slack.was, λ m e. absurd (at_or_refused e refl)))

@@ -2,7 +2,7 @@
 use mathlib.Core.Path.{refl, ◌∙◌}
 use native.Mathlib.Omega.{arith}
 use mathlib.Core.List.{reverse}
-use Rattle.memory.specs.State.{state_of}
+use Rattle.memory.specs.Seen.{state}
 use Rattle.memory.specs.Fields.{free_float}
 use Rattle.topology.specs.Frame.{Frame}
 use Rattle.topology.specs.FrameLaws.{frame_fill, frame_then}
@@ -13,13 +13,13 @@ use Rattle.floats.specs.PassLaws.{pass_cleared}
 use Rattle.floats.proofs.free_pass.Goals as goal
 
 pub fill_act-requires : goal.fill_act-requires
-fill_act-requires c = let q = c.requires in (q.0.room, omega arith, omega arith)
+fill_act-requires c = let q = c.requires in (omega (arith, q.0.activities, omega arith), omega arith)
 
 pub free_each-requires : goal.free_each-requires
 free_each-requires c =
     let x = c.args in
-    let S = state_of x.contents.activities x.contents.links x.work.now in
-    let T = state_of x.contents.activities x.contents.links c.fill_act.new.work in
+    let S = state x.tables.now in
+    let T = state c.fill_act.new.tables in
     let h = c.fill_act.ensures in
     let F : Frame 12 16 0 0 S T = rw h.0 (frame_fill 12 16 0 0 free_float (omega arith) (omega arith) S x.contents.activities 0) in
     (ready_kept c.requires.0 F h.1 (omega arith), recorded_kept F (plan_of x.sheet.now x.contents) refl refl refl c.requires.1)
@@ -30,8 +30,8 @@ shape_of-work c = c.free_each.ensures.2 ∙ c.fill_act.ensures.1
 pub returns : goal.returns
 returns c =
     let x = c.args in
-    let S = state_of x.contents.activities x.contents.links x.work.now in
-    let T = state_of x.contents.activities x.contents.links c.fill_act.new.work in
+    let S = state x.tables.now in
+    let T = state c.fill_act.new.tables in
     let h = c.fill_act.ensures in
     let F : Frame 12 16 0 0 S T = rw h.0 (frame_fill 12 16 0 0 free_float (omega arith) (omega arith) S x.contents.activities 0) in
     let r = c.free_each.ensures in

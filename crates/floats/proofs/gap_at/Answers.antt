@@ -15,8 +15,8 @@ tie_at-tie-requires c = let q = c.requires in (q.0.room, omega (arith, kept_with
 pub forward_bound-requires : goal.forward_bound-requires
 forward_bound-requires c = let q = c.requires in (q.0.read, q.0.located, lead_fits q.0 _ q.1 _ c.tie_at-tie.ensures)
 
-pub get_act-target-requires : goal.get_act-target-requires
-get_act-target-requires c =
+pub act-target-requires : goal.act-target-requires
+act-target-requires c =
     let q = c.requires in (q.0.room, to_in q.0 _ q.1 _ c.tie_at-tie.ensures, c.target_field-field.ensures.1)
 
 pub returns : goal.returns
@@ -25,7 +25,7 @@ returns c =
     let w = worked_by x.calendar.now in
     c.between.ensures
     ∙ gap_between c.requires.0 x.k c.requires.1 _ c.tie_at-tie.ensures w x.start x.finish _ c.forward_bound.ensures _ _ _ c.in_ok-b.was
-    (c.target_field-field.ensures.0 (plan_of x.sheet.now x.contents)) c.get_act-target.ensures.0
+    (c.target_field-field.ensures.0 (plan_of x.sheet.now x.contents)) c.act-target.ensures.0
 
 pub returns-in_err-b : goal.returns-in_err-b
 returns-in_err-b c = rw (handed_on _ _ c.from_residual.ensures.1) (let x = c.args in

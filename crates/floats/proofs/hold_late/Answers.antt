@@ -5,7 +5,8 @@ use Rattle.project.specs.declared.Activity.{Activity}
 use Rattle.calendars.specs.CalendarLaws.{in_plan_worked}
 use Rattle.order.specs.Plan.{plan_of}
 use Rattle.passes.specs.Dates.{leaves}
-use Rattle.memory.specs.State.{State, state_of}
+use Rattle.memory.specs.State.{State}
+use Rattle.memory.specs.Seen.{state}
 use Rattle.topology.specs.Frame.{Frame}
 use Rattle.topology.specs.FrameLaws.{frame_refl}
 use Rattle.bounds.specs.ReadyLaws.{activities_are}
@@ -15,14 +16,14 @@ use Rattle.floats.specs.FitLaws.{moved_bound}
 use Rattle.floats.specs.StoreLaws.{stored_frame, held_to, held_refused}
 use Rattle.floats.proofs.hold_late.Goals as goal
 
-pub get_act-es-requires : goal.get_act-es-requires
-get_act-es-requires c = let q = c.requires in (q.0, q.1, omega arith)
+pub act-es-requires : goal.act-es-requires
+act-es-requires c = let q = c.requires in (q.0, q.1, omega arith)
 
-pub get_act-ef-requires : goal.get_act-ef-requires
-get_act-ef-requires c = let q = c.requires in (q.0, q.1, omega arith)
+pub act-ef-requires : goal.act-ef-requires
+act-ef-requires c = let q = c.requires in (q.0, q.1, omega arith)
 
-pub get_act-left-requires : goal.get_act-left-requires
-get_act-left-requires c = let q = c.requires in (q.0, q.1, omega arith)
+pub act-left-requires : goal.act-left-requires
+act-left-requires c = let q = c.requires in (q.0, q.1, omega arith)
 
 pub store_move-requires : goal.store_move-requires
 store_move-requires c =
@@ -35,22 +36,22 @@ returns c =
     let x = c.args in
     let q = c.requires in
     let p = plan_of x.sheet.now x.contents in
-    let S = state_of x.contents.activities x.contents.links x.work.now in
+    let S = state x.tables.now in
     let h =
     held_to p S x.i x.free (omega (arith, activities_are x.sheet.now x.contents, q.1)) _ (in_plan_worked q.2.in_plan) _ (ap (λ (a : Activity). a.kind) q.2.is) _ _ _
-    c.get_act-es.ensures.0 c.get_act-ef.ensures.0 c.get_act-left.ensures.0 _ _ (sym c.held_move.ensures ∙ c.in_ok-moved.was)
+    c.act-es.ensures.0 c.act-ef.ensures.0 c.act-left.ensures.0 _ _ (sym c.held_move.ensures ∙ c.in_ok-moved.was)
     in
     let e = c.store_move.ensures.0 in
-    let F : Frame 12 16 0 0 S (state_of x.contents.activities x.contents.links c.store_move.new.work) = rw e (stored_frame S x.i _ _) in
+    let F : Frame 12 16 0 0 S (state c.store_move.new.tables) = rw e (stored_frame S x.i _ _) in
     (ap (λ (T : State). leaves (freed_in p T)) e ∙ h, F, c.store_move.ensures.1)
 
 pub returns-in_err-moved : goal.returns-in_err-moved
 returns-in_err-moved c = rw (handed_on _ _ c.from_residual.ensures.1) (let x = c.args in
     let q = c.requires in
     let p = plan_of x.sheet.now x.contents in
-    let S = state_of x.contents.activities x.contents.links x.work.now in
+    let S = state x.tables.now in
     let h =
     held_refused p S x.i x.free (omega (arith, activities_are x.sheet.now x.contents, q.1)) _ (in_plan_worked q.2.in_plan) _ (ap (λ (a : Activity). a.kind) q.2.is) _ _ _
-    c.get_act-es.ensures.0 c.get_act-ef.ensures.0 c.get_act-left.ensures.0 _ (sym c.held_move.ensures ∙ c.in_err-moved.was)
+    c.act-es.ensures.0 c.act-ef.ensures.0 c.act-left.ensures.0 _ (sym c.held_move.ensures ∙ c.in_err-moved.was)
     in
     (h, frame_refl 12 16 0 0 S, refl))

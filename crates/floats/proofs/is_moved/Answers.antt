@@ -3,7 +3,7 @@ use Rattle.std.specs.Prelude.{Ok}
 use mathlib.Core.Path.{ap, ◌∙◌}
 use native.Mathlib.Omega.{arith}
 use Rattle.order.specs.Plan.{plan_of}
-use Rattle.memory.specs.State.{state_of}
+use Rattle.memory.specs.Seen.{state}
 use Rattle.dates.specs.Columns.{early_in}
 use Rattle.floats.specs.StoreLaws.{unmoved_none, unmoved_summary, moved_by_mark}
 use Rattle.floats.proofs.is_moved.Goals as goal
@@ -12,18 +12,18 @@ pub returns-then-free-eq0 : goal.returns-then-free-eq0
 returns-then-free-eq0 c =
     let x = c.args in
     let p = plan_of x.sheet.now x.contents in
-    let d = early_in p (state_of x.contents.activities x.contents.links x.work.now) in
+    let d = early_in p (state x.tables.now) in
     unmoved_none p d x.i x.free c.if-free-eq0.true
 
-pub get_act-requires : goal.get_act-requires
-get_act-requires c = let q = c.requires in (q.0, q.1, omega arith)
+pub act-requires : goal.act-requires
+act-requires c = let q = c.requires in (q.0, q.1, omega arith)
 
-pub returns-then-get_act-gt0 : goal.returns-then-get_act-gt0
-returns-then-get_act-gt0 c =
+pub returns-then-act-gt0 : goal.returns-then-act-gt0
+returns-then-act-gt0 c =
     let x = c.args in
     let p = plan_of x.sheet.now x.contents in
-    let d = early_in p (state_of x.contents.activities x.contents.links x.work.now) in
-    unmoved_summary p d x.i x.free _ (c.get_act.ensures.0 ∙ c.requires.3) c.if-get_act-gt0.true
+    let d = early_in p (state x.tables.now) in
+    unmoved_summary p d x.i x.free _ (c.act.ensures.0 ∙ c.requires.3) c.if-act-gt0.true
 
 pub recorded_at-recorded-requires : goal.recorded_at-recorded-requires
 recorded_at-recorded-requires c = let q = c.requires in (q.0, q.1)
@@ -32,6 +32,6 @@ pub returns : goal.returns
 returns c =
     let x = c.args in
     let p = plan_of x.sheet.now x.contents in
-    let d = early_in p (state_of x.contents.activities x.contents.links x.work.now) in
+    let d = early_in p (state x.tables.now) in
     c.is_marked_late.ensures p d
-    ∙ moved_by_mark p d x.i x.free _ (c.get_act.ensures.0 ∙ c.requires.3) c.if-get_act-gt0.false c.if-free-eq0.false _ (ap Ok c.recorded_at-recorded.ensures ∙ c.requires.4) _ c.requires.2
+    ∙ moved_by_mark p d x.i x.free _ (c.act.ensures.0 ∙ c.requires.3) c.if-act-gt0.false c.if-free-eq0.false _ (ap Ok c.recorded_at-recorded.ensures ∙ c.requires.4) _ c.requires.2

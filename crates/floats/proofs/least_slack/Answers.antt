@@ -11,13 +11,13 @@ use Rattle.number.specs.Exits.{handed_on}
 use Rattle.floats.specs.GapLaws.{gap_own, slack_start, slack_later, slack_turn, slack_stop, slack_end}
 use Rattle.floats.proofs.least_slack.Goals as goal
 
-pub get_act-k-requires : goal.get_act-k-requires
-get_act-k-requires c = let q = c.requires in (q.0.room, q.1, omega arith)
+pub act-k-requires : goal.act-k-requires
+act-k-requires c = let q = c.requires in (omega (arith, q.0.activities, q.1), omega arith)
 
 pub loop-k-init : goal.loop-k-init
 loop-k-init c =
     let x = c.args in
-    rw (to_z-of_z c.ranges.slack) (slack_start c.requires.0 x.i x.slack _ c.requires.1 c.get_act-k.ensures.0)
+    rw (to_z-of_z c.ranges.slack) (slack_start c.requires.0 x.i x.slack _ c.requires.1 c.act-k.ensures.0)
 
 pub gap_at-requires : goal.gap_at-requires
 gap_at-requires c = let q = c.requires in (q.0, c.loop-k-test.true)
@@ -30,14 +30,14 @@ returns-in_err-gap c = rw (handed_on _ _ c.from_residual.ensures.1) (let x = c.a
     let C = rw (to_z-of_z c.ranges.slack) at L.invariant in
     slack_stop q.0 x.i x.slack C c.loop-k-test.true _ (sym (c.gap_at.ensures ∙ gap_own q.0 x.i L.k x.start x.finish w (in_plan_worked q.2) q.3) ∙ c.in_err-gap.was))
 
-pub get_link-k-requires : goal.get_link-k-requires
-get_link-k-requires c = let q = c.requires in (q.0.room, omega (arith, kept_within q.0, c.loop-k-test.true), omega arith)
+pub link-k-requires : goal.link-k-requires
+link-k-requires c = let q = c.requires in (omega (arith, q.0.activities, omega (arith, kept_within q.0, c.loop-k-test.true)), omega arith)
 
 pub loop-k-smaller : goal.loop-k-smaller
 loop-k-smaller c =
     let L = c.loop-k in
     let t = c.loop-k-test.true in
-    omega (arith, t, slack_later c.requires.0 c.args.i c.args.slack L.k _ t c.get_link-k.ensures.0)
+    omega (arith, t, slack_later c.requires.0 c.args.i c.args.slack L.k _ t c.link-k.ensures.0)
 
 pub loop-k-preserved : goal.loop-k-preserved
 loop-k-preserved c =
@@ -48,7 +48,7 @@ loop-k-preserved c =
     let C = rw (to_z-of_z c.ranges.slack) at L.invariant in
     let g = rw (to_z-of_z {w = w64} {z = c.in_ok-gap.gap} (record { sfits = search rules })) at c.min-least.ensures in
     rw (to_z-of_z c.ranges.slack, to_z-of_z (record { sfits = c.min-least.type_inv }), g)
-    (slack_turn q.0 x.i x.slack C c.loop-k-test.true _ (sym (c.gap_at.ensures ∙ gap_own q.0 x.i L.k x.start x.finish w (in_plan_worked q.2) q.3) ∙ c.in_ok-gap.was) _ c.get_link-k.ensures.0)
+    (slack_turn q.0 x.i x.slack C c.loop-k-test.true _ (sym (c.gap_at.ensures ∙ gap_own q.0 x.i L.k x.start x.finish w (in_plan_worked q.2) q.3) ∙ c.in_ok-gap.was) _ c.link-k.ensures.0)
 
 pub returns : goal.returns
 returns c =

@@ -5,7 +5,7 @@ use native.Mathlib.Omega.{arith}
 use mir.Syntax.{w64}
 use mir.Facts.{to_z-of_z}
 use Rattle.clock.specs.On.{worked_by}
-use Rattle.memory.specs.State.{state_of}
+use Rattle.memory.specs.Seen.{state}
 use Rattle.order.specs.Plan.{plan_of}
 use Rattle.calendars.specs.CalendarLaws.{in_plan_worked}
 use Rattle.bounds.specs.ReadyLaws.{activities_are}
@@ -17,34 +17,34 @@ use Rattle.floats.proofs.slack_of.Goals as goal
 pub recorded_at-recorded-requires : goal.recorded_at-recorded-requires
 recorded_at-recorded-requires c = let q = c.requires in (q.0.room, q.2)
 
-pub get_act-es-requires : goal.get_act-es-requires
-get_act-es-requires c = let q = c.requires in (q.0.room, q.2, omega arith)
+pub act-es-requires : goal.act-es-requires
+act-es-requires c = let q = c.requires in (omega (arith, q.0.activities, q.2), omega arith)
 
-pub get_act-ef-requires : goal.get_act-ef-requires
-get_act-ef-requires c = let q = c.requires in (q.0.room, q.2, omega arith)
+pub act-ef-requires : goal.act-ef-requires
+act-ef-requires c = let q = c.requires in (omega (arith, q.0.activities, q.2), omega arith)
 
 pub least_slack-requires : goal.least_slack-requires
 least_slack-requires c =
     let x = c.args in
     let q = c.requires in
-    (q.0, q.2, q.3, from_is q.0 q.1 x.i q.2 _ _ _ _ c.recorded_at-recorded.ensures c.get_act-es.ensures.0 c.begun_at-start.ensures c.get_act-ef.ensures.0)
+    (q.0, q.2, q.3, from_is q.0 q.1 x.i q.2 _ _ _ _ c.recorded_at-recorded.ensures c.act-es.ensures.0 c.begun_at-start.ensures c.act-ef.ensures.0)
 
 pub returns : goal.returns
 returns c =
     let x = c.args in
     let q = c.requires in
     let p = plan_of x.sheet.now x.contents in
-    let S = state_of x.contents.activities x.contents.links x.work.now in
+    let S = state x.tables.now in
     let w = worked_by x.calendar.now in
     let l = ef_at p S x.i (omega (arith, activities_are x.sheet.now x.contents, q.2)) in
     let e = rw (to_z-of_z {w = w64} {z = c.in_ok-slack.slack} (record { sfits = search rules })) at c.least_slack.ensures in
-    e ∙ slack_found q.0 x.i x.finish _ w (in_plan_worked q.3) (c.get_act-ef.ensures.0 ∙ sym l) _ (sym c.between.ensures ∙ c.in_ok-slack.was)
+    e ∙ slack_found q.0 x.i x.finish _ w (in_plan_worked q.3) (c.act-ef.ensures.0 ∙ sym l) _ (sym c.between.ensures ∙ c.in_ok-slack.was)
 
 pub returns-in_err-slack : goal.returns-in_err-slack
 returns-in_err-slack c = rw (handed_on _ _ c.from_residual.ensures.1) (let x = c.args in
     let q = c.requires in
     let p = plan_of x.sheet.now x.contents in
-    let S = state_of x.contents.activities x.contents.links x.work.now in
+    let S = state x.tables.now in
     let w = worked_by x.calendar.now in
     let l = ef_at p S x.i (omega (arith, activities_are x.sheet.now x.contents, q.2)) in
-    slack_refused q.0 x.i x.finish _ w (in_plan_worked q.3) (c.get_act-ef.ensures.0 ∙ sym l) _ (sym c.between.ensures ∙ c.in_err-slack.was))
+    slack_refused q.0 x.i x.finish _ w (in_plan_worked q.3) (c.act-ef.ensures.0 ∙ sym l) _ (sym c.between.ensures ∙ c.in_err-slack.was))

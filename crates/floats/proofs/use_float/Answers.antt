@@ -3,7 +3,8 @@ use mathlib.Core.Path.{sym, ap, ◌∙◌}
 use native.Mathlib.Omega.{arith}
 use Rattle.order.specs.Plan.{plan_of}
 use Rattle.passes.specs.Dates.{leaves}
-use Rattle.memory.specs.State.{State, state_of}
+use Rattle.memory.specs.State.{State}
+use Rattle.memory.specs.Seen.{state}
 use Rattle.memory.specs.Fields.{free_float}
 use Rattle.topology.specs.Frame.{Frame}
 use Rattle.topology.specs.FrameLaws.{frame_put}
@@ -24,7 +25,7 @@ returns-then-is_moved c =
     let x = c.args in
     let q = c.requires in
     let p = plan_of x.sheet.now x.contents in
-    let S = state_of x.contents.activities x.contents.links x.work.now in
+    let S = state x.tables.now in
     let r = c.hold_late.ensures in
     (r.0 ∙ sym (freed_held p S x.i x.free (sym c.is_moved.ensures ∙ c.if-is_moved.true)), r.1, r.2)
 
@@ -36,9 +37,9 @@ returns c =
     let x = c.args in
     let q = c.requires in
     let p = plan_of x.sheet.now x.contents in
-    let S = state_of x.contents.activities x.contents.links x.work.now in
+    let S = state x.tables.now in
     let e = c.put_act.ensures.0 in
-    let F : Frame 12 16 0 0 S (state_of x.contents.activities x.contents.links c.put_act.new.work) =
+    let F : Frame 12 16 0 0 S (state c.put_act.new.tables) =
     rw e (frame_put 12 16 0 0 free_float (omega arith) (omega arith) S x.i (pos x.free))
     in (
       ap (λ (T : State). leaves (freed_in p T)) e

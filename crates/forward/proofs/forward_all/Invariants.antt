@@ -3,7 +3,7 @@ use lib.ListN.{length}
 use mathlib.Core.Path.{◌≡◌}
 use Rattle.dates.specs.Columns.{early_in}
 use Rattle.dates.specs.ThroughLaws.{Through}
-use Rattle.memory.specs.State.{state_of}
+use Rattle.memory.specs.Seen.{state, SameSlice}
 use Rattle.order.specs.Checks.{order}
 use Rattle.order.specs.Plan.{plan_of}
 use Rattle.passes.specs.Forward.{forward}
@@ -11,4 +11,4 @@ use Rattle.topology.specs.Frame.{Frame}
 use Rattle.forward.proofs.forward_all.Given as goal
 
 abbrev pub invariant-loop-q : goal.invariant-loop-q
-invariant-loop-q l = Through (forward (plan_of l.sheet l.contents)) (order (plan_of l.sheet l.contents)) (early_in (plan_of l.sheet l.contents) (state_of l.contents.activities l.contents.links l.initial.work)) (early_in (plan_of l.sheet l.contents) (state_of l.contents.activities l.contents.links l.work)) l.q × Frame 12 15 0 0 (state_of l.contents.activities l.contents.links l.initial.work) (state_of l.contents.activities l.contents.links l.work) × (length l.work ≡ length l.initial.work)
+invariant-loop-q l = Through (forward (plan_of l.sheet l.contents)) (order (plan_of l.sheet l.contents)) (early_in (plan_of l.sheet l.contents) (state l.initial.tables)) (early_in (plan_of l.sheet l.contents) (state l.tables)) l.q × Frame 12 15 0 0 (state l.initial.tables) (state l.tables) × SameSlice l.initial.tables l.tables

@@ -3,7 +3,7 @@ use Rattle.std.specs.Prelude.{Ok}
 use mathlib.Core.Path.{sym, ap, ◌∙◌}
 use Rattle.dates.specs.Bounds.{recorded_below}
 use Rattle.dates.specs.Columns.{early_in}
-use Rattle.memory.specs.State.{state_of}
+use Rattle.memory.specs.Seen.{state}
 use Rattle.order.specs.Plan.{plan_of}
 use Rattle.forward.specs.StoreLaws.{settled_ended, settled_frame, forward_open, completed_ended, completed_frame, in_plan}
 use Rattle.forward.proofs.forward_one.Goals as goal
@@ -11,7 +11,7 @@ use Rattle.forward.proofs.forward_one.Goals as goal
 pub returns-in_default : goal.returns-in_default
 returns-in_default c =
     let p = plan_of c.args.sheet.now c.args.contents in
-    let S = state_of c.args.contents.activities c.args.contents.links c.args.work.now in
+    let S = state c.args.tables.now in
     let d = early_in p S in
     let w = in_plan c.args.sheet.now c.args.contents _ c.requires.2 in
     (settled_ended p c.args.i _ _ _ _ w c.settle.ensures.0 ∙ c.early_of-placement.ensures.0 ∙ forward_open p d c.args.i S _ c.recorded_at-recorded.ensures (c.requires.1 _ w) c.in_default.not-Completed, settled_frame _ _ _ _ _ c.settle.ensures.0, c.settle.ensures.1)
@@ -21,11 +21,11 @@ store-requires c =
     let p = plan_of c.args.sheet.now c.args.contents in
     let w = in_plan c.args.sheet.now c.args.contents _ c.requires.2 in
     let below = (recorded_below p c.args.i).completed _ _ (sym (c.requires.1 _ w) ∙ ap Ok (sym c.recorded_at-recorded.ensures ∙ c.in-Completed.is)) in
-    (c.requires.0.room, c.requires.2, below.0, below.1, c.get_act-left.ensures.1)
+    (c.requires.0.room, c.requires.2, below.0, below.1, c.act-left.ensures.1)
 
 pub returns : goal.returns
 returns c =
     let p = plan_of c.args.sheet.now c.args.contents in
-    let S = state_of c.args.contents.activities c.args.contents.links c.args.work.now in
+    let S = state c.args.tables.now in
     let w = in_plan c.args.sheet.now c.args.contents _ c.requires.2 in
-    (completed_ended p S _ c.args.i _ _ _ w c.store.ensures.0 _ c.recorded_at-recorded.ensures (c.requires.1 _ w) c.in-Completed.is c.get_act-left.ensures.0, completed_frame p S _ c.args.i _ _ _ w c.store.ensures.0, c.store.ensures.1)
+    (completed_ended p S _ c.args.i _ _ _ w c.store.ensures.0 _ c.recorded_at-recorded.ensures (c.requires.1 _ w) c.in-Completed.is c.act-left.ensures.0, completed_frame p S _ c.args.i _ _ _ w c.store.ensures.0, c.store.ensures.1)

@@ -2,29 +2,29 @@
 use mathlib.Core.Path.{sym, ◌∙◌}
 use native.Mathlib.Omega.{arith}
 use Rattle.order.specs.Plan.{plan_of}
-use Rattle.memory.specs.State.{state_of}
+use Rattle.memory.specs.Seen.{state}
 use Rattle.dates.specs.Columns.{early_in, late_in}
 use Rattle.number.specs.Exits.{handed_on}
 use Rattle.late.specs.PlaceLaws.{fitting_refused}
 use Rattle.late.specs.StandLaws.{early_at, summary_at, unfinished_placed, unfinished_held, unfinished_lowered}
 use Rattle.late.proofs.late_from.Goals as goal
 
-pub get_act-mark-requires : goal.get_act-mark-requires
-get_act-mark-requires c = (c.requires.0.room, c.requires.1, omega arith)
+pub act-mark-requires : goal.act-mark-requires
+act-mark-requires c = (omega (arith, c.requires.0.activities, c.requires.1), omega arith)
 
-pub get_act-early-requires : goal.get_act-early-requires
-get_act-early-requires c = (c.requires.0.room, c.requires.1, omega arith)
+pub act-early-requires : goal.act-early-requires
+act-early-requires c = (omega (arith, c.requires.0.activities, c.requires.1), omega arith)
 
 pub returns : goal.returns
 returns c =
     let R = c.requires.0 in
     let p = plan_of c.args.sheet.now c.args.contents in
-    let S = state_of c.args.contents.activities c.args.contents.links c.args.work.now in
+    let S = state c.args.tables.now in
     let d = early_in p S in
     let m = late_in p S c.args.last in
     let i = c.args.i in
-    let q = c.get_act-early.ensures.0 ∙ sym (early_at R i c.requires.1) in
-    let h = c.hold_late.ensures p d m i c.requires.2 (summary_at R i _ c.requires.1 c.get_act-mark.ensures.0) c.requires.4 in (
+    let q = c.act-early.ensures.0 ∙ sym (early_at R i c.requires.1) in
+    let h = c.hold_late.ensures p d m i c.requires.2 (summary_at R i _ c.requires.1 c.act-mark.ensures.0) c.requires.4 in (
       c.place_late.ensures.0 p d m i c.requires.2 q ∙ sym (unfinished_placed p d m i c.args.last _ _ (sym c.lower.ensures ∙ c.in_ok-f.was) (sym h ∙ c.in_ok-g.was)),
       c.place_late.ensures.1,
     )
@@ -32,17 +32,17 @@ returns c =
 pub returns-in_err-g : goal.returns-in_err-g
 returns-in_err-g c = rw (handed_on _ _ c.from_residual-in_err-g.ensures.1) (let R = c.requires.0 in
     let p = plan_of c.args.sheet.now c.args.contents in
-    let S = state_of c.args.contents.activities c.args.contents.links c.args.work.now in
+    let S = state c.args.tables.now in
     let d = early_in p S in
     let m = late_in p S c.args.last in
     let i = c.args.i in
-    let h = c.hold_late.ensures p d m i c.requires.2 (summary_at R i _ c.requires.1 c.get_act-mark.ensures.0) c.requires.4 in
+    let h = c.hold_late.ensures p d m i c.requires.2 (summary_at R i _ c.requires.1 c.act-mark.ensures.0) c.requires.4 in
     (sym (unfinished_held p d m i c.args.last _ _ (sym c.lower.ensures ∙ c.in_ok-f.was) (sym h ∙ c.in_err-g.was)), fitting_refused _))
 
 pub returns-in_err-f : goal.returns-in_err-f
 returns-in_err-f c = rw (handed_on _ _ c.from_residual.ensures.1) (let R = c.requires.0 in
     let p = plan_of c.args.sheet.now c.args.contents in
-    let S = state_of c.args.contents.activities c.args.contents.links c.args.work.now in
+    let S = state c.args.tables.now in
     let d = early_in p S in
     let m = late_in p S c.args.last in
     let i = c.args.i in

@@ -8,8 +8,8 @@ use Rattle.calendars.specs.CalendarLaws.{in_plan_worked}
 use Rattle.late.specs.StandLaws.{left_at}
 use Rattle.late.proofs.late_of.Goals as goal
 
-pub get_act-left-requires : goal.get_act-left-requires
-get_act-left-requires c = (c.requires.0.room, c.requires.1, omega arith)
+pub act-left-requires : goal.act-left-requires
+act-left-requires c = (omega (arith, c.requires.0.activities, c.requires.1), omega arith)
 
 pub late_from-requires : goal.late_from-requires
 late_from-requires c =
@@ -20,7 +20,7 @@ late_from-requires c =
       record {
         works = in_plan_worked c.calendar_of-calendar.ensures ∙ ap (λ (y : Activity). worked (p.hours y.calendar)) c.activity_of-activity.ensures;
         activity_is = c.activity_of-activity.ensures;
-        left_is = c.get_act-left.ensures.0 ∙ sym (left_at R c.args.i c.requires.1);
+        left_is = c.act-left.ensures.0 ∙ sym (left_at R c.args.i c.requires.1);
         origin_is = c.origin_of-origin.ensures.0;
       },
       c.origin_of-origin.ensures.1,

@@ -1,7 +1,7 @@
 -- `longest::bound_start` meets its contract, each way out by its law.
 use mathlib.Core.Path.{sym, ◌∙◌}
 use native.Mathlib.Omega.{arith}
-use Rattle.memory.specs.State.{state_of}
+use Rattle.memory.specs.Seen.{state}
 use Rattle.order.specs.Plan.{plan_of}
 use Rattle.dates.specs.Columns.{early_in}
 use Rattle.number.specs.Exits.{handed_on}
@@ -15,25 +15,25 @@ link_bound-requires c = (c.requires.0.ready, c.requires.0.recorded, c.requires.3
 pub returns-in_err-b : goal.returns-in_err-b
 returns-in_err-b c = rw (handed_on _ _ c.from_residual.ensures.1) (let x = c.args in
     let p = plan_of x.sheet.now x.contents in
-    let d = early_in p (state_of x.contents.activities x.contents.links x.work.now) in
+    let d = early_in p (state x.tables.now) in
     let b = c.link_bound in
     sym (start_no_bound p d x.i x.k b.result c.in_err-b.field-0.0 b.ensures c.in_err-b.was))
 
-pub get_act-left-requires : goal.get_act-left-requires
-get_act-left-requires c = (c.requires.0.ready.room, c.requires.2, omega arith)
+pub act-left-requires : goal.act-left-requires
+act-left-requires c = (omega (arith, c.requires.0.ready.activities, c.requires.2), omega arith)
 
-pub get_link-code-requires : goal.get_link-code-requires
-get_link-code-requires c = (c.requires.0.ready.room, link_in c.requires.0 c.args.k c.requires.3, omega arith)
+pub link-code-requires : goal.link-code-requires
+link-code-requires c = (omega (arith, c.requires.0.ready.activities, link_in c.requires.0 c.args.k c.requires.3), omega arith)
 
 pub returns-in_err-s : goal.returns-in_err-s
 returns-in_err-s c = rw (handed_on _ _ c.from_residual-in_err-s.ensures.1) (let x = c.args in
     let p = plan_of x.sheet.now x.contents in
-    let d = early_in p (state_of x.contents.activities x.contents.links x.work.now) in
+    let d = early_in p (state x.tables.now) in
     let b = c.link_bound in
     let q = c.start_for in
     let u = c.in_ok-b.b in
     let w =
-    start_left c.requires.0 x.k c.requires.3 x.i c.requires.2 c.get_act-left.result c.get_link-code.result u c.from-kind.result q.result c.get_act-left.ensures.0 c.get_link-code.ensures.0 c.from-kind.ensures
+    start_left c.requires.0 x.k c.requires.3 x.i c.requires.2 c.act-left.result c.link-code.result u c.from-kind.result q.result c.act-left.ensures.0 c.link-code.ensures.0 c.from-kind.ensures
     (q.ensures p x.i (own_worked c.requires.1)) in
     sym (start_no_start p d x.i x.k b.result u b.ensures c.in_ok-b.was q.result w c.in_err-s.field-0.0 c.in_err-s.was))
 
@@ -41,12 +41,12 @@ pub returns : goal.returns
 returns c =
     let x = c.args in
     let p = plan_of x.sheet.now x.contents in
-    let d = early_in p (state_of x.contents.activities x.contents.links x.work.now) in
+    let d = early_in p (state x.tables.now) in
     let b = c.link_bound in
     let q = c.start_for in
     let u = c.in_ok-b.b in
     let w =
-    start_left c.requires.0 x.k c.requires.3 x.i c.requires.2 c.get_act-left.result c.get_link-code.result u c.from-kind.result q.result c.get_act-left.ensures.0 c.get_link-code.ensures.0 c.from-kind.ensures
+    start_left c.requires.0 x.k c.requires.3 x.i c.requires.2 c.act-left.result c.link-code.result u c.from-kind.result q.result c.act-left.ensures.0 c.link-code.ensures.0 c.from-kind.ensures
     (q.ensures p x.i (own_worked c.requires.1)) in
     let v = c.in_ok-s.s in
     own_place c.requires.1 v c.place_start.result c.place_start.ensures

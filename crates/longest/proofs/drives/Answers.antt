@@ -1,7 +1,7 @@
 -- `longest::drives` meets its contract, each way out by its law.
 use mathlib.Core.Path.{sym, ◌∙◌}
 use native.Mathlib.Omega.{arith}
-use Rattle.memory.specs.State.{state_of}
+use Rattle.memory.specs.Seen.{state}
 use Rattle.order.specs.Plan.{plan_of}
 use Rattle.dates.specs.Columns.{early_in}
 use Rattle.number.specs.Exits.{handed_on}
@@ -15,27 +15,27 @@ bound_start-requires c = c.requires
 pub returns-in_err-u : goal.returns-in_err-u
 returns-in_err-u c = rw (handed_on _ _ c.from_residual.ensures.1) (let x = c.args in
     let p = plan_of x.sheet.now x.contents in
-    let d = early_in p (state_of x.contents.activities x.contents.links x.work.now) in
+    let d = early_in p (state x.tables.now) in
     let b = c.bound_start in
     λ go. drives_refused p d x.i x.k go b.result b.ensures c.in_err-u.field-0.0 c.in_err-u.was)
 
-pub get_act-requires : goal.get_act-requires
-get_act-requires c = (c.requires.0.ready.room, c.requires.2, omega arith)
+pub act-requires : goal.act-requires
+act-requires c = (omega (arith, c.requires.0.ready.activities, c.requires.2), omega arith)
 
-pub returns-then-u-get_act : goal.returns-then-u-get_act
-returns-then-u-get_act c =
+pub returns-then-u-act : goal.returns-then-u-act
+returns-then-u-act c =
     let x = c.args in
     let p = plan_of x.sheet.now x.contents in
-    let d = early_in p (state_of x.contents.activities x.contents.links x.work.now) in
+    let d = early_in p (state x.tables.now) in
     let b = c.bound_start in
-    let e = start_read c.requires.0 x.i c.requires.2 c.get_act.result c.get_act.ensures.0 in
-    λ go. drives_elsewhere p d x.i x.k go b.result b.ensures c.in_ok-u.u c.in_ok-u.was (λ q. c.if-u-get_act.true (q ∙ sym e))
+    let e = start_read c.requires.0 x.i c.requires.2 c.act.result c.act.ensures.0 in
+    λ go. drives_elsewhere p d x.i x.k go b.result b.ensures c.in_ok-u.u c.in_ok-u.was (λ q. c.if-u-act.true (q ∙ sym e))
 
-pub get_link-from-requires : goal.get_link-from-requires
-get_link-from-requires c = (c.requires.0.ready.room, link_in c.requires.0 c.args.k c.requires.3, omega arith)
+pub link-from-requires : goal.link-from-requires
+link-from-requires c = (omega (arith, c.requires.0.ready.activities, link_in c.requires.0 c.args.k c.requires.3), omega arith)
 
 pub recorded_at-recorded-requires : goal.recorded_at-recorded-requires
-recorded_at-recorded-requires c = (c.requires.0.ready.room, from_inside c.requires.0 c.args.k c.requires.3 c.get_link-from.result c.get_link-from.ensures.0)
+recorded_at-recorded-requires c = (c.requires.0.ready.room, from_inside c.requires.0 c.args.k c.requires.3 c.link-from.result c.link-from.ensures.0)
 
 pub is_completed-requires : goal.is_completed-requires
 is_completed-requires c = tt
@@ -44,10 +44,10 @@ pub returns : goal.returns
 returns c =
     let x = c.args in
     let p = plan_of x.sheet.now x.contents in
-    let d = early_in p (state_of x.contents.activities x.contents.links x.work.now) in
+    let d = early_in p (state x.tables.now) in
     let b = c.bound_start in
-    let e = start_read c.requires.0 x.i c.requires.2 c.get_act.result c.get_act.ensures.0 in
-    let f = completed_read c.requires.0 x.k c.requires.3 c.get_link-from.result c.recorded_at-recorded.result c.get_link-from.ensures.0 c.recorded_at-recorded.ensures in
+    let e = start_read c.requires.0 x.i c.requires.2 c.act.result c.act.ensures.0 in
+    let f = completed_read c.requires.0 x.k c.requires.3 c.link-from.result c.recorded_at-recorded.result c.link-from.ensures.0 c.recorded_at-recorded.ensures in
     λ go.
-    drives_by p d x.i x.k go b.result b.ensures c.in_ok-u.u c.in_ok-u.was (c.if-u-get_act.false ∙ e) c.is_completed.result
+    drives_by p d x.i x.k go b.result b.ensures c.in_ok-u.u c.in_ok-u.was (c.if-u-act.false ∙ e) c.is_completed.result
     (f ∙ sym (c.is_completed.ensures p))

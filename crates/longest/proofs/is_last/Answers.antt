@@ -1,17 +1,17 @@
 -- `longest::is_last` meets its contract, each way out by its law.
 use mathlib.Core.Path.{sym, ◌∙◌}
 use native.Mathlib.Omega.{arith}
-use Rattle.memory.specs.State.{state_of}
+use Rattle.memory.specs.Seen.{state}
 use Rattle.longest.specs.LastLaws.{last_summary, last_completed, last_finish}
 use Rattle.longest.proofs.is_last.Goals as goal
 
-pub get_act-requires : goal.get_act-requires
-get_act-requires c = (c.requires.0, c.requires.1, omega arith)
+pub act-requires : goal.act-requires
+act-requires c = (c.requires.0, c.requires.1, omega arith)
 
-pub returns-then-get_act-ne0 : goal.returns-then-get_act-ne0
-returns-then-get_act-ne0 c =
+pub returns-then-act-ne0 : goal.returns-then-act-ne0
+returns-then-act-ne0 c =
     let x = c.args in
-    λ p t e W R. sym (last_summary p (state_of x.a x.l x.work.now) t W R x.finish x.i (rw e c.requires.1) c.get_act.result c.get_act.ensures.0 c.if-get_act-ne0.true)
+    λ p t e W R. sym (last_summary p (state x.tables.now) t W R x.finish x.i (rw e c.requires.1) c.act.result c.act.ensures.0 c.if-act-ne0.true)
 
 pub recorded_at-recorded-requires : goal.recorded_at-recorded-requires
 recorded_at-recorded-requires c = c.requires
@@ -24,14 +24,14 @@ returns-then-is_completed c =
     let x = c.args in
     λ p t e W R.
     sym
-    (last_completed p (state_of x.a x.l x.work.now) t W R x.finish x.i (rw e c.requires.1) c.get_act.result c.get_act.ensures.0 c.if-get_act-ne0.false c.recorded_at-recorded.result c.recorded_at-recorded.ensures (sym (c.is_completed.ensures p) ∙ c.if-is_completed.true))
+    (last_completed p (state x.tables.now) t W R x.finish x.i (rw e c.requires.1) c.act.result c.act.ensures.0 c.if-act-ne0.false c.recorded_at-recorded.result c.recorded_at-recorded.ensures (sym (c.is_completed.ensures p) ∙ c.if-is_completed.true))
 
-pub get_act-requires-2 : goal.get_act-requires-2
-get_act-requires-2 c = (c.requires.0, c.requires.1, omega arith)
+pub act-requires-2 : goal.act-requires-2
+act-requires-2 c = (c.requires.0, c.requires.1, omega arith)
 
 pub returns : goal.returns
 returns c =
     let x = c.args in
     λ p t e W R.
     sym
-    (last_finish p (state_of x.a x.l x.work.now) t W R x.finish x.i (rw e c.requires.1) c.get_act.result c.get_act.ensures.0 c.if-get_act-ne0.false c.recorded_at-recorded.result c.recorded_at-recorded.ensures (sym (c.is_completed.ensures p) ∙ c.if-is_completed.false) c.get_act-2.result c.get_act-2.ensures.0)
+    (last_finish p (state x.tables.now) t W R x.finish x.i (rw e c.requires.1) c.act.result c.act.ensures.0 c.if-act-ne0.false c.recorded_at-recorded.result c.recorded_at-recorded.ensures (sym (c.is_completed.ensures p) ∙ c.if-is_completed.false) c.act-2.result c.act-2.ensures.0)

@@ -4,6 +4,7 @@ use Prim.Native.Nat.{ℕ}
 use native.Mathlib.Omega.{arith}
 use Rattle.number.specs.BitLaws.{bit_le}
 use Rattle.memory.specs.State.{state_of}
+use Rattle.memory.specs.Seen.{state}
 use Rattle.memory.specs.Fields.{longest_path}
 use Rattle.topology.specs.FrameLaws.{frame_refl}
 use Rattle.passes.specs.Floats.{last_ones}
@@ -16,7 +17,7 @@ use Rattle.longest.proofs.mark_last.Goals as goal
 pub loop-i-init : goal.loop-i-init
 loop-i-init c =
     let x = c.args in
-    let S = state_of x.a x.l x.work.now in
+    let S = state x.tables.now in
     (refl, frame_refl 16 17 0 0 S, λ p t e W R. marks_none (last_ones p (early_in p S) x.finish) S)
 
 pub is_last-requires : goal.is_last-requires
@@ -31,9 +32,9 @@ pub loop-i-preserved : goal.loop-i-preserved
 loop-i-preserved c =
     let x = c.args in
     let v = c.loop-i.invariant in
-    let S₀ = state_of x.a x.l x.work.now in
-    let S = state_of x.a x.l c.loop-i.work in
-    let T = state_of x.a x.l c.put_act.new.work in
+    let S₀ = state x.tables.now in
+    let S = state_of x.a x.l c.loop-i.tables in
+    let T = state c.put_act.new.tables in
     let e = c.put_act.ensures in
     let f = c.from-v in
     let g = c.is_last in
@@ -43,8 +44,8 @@ pub returns : goal.returns
 returns c =
     let x = c.args in
     let v = c.loop-i.invariant in
-    let S₀ = state_of x.a x.l x.work.now in
-    let S = state_of x.a x.l c.loop-i.work in (
+    let S₀ = state x.tables.now in
+    let S = state_of x.a x.l c.loop-i.tables in (
       λ p t a W R.
           let e : p.activities ≡ c.loop-i.i = omega (arith, a) in
           let other = last_ones p (early_in p S₀) x.finish in

@@ -2,7 +2,7 @@
 use mathlib.Core.Path.{◌≡◌}
 use Prim.Native.Nat.{ℕ}
 use lib.ListN.{length}
-use Rattle.memory.specs.State.{state_of}
+use Rattle.memory.specs.Seen.{state, SameSlice}
 use Rattle.memory.specs.Fields.{longest_path}
 use Rattle.topology.specs.Frame.{Frame}
 use Rattle.order.specs.Plan.{Plan}
@@ -13,5 +13,5 @@ use Rattle.longest.proofs.mark_last.Given as goal
 
 abbrev pub invariant-loop-i : goal.invariant-loop-i
 invariant-loop-i l =
-    (length l.work ≡ length l.initial.work) × Frame 16 17 0 0 (state_of l.a l.l l.initial.work) (state_of l.a l.l l.work)
-    × ((p : Plan) (t : ℕ) → p.activities ≡ l.a → Standing p t (state_of l.a l.l l.initial.work) → Recorded p (state_of l.a l.l l.initial.work) → flags l.i (last_ones p (early_in p (state_of l.a l.l l.initial.work)) l.finish) (state_of l.a l.l l.work) longest_path ≡ last_ones p (early_in p (state_of l.a l.l l.initial.work)) l.finish)
+    SameSlice l.initial.tables l.tables × Frame 16 17 0 0 (state l.initial.tables) (state l.tables)
+    × ((p : Plan) (t : ℕ) → p.activities ≡ l.a → Standing p t (state l.initial.tables) → Recorded p (state l.initial.tables) → flags l.i (last_ones p (early_in p (state l.initial.tables)) l.finish) (state l.tables) longest_path ≡ last_ones p (early_in p (state l.initial.tables)) l.finish)

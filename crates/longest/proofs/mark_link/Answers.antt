@@ -2,7 +2,7 @@
 use Rattle.std.specs.Prelude.{Ok}
 use mathlib.Core.Path.{refl, ap, ◌∙◌}
 use native.Mathlib.Omega.{arith}
-use Rattle.memory.specs.State.{state_of}
+use Rattle.memory.specs.Seen.{state}
 use Rattle.order.specs.Plan.{plan_of}
 use Rattle.topology.specs.FrameLaws.{frame_refl}
 use Rattle.dates.specs.Columns.{early_in}
@@ -20,7 +20,7 @@ pub returns-in_err-sets : goal.returns-in_err-sets
 returns-in_err-sets c =
     rw (handed_on _ _ c.from_residual.ensures.1) (let x = c.args in
     let p = plan_of x.sheet.now x.contents in
-    let S = state_of x.contents.activities x.contents.links x.work.now in
+    let S = state x.tables.now in
     let b = c.drives in
     (λ other go. mark_refused p (early_in p S) x.i x.k S other go b.result b.ensures c.in_err-sets.field-0.0 c.in_err-sets.was, frame_refl 16 17 0 0 S, refl))
 
@@ -28,24 +28,24 @@ pub returns-else-sets : goal.returns-else-sets
 returns-else-sets c =
     let x = c.args in
     let p = plan_of x.sheet.now x.contents in
-    let S = state_of x.contents.activities x.contents.links x.work.now in
+    let S = state x.tables.now in
     let b = c.drives in
     (λ other go. mark_leaves p (early_in p S) x.i x.k S other go b.result b.ensures (c.in_ok-sets.was ∙ ap Ok c.if-sets.false), frame_refl 16 17 0 0 S, refl)
 
-pub get_link-from-requires : goal.get_link-from-requires
-get_link-from-requires c = (c.requires.0.ready.room, link_in c.requires.0 c.args.k c.requires.3, omega arith)
+pub link-from-requires : goal.link-from-requires
+link-from-requires c = (omega (arith, c.requires.0.ready.activities, link_in c.requires.0 c.args.k c.requires.3), omega arith)
 
 pub put_act-requires : goal.put_act-requires
-put_act-requires c = (c.requires.0.ready.room, from_inside c.requires.0 c.args.k c.requires.3 c.get_link-from.result c.get_link-from.ensures.0, omega arith, omega arith)
+put_act-requires c = (c.requires.0.ready.room, from_inside c.requires.0 c.args.k c.requires.3 c.link-from.result c.link-from.ensures.0, omega arith, omega arith)
 
 pub returns-then-sets : goal.returns-then-sets
 returns-then-sets c =
     let x = c.args in
     let p = plan_of x.sheet.now x.contents in
-    let S = state_of x.contents.activities x.contents.links x.work.now in
+    let S = state x.tables.now in
     let b = c.drives in
-    let g = c.get_link-from in
-    let T = state_of x.contents.activities x.contents.links c.put_act.new.work in
+    let g = c.link-from in
+    let T = state c.put_act.new.tables in
     let e = c.put_act.ensures in (
       λ other go.
           mark_sets p (early_in p S) x.i x.k S other go b.result b.ensures (c.in_ok-sets.was ∙ ap Ok c.if-sets.true) T g.result

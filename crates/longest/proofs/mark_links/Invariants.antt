@@ -3,7 +3,7 @@ use mathlib.Core.Path.{◌≡◌}
 use mathlib.Core.Bool.{Bool}
 use Prim.Native.Nat.{ℕ, ◌-◌}
 use lib.ListN.{length}
-use Rattle.memory.specs.State.{state_of}
+use Rattle.memory.specs.Seen.{state, SameSlice}
 use Rattle.topology.specs.Frame.{Frame}
 use Rattle.order.specs.Plan.{plan_of}
 use Rattle.longest.specs.WalkLaws.{Marking}
@@ -11,8 +11,8 @@ use Rattle.longest.proofs.mark_links.Given as goal
 
 abbrev pub invariant-loop-k : goal.invariant-loop-k
 invariant-loop-k l =
-    (length l.work ≡ length l.initial.work) × Frame 16 17 0 0 (state_of l.contents.activities l.contents.links l.initial.work) (state_of l.contents.activities l.contents.links l.work)
-    × ((other : ℕ → Bool) → Marking (plan_of l.sheet l.contents) l.t (state_of l.contents.activities l.contents.links l.initial.work) l.i (state_of l.contents.activities l.contents.links l.work) other l.k)
+    SameSlice l.initial.tables l.tables × Frame 16 17 0 0 (state l.initial.tables) (state l.tables)
+    × ((other : ℕ → Bool) → Marking (plan_of l.sheet l.contents) l.t (state l.initial.tables) l.i (state l.tables) other l.k)
 
 abbrev pub decreases-loop-k : goal.decreases-loop-k
 decreases-loop-k l = l.t - l.k

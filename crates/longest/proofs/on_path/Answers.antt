@@ -1,7 +1,7 @@
 -- `longest::on_path` meets its contract, each way out by its law.
 use mathlib.Core.Path.{refl, sym, ◌∙◌}
 use native.Mathlib.Omega.{arith}
-use Rattle.memory.specs.State.{state_of}
+use Rattle.memory.specs.Seen.{state}
 use Rattle.topology.specs.FrameLaws.{frame_refl}
 use Rattle.order.specs.Plan.{plan_of}
 use Rattle.bounds.specs.ReadyLaws.{activities_are}
@@ -9,20 +9,20 @@ use Rattle.longest.specs.OwnLaws.{own_made}
 use Rattle.longest.specs.WalkLaws.{turn_on, turn_off}
 use Rattle.longest.proofs.on_path.Goals as goal
 
-pub get_act-requires : goal.get_act-requires
-get_act-requires c = (c.requires.0.ready.room, c.requires.1, omega arith)
+pub act-requires : goal.act-requires
+act-requires c = (omega (arith, c.requires.0.ready.activities, c.requires.1), omega arith)
 
-pub shape_of-work-then-get_act-eq0 : goal.shape_of-work-then-get_act-eq0
-shape_of-work-then-get_act-eq0 c = refl
+pub shape_of-work-then-act-eq0 : goal.shape_of-work-then-act-eq0
+shape_of-work-then-act-eq0 c = refl
 
-pub returns-then-get_act-eq0 : goal.returns-then-get_act-eq0
-returns-then-get_act-eq0 c =
+pub returns-then-act-eq0 : goal.returns-then-act-eq0
+returns-then-act-eq0 c =
     let x = c.args in
     let p = plan_of x.sheet.now x.contents in
-    let S = state_of x.contents.activities x.contents.links x.work.now in (
+    let S = state x.tables.now in (
       λ other.
           sym
-          (turn_off p S x.i (omega (arith, c.requires.1, activities_are x.sheet.now x.contents)) other c.get_act.result c.get_act.ensures.0 c.if-get_act-eq0.true),
+          (turn_off p S x.i (omega (arith, c.requires.1, activities_are x.sheet.now x.contents)) other c.act.result c.act.ensures.0 c.if-act-eq0.true),
       frame_refl 16 17 0 0 S,
       refl,
     )
@@ -43,12 +43,12 @@ pub returns : goal.returns
 returns c =
     let x = c.args in
     let p = plan_of x.sheet.now x.contents in
-    let S = state_of x.contents.activities x.contents.links x.work.now in
+    let S = state x.tables.now in
     let m = c.mark_links.ensures in (
       λ other.
           m.0 other
           ∙ sym
-          (turn_on p S x.i (omega (arith, c.requires.1, activities_are x.sheet.now x.contents)) other c.get_act.result c.get_act.ensures.0 c.if-get_act-eq0.false),
+          (turn_on p S x.i (omega (arith, c.requires.1, activities_are x.sheet.now x.contents)) other c.act.result c.act.ensures.0 c.if-act-eq0.false),
       m.1,
       m.2,
     )

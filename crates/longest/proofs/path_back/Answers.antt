@@ -3,6 +3,7 @@ use mathlib.Core.Path.{◌≡◌, refl, ap, ◌∙◌}
 use Prim.Native.Nat.{◌+◌, ◌-◌}
 use native.Mathlib.Omega.{arith}
 use Rattle.memory.specs.State.{state_of}
+use Rattle.memory.specs.Seen.{state}
 use Rattle.memory.specs.Fields.{order_at}
 use Rattle.topology.specs.FrameLaws.{frame_refl, frame_then}
 use Rattle.order.specs.Plan.{plan_of}
@@ -18,12 +19,12 @@ pub loop-q-init : goal.loop-q-init
 loop-q-init c =
     let x = c.args in
     let p = plan_of x.sheet.now x.contents in
-    let S = state_of x.contents.activities x.contents.links x.work.now in
+    let S = state x.tables.now in
     let e : x.contents.activities - x.contents.activities ≡ 0 = omega arith in
     (refl, frame_refl 16 17 0 0 S, λ other. rw e (path_start p S other))
 
-pub get_act-i-requires : goal.get_act-i-requires
-get_act-i-requires c = (omega (arith, c.requires.ready.room, c.loop-q.invariant.0), omega arith, omega arith)
+pub act-i-requires : goal.act-i-requires
+act-i-requires c = (omega (arith, c.requires.ready.room, c.loop-q.invariant.0), omega arith, omega arith)
 
 pub on_path-requires : goal.on_path-requires
 on_path-requires c =
@@ -31,30 +32,30 @@ on_path-requires c =
     let p = plan_of x.sheet.now x.contents in
     let a = x.contents.activities in
     let v = c.loop-q.invariant in
-    let L = lent_kept c.requires c.loop-q.work v.1 v.0 in
-    let S = state_of a x.contents.links c.loop-q.work in
+    let L = lent_kept c.requires c.loop-q.tables v.1 v.0 in
+    let S = state_of a x.contents.links c.loop-q.tables in
     let n = a - c.loop-q.q in
     let e = activities_are x.sheet.now x.contents in
     let k : c.loop-q.q - 1 ≡ p.activities - (n + 1) = omega (arith, e) in
-    let g = c.get_act-i.ensures.0 ∙ ap (S.act order_at) k in
+    let g = c.act-i.ensures.0 ∙ ap (S.act order_at) k in
     (L, omega (arith, g, e, back_below p c.requires.ready.fine L.ready.standing n (omega (arith, e))))
 
 pub returns-in_err-on_path : goal.returns-in_err-on_path
 returns-in_err-on_path c = rw (handed_on _ _ c.from_residual.ensures.1) (let x = c.args in
     let p = plan_of x.sheet.now x.contents in
     let a = x.contents.activities in
-    let S₀ = state_of a x.contents.links x.work.now in
+    let S₀ = state_of a x.contents.links x.tables.now in
     let v = c.loop-q.invariant in
     let m = c.on_path in
-    let S = state_of a x.contents.links c.loop-q.work in
-    let T = state_of a x.contents.links m.new.work in
+    let S = state_of a x.contents.links c.loop-q.tables in
+    let T = state_of a x.contents.links m.new.tables in
     let n = a - c.loop-q.q in
     let e = activities_are x.sheet.now x.contents in
     let k : c.loop-q.q - 1 ≡ p.activities - (n + 1) = omega (arith, e) in
-    let g = c.get_act-i.ensures.0 ∙ ap (S.act order_at) k in
+    let g = c.act-i.ensures.0 ∙ ap (S.act order_at) k in
     let w = standing_kept v.1 p (omega arith) c.requires.ready.standing in (
       λ other.
-          path_stop p c.requires.ready.fine S₀ w v.1 (omega (arith, e)) other (v.2 other) c.get_act-i.result g T m.result (m.ensures.0 other) c.in_err-on_path.field-0.0 c.in_err-on_path.was,
+          path_stop p c.requires.ready.fine S₀ w v.1 (omega (arith, e)) other (v.2 other) c.act-i.result g T m.result (m.ensures.0 other) c.in_err-on_path.field-0.0 c.in_err-on_path.was,
       frame_then 16 17 0 0 v.1 m.ensures.1,
       m.ensures.2 ∙ v.0,
     ))
@@ -64,21 +65,21 @@ loop-q-preserved c =
     let x = c.args in
     let p = plan_of x.sheet.now x.contents in
     let a = x.contents.activities in
-    let S₀ = state_of a x.contents.links x.work.now in
+    let S₀ = state_of a x.contents.links x.tables.now in
     let v = c.loop-q.invariant in
     let m = c.on_path in
-    let S = state_of a x.contents.links c.loop-q.work in
-    let T = state_of a x.contents.links m.new.work in
+    let S = state_of a x.contents.links c.loop-q.tables in
+    let T = state_of a x.contents.links m.new.tables in
     let n = a - c.loop-q.q in
     let e = activities_are x.sheet.now x.contents in
     let k : c.loop-q.q - 1 ≡ p.activities - (n + 1) = omega (arith, e) in
-    let g = c.get_act-i.ensures.0 ∙ ap (S.act order_at) k in
+    let g = c.act-i.ensures.0 ∙ ap (S.act order_at) k in
     let w = standing_kept v.1 p (omega arith) c.requires.ready.standing in
     let next : a - (c.loop-q.q - 1) ≡ n + 1 = omega arith in (
       m.ensures.2 ∙ v.0,
       frame_then 16 17 0 0 v.1 m.ensures.1,
       λ other.
-          rw next (path_turn p c.requires.ready.fine S₀ w v.1 (omega (arith, e)) other (v.2 other) c.get_act-i.result g T m.result (m.ensures.0 other) c.in_ok-on_path.was),
+          rw next (path_turn p c.requires.ready.fine S₀ w v.1 (omega (arith, e)) other (v.2 other) c.act-i.result g T m.result (m.ensures.0 other) c.in_ok-on_path.was),
     )
 
 pub returns : goal.returns
@@ -86,7 +87,7 @@ returns c =
     let x = c.args in
     let p = plan_of x.sheet.now x.contents in
     let a = x.contents.activities in
-    let S₀ = state_of a x.contents.links x.work.now in
+    let S₀ = state_of a x.contents.links x.tables.now in
     let v = c.loop-q.invariant in
     let e = activities_are x.sheet.now x.contents in
-    (λ other. path_end p c.requires.ready.fine S₀ (state_of a x.contents.links c.loop-q.work) other (v.2 other) (omega (arith, e)), v.1, v.0)
+    (λ other. path_end p c.requires.ready.fine S₀ (state_of a x.contents.links c.loop-q.tables) other (v.2 other) (omega (arith, e)), v.1, v.0)

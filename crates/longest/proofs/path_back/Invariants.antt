@@ -3,7 +3,7 @@ use mathlib.Core.Path.{◌≡◌}
 use mathlib.Core.Bool.{Bool}
 use Prim.Native.Nat.{ℕ, ◌-◌}
 use lib.ListN.{length}
-use Rattle.memory.specs.State.{state_of}
+use Rattle.memory.specs.Seen.{state, SameSlice}
 use Rattle.topology.specs.Frame.{Frame}
 use Rattle.order.specs.Plan.{plan_of}
 use Rattle.longest.specs.WalkLaws.{PathDone}
@@ -11,6 +11,6 @@ use Rattle.longest.proofs.path_back.Given as goal
 
 abbrev pub invariant-loop-q : goal.invariant-loop-q
 invariant-loop-q l =
-    (length l.work ≡ length l.initial.work)
-    × Frame 16 17 0 0 (state_of l.contents.activities l.contents.links l.initial.work) (state_of l.contents.activities l.contents.links l.work)
-    × ((other : ℕ → Bool) → PathDone (plan_of l.sheet l.contents) (state_of l.contents.activities l.contents.links l.initial.work) (state_of l.contents.activities l.contents.links l.work) other (l.contents.activities - l.q))
+    SameSlice l.initial.tables l.tables
+    × Frame 16 17 0 0 (state l.initial.tables) (state l.tables)
+    × ((other : ℕ → Bool) → PathDone (plan_of l.sheet l.contents) (state l.initial.tables) (state l.tables) other (l.contents.activities - l.q))

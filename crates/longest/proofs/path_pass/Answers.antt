@@ -16,7 +16,7 @@ mark_last-requires c = c.requires.0.room
 pub path_back-requires : goal.path_back-requires
 path_back-requires c =
     let m = c.mark_last in
-    lent_kept (record { ready = c.requires.0; recorded = c.requires.1 }) m.new.work m.ensures.1 m.ensures.2
+    lent_kept (record { ready = c.requires.0; recorded = c.requires.1 }) m.new.tables m.ensures.1 m.ensures.2
 
 pub shape_of-work : goal.shape_of-work
 shape_of-work c = c.path_back.ensures.2 ∙ c.mark_last.ensures.2
@@ -27,11 +27,11 @@ returns c =
     let p = plan_of x.sheet.now x.contents in
     let a = x.contents.activities in
     let l = x.contents.links in
-    let S₀ = state_of a l x.work.now in
+    let S₀ = state_of a l x.tables.now in
     let m = c.mark_last in
     let b = c.path_back in
-    let S = state_of a l m.new.work in
-    let T = state_of a l b.new.work in
+    let S = state_of a l m.new.tables in
+    let T = state_of a l b.new.tables in
     let other = last_ones p (early_in p S₀) x.finish in (
       pass_is p S₀ S m.ensures.1 x.finish (ended (path_in p T other) b.result)
           (m.ensures.0 p x.t (activities_are x.sheet.now x.contents) c.requires.0.standing c.requires.1) (b.ensures.0 other),

@@ -52,21 +52,21 @@ module _ (p : Plan) (i : ℕ) {a : Activity} (e : a ≡ p.activity i) (n : summa
   none-recorded : {x : Status} → x ≡ status_of a.actual_start a.actual_finish → x ≡ NotStarted → recorded p i ≡ Ok Unstarted
   none-recorded g h = recorded_none p i n (sym (λ z. status_of (e z).actual_start (e z).actual_finish) ∙ sym g ∙ h)
 
-pub get_act-mark-requires : goal.get_act-mark-requires
-get_act-mark-requires c = (c.requires.0.room, c.requires.1, omega arith)
+pub act-mark-requires : goal.act-mark-requires
+act-mark-requires c = (omega (arith, c.requires.0.activities, c.requires.1), omega arith)
 
 pub keep-requires : goal.keep-requires
 keep-requires c =
     let x = c.args in
     let p = plan_of x.sheet.now x.contents in
-    let y = is-summary c.requires.0 c.requires.1 c.get_act-mark.ensures.0 c.if-mark-ne0.true in
+    let y = is-summary c.requires.0 c.requires.1 c.act-mark.ensures.0 c.if-mark-ne0.true in
     (c.requires.0.room, c.requires.1, is_below p x.i (Ok Unstarted) (sym (recorded_summary p x.i y)), omega arith)
 
 pub returns-then-mark-ne0 : goal.returns-then-mark-ne0
 returns-then-mark-ne0 c =
     let x = c.args in
     let p = plan_of x.sheet.now x.contents in
-    let y = is-summary c.requires.0 c.requires.1 c.get_act-mark.ensures.0 c.if-mark-ne0.true in
+    let y = is-summary c.requires.0 c.requires.1 c.act-mark.ensures.0 c.if-mark-ne0.true in
     let e = recorded_summary p x.i y in (
       row_kept p x.i _ _ Unstarted 0 c.keep.ensures.0 (sym e) (left_unstarted p x.i e ∙ ap Ok (full_summary p x.i y)),
       c.keep.ensures.1,
@@ -79,7 +79,7 @@ pub record_dated-requires : goal.record_dated-requires
 record_dated-requires c =
     let x = c.args in
     let e = c.activity_of-activity.ensures in
-    let n = no-summary c.requires.0 c.requires.1 c.get_act-mark.ensures.0 c.if-mark-ne0.false in (
+    let n = no-summary c.requires.0 c.requires.1 c.act-mark.ensures.0 c.if-mark-ne0.false in (
       c.requires.0.read,
       c.requires.0.located,
       c.requires.0.room,
@@ -97,7 +97,7 @@ pub keep-requires-2 : goal.keep-requires-2
 keep-requires-2 c =
     let x = c.args in
     let p = plan_of x.sheet.now x.contents in
-    let n = no-summary c.requires.0 c.requires.1 c.get_act-mark.ensures.0 c.if-mark-ne0.false in
+    let n = no-summary c.requires.0 c.requires.1 c.act-mark.ensures.0 c.if-mark-ne0.false in
     let r = none-recorded p x.i c.activity_of-activity.ensures n c.status_of-status.ensures c.in-NotStarted.is in
     (c.requires.0.room, c.requires.1, is_below p x.i (Ok Unstarted) (sym r), c.minutes_of-whole.ensures.1)
 
@@ -106,7 +106,7 @@ returns c =
     let x = c.args in
     let p = plan_of x.sheet.now x.contents in
     let e = c.activity_of-activity.ensures in
-    let n = no-summary c.requires.0 c.requires.1 c.get_act-mark.ensures.0 c.if-mark-ne0.false in
+    let n = no-summary c.requires.0 c.requires.1 c.act-mark.ensures.0 c.if-mark-ne0.false in
     let r = none-recorded p x.i e n c.status_of-status.ensures c.in-NotStarted.is in
     let w = whole_is p x.i e n (record { sfits = search rules }) c.minutes_of-whole.ensures.0 in (
       row_kept p x.i _ _ Unstarted _ c.keep-2.ensures.0 (sym r) (left_unstarted p x.i r ∙ ap Ok (sym w)),

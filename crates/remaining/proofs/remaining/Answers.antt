@@ -1,7 +1,7 @@
 -- `remaining::remaining` meets its contract: the first i activities are done.
 use mathlib.Core.Path.{◌≡◌, refl, ◌∙◌}
 use native.Mathlib.Omega.{arith}
-use Rattle.memory.specs.State.{state_of}
+use Rattle.memory.specs.Seen.{state}
 use Rattle.topology.specs.FrameLaws.{frame_refl, frame_then}
 use Rattle.order.specs.Plan.{plan_of}
 use Rattle.placing.proofs.PlacingSound.{clash}
@@ -13,7 +13,7 @@ use Rattle.remaining.proofs.remaining.Goals as goal
 pub loop-i-init : goal.loop-i-init
 loop-i-init c =
     let x = c.args in
-    let S = state_of x.contents.activities x.contents.links x.work.now in
+    let S = state x.tables.now in
     (refl, frame_refl 14 20 0 0 S, passed_start (plan_of x.sheet.now x.contents) S)
 
 pub record_one-requires : goal.record_one-requires
@@ -54,5 +54,5 @@ returns c =
     let x = c.args in
     let p = plan_of x.sheet.now x.contents in
     let d : L.i ≡ x.contents.activities = omega arith in
-    let e = passed_end p L.i (state_of x.contents.activities x.contents.links L.work) d L.invariant.2 in
+    let e = passed_end p L.i (state L.tables) d L.invariant.2 in
     (e.0, λ q. e.1, L.invariant.1, L.invariant.0)

@@ -5,7 +5,8 @@ use native.Mathlib.Omega.{arith}
 use mir.Facts.{to_z-of_z}
 use mir.Syntax.{w64}
 use Rattle.number.specs.BitLaws.{bit_le}
-use Rattle.memory.specs.State.{State, state_of, put_act, put_act_z}
+use Rattle.memory.specs.State.{State, put_act, put_act_z}
+use Rattle.memory.specs.Seen.{state}
 use Rattle.memory.specs.Fields.{total_float, shown_free, is_critical, is_longest}
 use Rattle.results.proofs.put_floats.Goals as goal
 
@@ -19,7 +20,7 @@ pub returns : goal.returns
 returns c =
     let i = c.args.i in
     let x = c.args.x in
-    let S = state_of c.args.a c.args.l c.args.work.now in
+    let S = state c.args.tables.now in
     let f = to_z-of_z {w = w64} {z = x.total} (record { sfits = search rules }) in (
       c.put_act-3.ensures.0
           ∙ (λ z. put_act ((c.put_act-2.ensures.0

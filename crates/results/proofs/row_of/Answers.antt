@@ -7,7 +7,7 @@ use Rattle.calendar.specs.Hours.{worked}
 use Rattle.project.specs.declared.Activity.{Activity}
 use Rattle.order.specs.Plan.{plan_of}
 use Rattle.calendars.specs.CalendarLaws.{in_plan_worked}
-use Rattle.memory.specs.State.{state_of}
+use Rattle.memory.specs.Seen.{state}
 use Rattle.results.proofs.RowLaws.{row_is}
 use Rattle.results.proofs.row_of.Goals as goal
 
@@ -54,7 +54,7 @@ returns c =
     let e : k ≡ (p.activity x.i).calendar = ap (λ (a : Activity). a.calendar) a in
     let n : k ≤ x.contents.calendars = omega (arith, e, h.0.named x.i h.1) in (
       c.shown_of.ensures.0 p
-          ∙ row_is p (state_of x.contents.activities x.contents.links x.work.now) x.i _ _ _ _ _ _ h.2 (ap (λ (a : Activity). a.kind) a)
+          ∙ row_is p (state x.tables.now) x.i _ _ _ _ _ _ h.2 (ap (λ (a : Activity). a.kind) a)
           (h.0.days.is k n ∙ ap p.day_length e)
           (in_plan_worked c.calendar_of-calendar.ensures
           ∙ ap (λ (j : ℕ). worked (p.hours j)) e)

@@ -20,7 +20,7 @@ loop-i-init c =
     let x = c.args in
     let S : List ℤ → State = λ ys. state_of x.contents.activities x.contents.links ys in
     let p = plan_of x.sheet.now x.contents in
-    (refl, c.read_project-project.ensures, shows_start p (S x.work.now))
+    (refl, c.read_project-project.ensures, shows_start p (S x.tables.now))
 
 pub show_one-requires : goal.show_one-requires
 show_one-requires c =
@@ -34,8 +34,8 @@ returns-in_err-show_one c = rw (handed_on _ _ c.from_residual.ensures.1) (let x 
     let p = plan_of x.sheet.now x.contents in
     let L = c.loop-i in
     let e = c.show_one.ensures in
-    let T = S c.show_one.new.work in (
-      (λ f other. shows_stop p (S x.work.now) (S L.work) T L.i L.invariant.2 (omega arith) _ e.0 _ c.in_err-show_one.was (shown_to p.activities T) f other),
+    let T = S c.show_one.new.tables in (
+      (λ f other. shows_stop p (S x.tables.now) (S L.work) T L.i L.invariant.2 (omega arith) _ e.0 _ c.in_err-show_one.was (shown_to p.activities T) f other),
       frame_then 20 30 0 0 L.invariant.2.frame e.1,
       omega arith,
     ))
@@ -48,7 +48,7 @@ loop-i-preserved c =
     let p = plan_of x.sheet.now x.contents in
     let L = c.loop-i in
     let e = c.show_one.ensures in
-    (omega arith, L.invariant.1, shows_turn p (S x.work.now) (S L.work) _ L.i L.invariant.2 (omega arith) _ e.0 e.1 c.in_ok-show_one.was)
+    (omega arith, L.invariant.1, shows_turn p (S x.tables.now) (S L.work) _ L.i L.invariant.2 (omega arith) _ e.0 e.1 c.in_ok-show_one.was)
 
 pub returns : goal.returns
 unfolding plan_of
@@ -57,4 +57,4 @@ returns c =
     let S : List ℤ → State = λ ys. state_of x.contents.activities x.contents.links ys in
     let p = plan_of x.sheet.now x.contents in
     let L = c.loop-i in
-    ((λ f other. shows_end p (S x.work.now) (S L.work) L.i L.invariant.2 (omega arith) f other), L.invariant.2.frame, omega arith)
+    ((λ f other. shows_end p (S x.tables.now) (S L.work) L.i L.invariant.2 (omega arith) f other), L.invariant.2.frame, omega arith)

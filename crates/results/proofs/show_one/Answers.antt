@@ -1,7 +1,7 @@
 -- `results::show_one` meets its contract.
 use mathlib.Core.Path.{ap, ◌∙◌}
 use native.Mathlib.Omega.{arith}
-use Rattle.memory.specs.State.{state_of}
+use Rattle.memory.specs.Seen.{state}
 use Rattle.topology.specs.FrameLaws.{frame_refl}
 use Rattle.passes.specs.Dates.{Pass}
 use Rattle.number.specs.Exits.{handed_on}
@@ -20,7 +20,7 @@ put_shown-requires c = let h = c.requires in (h.0.room, h.1, rw c.in_ok-x.was at
 pub returns : goal.returns
 returns c =
     let x = c.args in
-    let S = state_of x.contents.activities x.contents.links x.work.now in
+    let S = state x.tables.now in
     let e = c.put_shown.ensures in (
       next_done S x.i _ c.in_ok-x.x _ c.in_ok-x.was e.0 ∙ ap (λ (y : Pass Shown). shown_next y (shown_to x.i S) x.i) c.row_of.ensures.0,
       rw e.0 (shown_frame S x.i c.in_ok-x.x),
@@ -29,7 +29,7 @@ returns c =
 
 pub returns-in_err-x : goal.returns-in_err-x
 returns-in_err-x c = rw (handed_on _ _ c.from_residual.ensures.1) (let x = c.args in
-    let S = state_of x.contents.activities x.contents.links x.work.now in (
+    let S = state x.tables.now in (
       next_refused S x.i _ _ S c.in_err-x.was ∙ ap (λ (y : Pass Shown). shown_next y (shown_to x.i S) x.i) c.row_of.ensures.0,
       frame_refl 20 30 0 0 S,
       omega arith,

@@ -8,10 +8,10 @@ use Rattle.results.proofs.shown_at.Goals as goal
 pub returns : goal.returns
 returns c =
     let d = c.days_at-d.ensures in
-    let t = c.get_act_signed-total in
-    let e = c.get_act-free.ensures in
-    let f = c.get_act-finish.ensures in
-    let g = c.get_act-late.ensures in (
+    let t = c.act_signed-total in
+    let e = c.act-free.ensures in
+    let f = c.act-finish.ensures in
+    let g = c.act-late.ensures in (
       (λ z. record {
         es = (d.0 z).es;
         ef = (d.0 z).ef;
@@ -19,8 +19,8 @@ returns c =
         lf = (d.0 z).lf;
         total = (to_z-of_z {w = w64} (record { sfits = t.type_inv }) ∙ t.ensures) z;
         free = e.0 z;
-        critical = ltb 0 (c.get_act-critical.ensures.0 z);
-        path = ltb 0 (c.get_act-path.ensures.0 z);
+        critical = ltb 0 (c.act-critical.ensures.0 z);
+        path = ltb 0 (c.act-path.ensures.0 z);
         finish = f.0 z;
         late = g.0 z;
       }),

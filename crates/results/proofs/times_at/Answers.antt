@@ -4,12 +4,12 @@ use Rattle.results.proofs.times_at.Goals as goal
 
 pub returns : goal.returns
 returns c =
-    let e = c.get_act-es in
-    let f = c.get_act-ef in
-    let g = c.get_act-left in
-    let h = c.get_act-ls in
-    let j = c.get_act-lf in
-    let k = c.get_act-free in (
+    let e = c.act-es in
+    let f = c.act-ef in
+    let g = c.act-left in
+    let h = c.act-ls in
+    let j = c.act-lf in
+    let k = c.act-free in (
       (λ z. record {
         es = e.ensures.0 z;
         ef = f.ensures.0 z;
@@ -17,7 +17,7 @@ returns c =
         ls = h.ensures.0 z;
         lf = j.ensures.0 z;
         free = k.ensures.0 z;
-        path = ltb 0 (c.get_act-path.ensures.0 z);
+        path = ltb 0 (c.act-path.ensures.0 z);
       }),
       f.ensures.1,
       j.ensures.1,

@@ -2,7 +2,8 @@
 use mathlib.Core.Path.{sym, subst}
 use Prim.Native.Nat.{◌+◌}
 use native.Mathlib.Omega.{arith}
-use Rattle.memory.specs.State.{state_of, fill_act}
+use Rattle.memory.specs.State.{fill_act}
+use Rattle.memory.specs.Seen.{state}
 use Rattle.topology.specs.Frame.{Frame}
 use Rattle.topology.specs.FrameLaws.{frame_fill, frame_then}
 use Rattle.rollup.specs.Chained.{LinkedIn, KeysIn}
@@ -13,7 +14,7 @@ pub chain_down-requires : goal.chain_down-requires
 chain_down-requires c =
     let x = c.args in
     let h = c.requires in
-    let S = state_of x.a x.l x.work.now in
+    let S = state x.tables.now in
     let F = frame_fill x.head (x.head + 2) 0 0 x.head (omega arith) (omega arith) S x.a x.a in
     let e = c.fill_act.ensures in (
       omega (arith, e.1, h.0),
@@ -27,7 +28,7 @@ pub returns : goal.returns
 returns c =
     let x = c.args in
     let h = c.requires in
-    let S = state_of x.a x.l x.work.now in
+    let S = state x.tables.now in
     let F = frame_fill x.head (x.head + 2) 0 0 x.head (omega arith) (omega arith) S x.a x.a in
     let d = c.fill_act.ensures in
     let e = c.chain_down.ensures in

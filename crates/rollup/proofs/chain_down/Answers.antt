@@ -3,13 +3,14 @@ use mathlib.Core.Path.{◌≡◌, refl, subst}
 use Prim.Native.Nat.{ℕ, ◌+◌, ◌-◌}
 use native.Mathlib.Omega.{arith}
 use Rattle.memory.specs.State.{state_of}
+use Rattle.memory.specs.Seen.{state}
 use Rattle.topology.specs.FrameLaws.{frame_refl, frame_then}
 use Rattle.rollup.specs.Chained.{LinkedIn}
 use Rattle.rollup.specs.ChainedLaws.{keys_kept}
 use Rattle.rollup.proofs.chain_down.Goals as goal
 
 pub loop-c-init : goal.loop-c-init
-loop-c-init c = let x = c.args in (refl, frame_refl x.head (x.head + 2) 0 0 (state_of x.a x.l x.work.now), c.requires.4)
+loop-c-init c = let x = c.args in (refl, frame_refl x.head (x.head + 2) 0 0 (state x.tables.now), c.requires.4)
 
 pub chain_one-requires : goal.chain_one-requires
 chain_one-requires c =
@@ -21,7 +22,7 @@ chain_one-requires c =
       omega arith,
       h.1,
       h.2,
-      keys_kept x.key x.head x.a h.1 (state_of x.a x.l x.work.now) _ L.invariant.1 h.3,
+      keys_kept x.key x.head x.a h.1 (state x.tables.now) _ L.invariant.1 h.3,
       subst (λ (k : ℕ). LinkedIn x.key x.head x.a k (state_of x.a x.l L.work)) e L.invariant.2,
     )
 

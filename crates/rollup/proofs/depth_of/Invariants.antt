@@ -1,8 +1,8 @@
 -- `rollup::depth_of` meets its contract: k steps are made and lead to `y`.
-use Rattle.memory.specs.State.{state_of}
+use Rattle.memory.specs.Seen.{state}
 use Rattle.memory.specs.Fields.{parent}
 use Rattle.rollup.specs.DepthLaws.{Climbs}
 use Rattle.rollup.proofs.depth_of.Given as goal
 
 abbrev pub invariant-loop-k : goal.invariant-loop-k
-invariant-loop-k l = Climbs ((state_of l.a l.l l.work).act parent) l.a l.i l.y l.k
+invariant-loop-k l = Climbs ((state l.tables).act parent) l.a l.i l.y l.k

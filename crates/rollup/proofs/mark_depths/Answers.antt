@@ -15,7 +15,7 @@ use Rattle.rollup.proofs.mark_depths.Goals as goal
 pub loop-i-init : goal.loop-i-init
 loop-i-init c =
     let x = c.args in
-    let S : List ℤ → State = λ ys. state_of x.a x.l ys in (refl, frame_refl 30 31 0 0 (S x.work.now), depths_none (S x.work.now) (S x.work.now) x.a)
+    let S : List ℤ → State = λ ys. state_of x.a x.l ys in (refl, frame_refl 30 31 0 0 (S x.tables.now), depths_none (S x.tables.now) (S x.tables.now) x.a)
 
 pub mark_one-requires : goal.mark_one-requires
 mark_one-requires c =
@@ -31,9 +31,9 @@ loop-i-preserved c =
     let e = c.mark_one.ensures in
     let v = depth_key (S L.work) x.a L.i in (
       omega arith,
-      subst (Frame 30 31 0 0 (S x.work.now)) (sym e.0) (frame_then 30 31 0 0 L.invariant.1 (depth_frame (S L.work) L.i v)),
-      subst (λ (T : State). DepthsTo (S x.work.now) T x.a (L.i + 1)) (sym e.0)
-          (depths_more (S x.work.now) (S L.work) x.a L.i v (key_kept (S x.work.now) (S L.work) x.a L.i L.invariant.1) L.invariant.2),
+      subst (Frame 30 31 0 0 (S x.tables.now)) (sym e.0) (frame_then 30 31 0 0 L.invariant.1 (depth_frame (S L.work) L.i v)),
+      subst (λ (T : State). DepthsTo (S x.tables.now) T x.a (L.i + 1)) (sym e.0)
+          (depths_more (S x.tables.now) (S L.work) x.a L.i v (key_kept (S x.tables.now) (S L.work) x.a L.i L.invariant.1) L.invariant.2),
     )
 
 pub returns : goal.returns
@@ -42,4 +42,4 @@ returns c =
     let S : List ℤ → State = λ ys. state_of x.a x.l ys in
     let L = c.loop-i in
     let e : L.i ≡ x.a = omega arith in
-    (subst (DepthsTo (S x.work.now) (S L.work) x.a) e L.invariant.2, L.invariant.1, L.invariant.0)
+    (subst (DepthsTo (S x.tables.now) (S L.work) x.a) e L.invariant.2, L.invariant.1, L.invariant.0)

@@ -1,16 +1,17 @@
 -- `rollup::mark_one` meets its contract.
 use mathlib.Core.Path.{sym, ap, ◌∙◌}
 use native.Mathlib.Omega.{arith}
-use Rattle.memory.specs.State.{state_of, put_act}
+use Rattle.memory.specs.State.{put_act}
+use Rattle.memory.specs.Seen.{state}
 use Rattle.memory.specs.Fields.{depth_of}
 use Rattle.rollup.specs.DepthLaws.{key_none, key_some}
 use Rattle.rollup.proofs.mark_one.Goals as goal
 
-pub returns-then-get_act-eq0 : goal.returns-then-get_act-eq0
-returns-then-get_act-eq0 c =
+pub returns-then-act-eq0 : goal.returns-then-act-eq0
+returns-then-act-eq0 c =
     let x = c.args in
-    let S = state_of x.a x.l x.work.now in
-    (c.put_act.ensures.0 ∙ ap (put_act S depth_of x.i) (key_none S x.a x.i (sym c.get_act.ensures.0 ∙ c.if-get_act-eq0.true)), c.put_act.ensures.1)
+    let S = state x.tables.now in
+    (c.put_act.ensures.0 ∙ ap (put_act S depth_of x.i) (key_none S x.a x.i (sym c.act.ensures.0 ∙ c.if-act-eq0.true)), c.put_act.ensures.1)
 
 pub depth_of-d-requires : goal.depth_of-d-requires
 depth_of-d-requires c = let h = c.requires in (h.0, h.2, h.3)
@@ -21,8 +22,8 @@ put_act-requires-2 c = let h = c.requires in (h.0, h.2, omega arith, omega (arit
 pub returns : goal.returns
 returns c =
     let x = c.args in
-    let S = state_of x.a x.l x.work.now in (
+    let S = state x.tables.now in (
       c.put_act-2.ensures.0
-          ∙ ap (put_act S depth_of x.i) (c.depth_of-d.ensures.0 ∙ key_some S x.a x.i (λ e. c.if-get_act-eq0.false (c.get_act.ensures.0 ∙ e))),
+          ∙ ap (put_act S depth_of x.i) (c.depth_of-d.ensures.0 ∙ key_some S x.a x.i (λ e. c.if-act-eq0.false (c.act.ensures.0 ∙ e))),
       c.put_act-2.ensures.1,
     )

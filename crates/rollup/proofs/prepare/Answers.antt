@@ -2,7 +2,7 @@
 use mathlib.Core.Path.{refl, ap, ◌∙◌}
 use Prim.Native.Nat.{ℕ}
 use native.Mathlib.Omega.{arith}
-use Rattle.memory.specs.State.{state_of}
+use Rattle.memory.specs.Seen.{state}
 use Rattle.memory.specs.Fields.{parent}
 use Rattle.rollup.specs.PreparedLaws.{depths_in, prepared}
 use Rattle.rollup.proofs.prepare.Goals as goal
@@ -15,7 +15,7 @@ chain-requires c =
     let h = c.requires in
     let x = c.args in
     let e = c.mark_depths.ensures in
-    (omega (arith, e.2, h.0), h.1, omega arith, omega arith, depths_in (state_of x.a x.l x.work.now) (state_of x.a x.l c.mark_depths.new.work) x.a e.0)
+    (omega (arith, e.2, h.0), h.1, omega arith, omega arith, depths_in (state x.tables.now) (state c.mark_depths.new.tables) x.a e.0)
 
 pub chain-requires-2 : goal.chain-requires-2
 chain-requires-2 c =
@@ -30,4 +30,4 @@ returns c =
     let e = c.mark_depths.ensures in
     let d = c.chain.ensures in
     let f = c.chain-2.ensures in
-    (prepared x.a (state_of x.a x.l x.work.now) _ _ _ e.0 e.1 d.0 d.1 f.0 f.1, omega arith)
+    (prepared x.a (state x.tables.now) _ _ _ e.0 e.1 d.0 d.1 f.0 f.1, omega arith)

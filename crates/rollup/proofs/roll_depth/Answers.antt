@@ -6,6 +6,7 @@ use native.Mathlib.Omega.{arith}
 use lib.IntN.{ℤ}
 use Rattle.cells.specs.Chain.{Stands}
 use Rattle.memory.specs.State.{State, state_of}
+use Rattle.memory.specs.Seen.{state}
 use Rattle.memory.specs.Fields.{depth_of, next_deep}
 use Rattle.topology.specs.FrameLaws.{frame_refl, frame_then}
 use Rattle.order.specs.Plan.{plan_of}
@@ -20,8 +21,8 @@ use Rattle.rollup.proofs.roll_depth.Goals as goal
 pub overflow_sub-d : goal.overflow_sub-d
 overflow_sub-d c = omega (arith, c.requires.2)
 
-pub get_act-k-requires : goal.get_act-k-requires
-get_act-k-requires c = let h = c.requires in (h.0.room, omega (arith, h.2, h.3), omega arith)
+pub act-k-requires : goal.act-k-requires
+act-k-requires c = let h = c.requires in (omega (arith, h.0.activities, omega (arith, h.2, h.3)), omega arith)
 
 pub loop-k-init : goal.loop-k-init
 unfolding plan_of
@@ -30,11 +31,11 @@ loop-k-init c =
     let h = c.requires in
     let p = plan_of x.sheet.now x.contents in
     let S : List ℤ → State = λ ys. state_of x.contents.activities x.contents.links ys in
-    let S₀ = S x.work.now in
+    let S₀ = S x.tables.now in
     let n : suc (x.d - 1) ≡ x.d = omega (arith, h.2) in
     let T = h.1.deep.heads (x.d - 1) (omega (arith, h.2, h.3)) in
-    let U = subst (Stands (S₀.act depth_of) x.contents.activities (suc (x.d - 1)) 0) (sym c.get_act-k.ensures.0) T in
-    (refl, rolls_start p S₀ x.d _ (frame_refl 20 30 0 0 S₀) (subst (λ (i : ℕ). Stands (S₀.act depth_of) x.contents.activities i 0 c.get_act-k.result) n U))
+    let U = subst (Stands (S₀.act depth_of) x.contents.activities (suc (x.d - 1)) 0) (sym c.act-k.ensures.0) T in
+    (refl, rolls_start p S₀ x.d _ (frame_refl 20 30 0 0 S₀) (subst (λ (i : ℕ). Stands (S₀.act depth_of) x.contents.activities i 0 c.act-k.result) n U))
 
 pub roll_one-requires : goal.roll_one-requires
 unfolding plan_of
@@ -43,7 +44,7 @@ roll_one-requires c =
     let h = c.requires in
     let p = plan_of x.sheet.now x.contents in
     let S : List ℤ → State = λ ys. state_of x.contents.activities x.contents.links ys in
-    let S₀ = S x.work.now in
+    let S₀ = S x.tables.now in
     let L = c.loop-k in
     (to_show_kept (omega arith) L.invariant.1.frame L.invariant.0 h.0, deep_kept p S₀ (S L.work) L.invariant.1.frame h.1, omega (arith, c.loop-k-test.true), h.4)
 
@@ -53,29 +54,29 @@ returns-in_err-roll_one c = rw (handed_on _ _ c.from_residual.ensures.1) (let x 
     let h = c.requires in
     let p = plan_of x.sheet.now x.contents in
     let S : List ℤ → State = λ ys. state_of x.contents.activities x.contents.links ys in
-    let S₀ = S x.work.now in
+    let S₀ = S x.tables.now in
     let L = c.loop-k in
     let W = L.invariant.1 in
     let e = c.roll_one.ensures in
-    let T = S c.roll_one.new.work in (
+    let T = S c.roll_one.new.tables in (
       (λ q. rolls_stop p S₀ x.d (S L.work) T L.k W (omega (arith, c.loop-k-test.true)) _ e.0 _ (shown_in p T) c.in_err-roll_one.was q
           ∙ ap (λ (ks : List ℕ). through (rolled p q) ks (shown_in p S₀)) (depth_is p S₀ h.1 x.d h.2 q)),
       frame_then 20 30 0 0 W.frame e.1,
       omega (arith, e.2, L.invariant.0),
     ))
 
-pub get_act-k-requires-in-loop-k : goal.get_act-k-requires-in-loop-k
-get_act-k-requires-in-loop-k c = let h = c.requires in (omega (arith, c.roll_one.ensures.2, c.loop-k.invariant.0, h.0.room), omega (arith, c.loop-k-test.true), omega arith)
+pub act-k-requires-in-loop-k : goal.act-k-requires-in-loop-k
+act-k-requires-in-loop-k c = let h = c.requires in (omega (arith, c.roll_one.ensures.2, c.loop-k.invariant.0, h.0.room), omega (arith, c.loop-k-test.true), omega arith)
 
 -- what is rolled up leaves the chain, so the next stands where the definition says
-next-stands : (c : goal.After-get_act-k-in-loop-k) → Stands ((state_of c.args.contents.activities c.args.contents.links c.args.work.now).act depth_of) c.args.contents.activities ((state_of c.args.contents.activities c.args.contents.links c.args.work.now).act depth_of c.loop-k.k) (c.loop-k.k + 1) c.get_act-k-in-loop-k.result
+next-stands : (c : goal.After-act-k-in-loop-k) → Stands ((state c.args.tables.now).act depth_of) c.args.contents.activities ((state c.args.tables.now).act depth_of c.loop-k.k) (c.loop-k.k + 1) c.act-k-in-loop-k.result
 unfolding plan_of
 next-stands c =
     let x = c.args in
-    let S₀ = state_of x.contents.activities x.contents.links x.work.now in
+    let S₀ = state x.tables.now in
     let L = c.loop-k in
     let F = frame_then 20 30 0 0 L.invariant.1.frame c.roll_one.ensures.1 in
-    let m = c.get_act-k-in-loop-k.ensures.0 ∙ ap (λ (f : ℕ → ℕ). f L.k) (F.acts next_deep refl) in
+    let m = c.act-k-in-loop-k.ensures.0 ∙ ap (λ (f : ℕ → ℕ). f L.k) (F.acts next_deep refl) in
     subst (Stands (S₀.act depth_of) x.contents.activities (S₀.act depth_of L.k) (L.k + 1)) (sym m) (c.requires.1.deep.nexts L.k (omega arith) (omega (arith, c.loop-k-test.true)) (omega (arith, L.invariant.1.hits (omega (arith, c.loop-k-test.true)), c.requires.2)))
 
 pub loop-k-smaller : goal.loop-k-smaller
@@ -89,8 +90,8 @@ loop-k-preserved c =
     let L = c.loop-k in
     let W = L.invariant.1 in
     let e = c.roll_one.ensures in
-    let T = S c.roll_one.new.work in
-    (omega (arith, e.2, L.invariant.0), rolls_turn (plan_of x.sheet.now x.contents) (S x.work.now) x.d (S L.work) T L.k W (omega (arith, c.loop-k-test.true)) _ e.0 _ T refl c.in_ok-roll_one.was (frame_then 20 30 0 0 W.frame e.1) (next-stands c))
+    let T = S c.roll_one.new.tables in
+    (omega (arith, e.2, L.invariant.0), rolls_turn (plan_of x.sheet.now x.contents) (S x.tables.now) x.d (S L.work) T L.k W (omega (arith, c.loop-k-test.true)) _ e.0 _ T refl c.in_ok-roll_one.was (frame_then 20 30 0 0 W.frame e.1) (next-stands c))
 
 pub returns : goal.returns
 unfolding plan_of
@@ -99,7 +100,7 @@ returns c =
     let h = c.requires in
     let p = plan_of x.sheet.now x.contents in
     let S : List ℤ → State = λ ys. state_of x.contents.activities x.contents.links ys in
-    let S₀ = S x.work.now in
+    let S₀ = S x.tables.now in
     let L = c.loop-k in (
       (λ q. rolls_end p S₀ x.d (S L.work) L.k L.invariant.1 (omega (arith, c.loop-k-test.false)) q ∙ ap (λ (ks : List ℕ). through (rolled p q) ks (shown_in p S₀)) (depth_is p S₀ h.1 x.d h.2 q)),
       L.invariant.1.frame,

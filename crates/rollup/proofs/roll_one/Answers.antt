@@ -2,7 +2,7 @@
 use mathlib.Core.Path.{refl, sym, subst}
 use Prim.Native.Nat.{◌<◌}
 use native.Mathlib.Omega.{arith}
-use Rattle.memory.specs.State.{state_of}
+use Rattle.memory.specs.Seen.{state}
 use Rattle.memory.specs.Fields.{first_child}
 use Rattle.topology.specs.Frame.{Frame}
 use Rattle.topology.specs.FrameLaws.{frame_refl}
@@ -13,8 +13,8 @@ use Rattle.number.specs.Exits.{handed_on}
 use Rattle.rollup.specs.RollingLaws.{one_none, one_done, one_refused}
 use Rattle.rollup.proofs.roll_one.Goals as goal
 
-pub get_act-first-requires : goal.get_act-first-requires
-get_act-first-requires c = let h = c.requires in (h.0.room, h.2, omega arith)
+pub act-first-requires : goal.act-first-requires
+act-first-requires c = let h = c.requires in (omega (arith, h.0.activities, h.2), omega arith)
 
 pub returns-then-first-contents : goal.returns-then-first-contents
 unfolding plan_of
@@ -22,8 +22,8 @@ returns-then-first-contents c =
     let x = c.args in
     let h = c.requires in
     let p = plan_of x.sheet.now x.contents in
-    let S = state_of x.contents.activities x.contents.links x.work.now in
-    ((λ q. one_none p S h.1 x.s h.2 (omega (arith, c.get_act-first.ensures.0, c.if-first-contents.true)) q), frame_refl 20 30 0 0 S, refl)
+    let S = state x.tables.now in
+    ((λ q. one_none p S h.1 x.s h.2 (omega (arith, c.act-first.ensures.0, c.if-first-contents.true)) q), frame_refl 20 30 0 0 S, refl)
 
 pub sum_children-x-requires : goal.sum_children-x-requires
 unfolding plan_of
@@ -31,8 +31,8 @@ sum_children-x-requires c =
     let x = c.args in
     let h = c.requires in
     let p = plan_of x.sheet.now x.contents in
-    let S = state_of x.contents.activities x.contents.links x.work.now in
-    (h.0.room, h.2, h.1.children, c.get_act-first.ensures.0, omega (arith, c.if-first-contents.false))
+    let S = state x.tables.now in
+    (h.0.room, h.2, h.1.children, c.act-first.ensures.0, omega (arith, c.if-first-contents.false))
 
 pub summed_of-requires : goal.summed_of-requires
 unfolding plan_of
@@ -40,7 +40,7 @@ summed_of-requires c =
     let x = c.args in
     let h = c.requires in
     let p = plan_of x.sheet.now x.contents in
-    let S = state_of x.contents.activities x.contents.links x.work.now in
+    let S = state x.tables.now in
     (h.0.read, h.0.located, h.0.days, h.2, h.0.named x.s h.2, h.3, c.sum_children-x.ensures.1)
 
 pub put_shown-requires : goal.put_shown-requires
@@ -48,7 +48,7 @@ put_shown-requires c =
     let x = c.args in
     let h = c.requires in
     let p = plan_of x.sheet.now x.contents in
-    let S = state_of x.contents.activities x.contents.links x.work.now in
+    let S = state x.tables.now in
     (h.0.room, h.2, rw c.in_ok-y.was at c.summed_of.ensures.1)
 
 pub returns : goal.returns
@@ -57,8 +57,8 @@ returns c =
     let x = c.args in
     let h = c.requires in
     let p = plan_of x.sheet.now x.contents in
-    let S = state_of x.contents.activities x.contents.links x.work.now in
-    let l : S.act first_child x.s < x.contents.activities = omega (arith, c.get_act-first.ensures.0, c.if-first-contents.false) in
+    let S = state x.tables.now in
+    let l : S.act first_child x.s < x.contents.activities = omega (arith, c.act-first.ensures.0, c.if-first-contents.false) in
     let y = c.in_ok-y.y in
     let e = c.put_shown.ensures in (
       (λ q. one_done p S h.1 x.s h.2 l _ _ c.sum_children-x.ensures.0 c.summed_of.ensures.0 y _ c.in_ok-y.was e.0 q),
@@ -71,8 +71,8 @@ unfolding plan_of
 returns-in_err-y c = rw (handed_on _ _ c.from_residual.ensures.1) (let x = c.args in
     let h = c.requires in
     let p = plan_of x.sheet.now x.contents in
-    let S = state_of x.contents.activities x.contents.links x.work.now in
-    let l : S.act first_child x.s < x.contents.activities = omega (arith, c.get_act-first.ensures.0, c.if-first-contents.false) in (
+    let S = state x.tables.now in
+    let l : S.act first_child x.s < x.contents.activities = omega (arith, c.act-first.ensures.0, c.if-first-contents.false) in (
       (λ q. one_refused p S h.1 x.s h.2 l _ _ c.sum_children-x.ensures.0 c.summed_of.ensures.0 _ (shown_in p S) c.in_err-y.was q),
       frame_refl 20 30 0 0 S,
       refl,

@@ -24,7 +24,7 @@ prepare-requires c =
     let h = c.requires in
     let p = plan_of x.sheet.now x.contents in
     let S : List ℤ → State = λ ys. state_of x.contents.activities x.contents.links ys in
-    let S₀ = S x.work.now in
+    let S₀ = S x.tables.now in
     (h.0.room, omega (arith, h.0.read.activities_few), keys_in p S₀ h.1)
 
 pub roll_all-requires : goal.roll_all-requires
@@ -34,9 +34,9 @@ roll_all-requires c =
     let h = c.requires in
     let p = plan_of x.sheet.now x.contents in
     let S : List ℤ → State = λ ys. state_of x.contents.activities x.contents.links ys in
-    let S₀ = S x.work.now in
+    let S₀ = S x.tables.now in
     let e = c.prepare.ensures in
-    let T = S c.prepare.new.work in
+    let T = S c.prepare.new.tables in
     (to_show_kept (omega arith) e.0.frame e.1 h.0, deep_from p S₀ T h.1.parents h.1.marks h.1.within e.0, c.read_project-project.ensures)
 
 pub returns : goal.returns
@@ -46,7 +46,7 @@ returns c =
     let h = c.requires in
     let p = plan_of x.sheet.now x.contents in
     let S : List ℤ → State = λ ys. state_of x.contents.activities x.contents.links ys in
-    let S₀ = S x.work.now in
+    let S₀ = S x.tables.now in
     let e = c.prepare.ensures in
     let d = c.roll_all.ensures in (
       (λ q. d.0 q ∙ ap (λ (f : ℕ → Shown). through (rolled p q) (deepest_first p q x.contents.activities) f) (shown_kept (omega arith) e.0.frame x.contents.activities)),

@@ -3,7 +3,7 @@ use mathlib.Core.Path.{sym, ap, subst, ◌∙◌}
 use Prim.Native.Nat.{ℕ, suc, ◌+◌}
 use native.Mathlib.Omega.{arith}
 use Rattle.cells.specs.Chain.{Stands}
-use Rattle.memory.specs.State.{state_of}
+use Rattle.memory.specs.Seen.{state}
 use Rattle.memory.specs.Fields.{parent, first_child, next_child}
 use Rattle.results.specs.declared.Shown.{Shown}
 use Rattle.results.specs.View.{shown_to, shown_at}
@@ -15,20 +15,20 @@ use Rattle.rollup.proofs.sum_children.Goals as goal
 pub shown_at-x-requires : goal.shown_at-x-requires
 shown_at-x-requires c = (c.requires.0, c.requires.4)
 
-pub get_act-k-requires : goal.get_act-k-requires
-get_act-k-requires c = (c.requires.0, c.requires.4, omega arith)
+pub act-k-requires : goal.act-k-requires
+act-k-requires c = (c.requires.0, c.requires.4, omega arith)
 
 pub loop-k-init : goal.loop-k-init
 loop-k-init c =
     let x = c.args in
     let h = c.requires in
-    let S = state_of x.a x.l x.work.now in
+    let S = state x.tables.now in
     let key = S.act parent in
     let F = shown_to x.a S in
     let n = S.act first_child x.s in
     let e = (h.2.heads x.s h.1).hits (omega (arith, h.3, h.4)) in
     let T = subst (λ (i : ℕ). Stands key x.a i (n + 1) (S.act next_child n)) e (h.2.nexts n (omega arith) (omega (arith, h.3, h.4)) (omega (arith, e))) in
-    let U = subst (Stands key x.a (suc x.s) (n + 1)) (sym (c.get_act-k.ensures.0 ∙ ap (S.act next_child) h.3)) T in
+    let U = subst (Stands key x.a (suc x.s) (n + 1)) (sym (c.act-k.ensures.0 ∙ ap (S.act next_child) h.3)) T in
     (sums_start F key x.a (suc x.s) n _ U _ (c.shown_at-x.ensures.0 ∙ ap (shown_at S) h.3 ∙ sym (to_at_lem x.a S n (omega (arith, h.3, h.4)))), c.shown_at-x.ensures.1)
 
 pub shown_at-requires : goal.shown_at-requires
@@ -37,15 +37,15 @@ shown_at-requires c = (c.requires.0, omega arith)
 pub join-x-requires : goal.join-x-requires
 join-x-requires c = (c.loop-k.invariant.1, c.shown_at.ensures.1)
 
-pub get_act-k-requires-in-loop-k : goal.get_act-k-requires-in-loop-k
-get_act-k-requires-in-loop-k c = (c.requires.0, omega arith, omega arith)
+pub act-k-requires-in-loop-k : goal.act-k-requires-in-loop-k
+act-k-requires-in-loop-k c = (c.requires.0, omega arith, omega arith)
 
-next-stands : (c : goal.After-get_act-k-in-loop-k) → Stands ((state_of c.args.a c.args.l c.args.work.now).act parent) c.args.a ((state_of c.args.a c.args.l c.args.work.now).act parent c.loop-k.k) (c.loop-k.k + 1) c.get_act-k-in-loop-k.result
+next-stands : (c : goal.After-act-k-in-loop-k) → Stands ((state c.args.tables.now).act parent) c.args.a ((state c.args.tables.now).act parent c.loop-k.k) (c.loop-k.k + 1) c.act-k-in-loop-k.result
 next-stands c =
     let x = c.args in
-    let key = (state_of x.a x.l x.work.now).act parent in
+    let key = (state x.tables.now).act parent in
     let L = c.loop-k in
-    subst (Stands key x.a (key L.k) (L.k + 1)) (sym c.get_act-k-in-loop-k.ensures.0) (c.requires.2.nexts L.k (omega arith) (omega arith) (omega (arith, L.invariant.0.hits (omega arith))))
+    subst (Stands key x.a (key L.k) (L.k + 1)) (sym c.act-k-in-loop-k.ensures.0) (c.requires.2.nexts L.k (omega arith) (omega arith) (omega (arith, L.invariant.0.hits (omega arith))))
 
 pub loop-k-smaller : goal.loop-k-smaller
 loop-k-smaller c = omega (arith, (next-stands c).low)
@@ -53,12 +53,12 @@ loop-k-smaller c = omega (arith, (next-stands c).low)
 pub loop-k-preserved : goal.loop-k-preserved
 loop-k-preserved c =
     let x = c.args in
-    let S = state_of x.a x.l x.work.now in
+    let S = state x.tables.now in
     let key = S.act parent in
     let F = shown_to x.a S in
     let L = c.loop-k in
     let y = c.shown_at.ensures.0 ∙ sym (to_at_lem x.a S L.k (omega arith)) in (
-      subst (λ (v : Shown). Sums F key x.a (suc x.s) (child_sum S x.a x.s) v c.get_act-k-in-loop-k.result) (sym c.join-x.ensures.0)
+      subst (λ (v : Shown). Sums F key x.a (suc x.s) (child_sum S x.a x.s) v c.act-k-in-loop-k.result) (sym c.join-x.ensures.0)
           (sums_turn F key x.a (suc x.s) (child_sum S x.a x.s) L.x L.k L.invariant.0 _ _ (omega arith) y (next-stands c)),
       c.join-x.ensures.1,
     )
@@ -67,7 +67,7 @@ pub returns : goal.returns
 returns c =
     let x = c.args in
     let h = c.requires in
-    let S = state_of x.a x.l x.work.now in
+    let S = state x.tables.now in
     let key = S.act parent in
     let F = shown_to x.a S in
     let L = c.loop-k in

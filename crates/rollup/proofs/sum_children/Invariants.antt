@@ -1,6 +1,6 @@
 -- `rollup::sum_children` meets its contract: the next child is k, and `x` is the sum so far.
 use Prim.Native.Nat.{suc, ◌-◌}
-use Rattle.memory.specs.State.{state_of}
+use Rattle.memory.specs.Seen.{state}
 use Rattle.memory.specs.Fields.{parent}
 use Rattle.results.specs.View.{shown_to}
 use Rattle.results.specs.Showing.{Holds}
@@ -9,7 +9,7 @@ use Rattle.rollup.specs.RollLaws.{Sums}
 use Rattle.rollup.proofs.sum_children.Given as goal
 
 abbrev pub invariant-loop-k : goal.invariant-loop-k
-invariant-loop-k l = Sums (shown_to l.a (state_of l.a l.l l.work)) ((state_of l.a l.l l.work).act parent) l.a (suc l.s) (child_sum (state_of l.a l.l l.work) l.a l.s) l.x l.k × Holds l.x
+invariant-loop-k l = Sums (shown_to l.a (state l.tables)) ((state l.tables).act parent) l.a (suc l.s) (child_sum (state l.tables) l.a l.s) l.x l.k × Holds l.x
 
 abbrev pub decreases-loop-k : goal.decreases-loop-k
 decreases-loop-k l = l.a - l.k

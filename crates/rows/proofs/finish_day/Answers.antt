@@ -3,7 +3,7 @@ use mathlib.Core.Path.{◌≡◌, ap, ◌∙◌}
 use Prim.Native.Nat.{ℕ, ◌/◌, max}
 use native.Mathlib.Omega.{arith}
 use mir.Facts.{to_z-of_z}
-use Rattle.memory.specs.State.{state_of}
+use Rattle.memory.specs.Seen.{state}
 use Rattle.order.specs.Plan.{plan_of}
 use Rattle.results.specs.Results.{finish_day}
 use Rattle.results.specs.Rows.{signed_day_of}
@@ -18,21 +18,21 @@ pub loop-i-init : goal.loop-i-init
 unfolding plan_of
 loop-i-init c =
     let x = c.args in
-    let S = state_of x.contents.activities x.contents.links x.work.now in
+    let S = state x.tables.now in
     let p = plan_of x.sheet.now x.contents in
     (omega (arith, c.origin_of-d.ensures.1), λ q. ap (λ (t : ℕ). t / 1440) c.origin_of-d.ensures.0 ∙ day_none p q S)
 
-pub get_act-requires : goal.get_act-requires
-get_act-requires c = (c.requires.1, omega arith, omega arith)
+pub act-requires : goal.act-requires
+act-requires c = (c.requires.1, omega arith, omega arith)
 
 pub loop-i-preserved : goal.loop-i-preserved
 unfolding plan_of
 loop-i-preserved c =
     let x = c.args in
-    let S = state_of x.contents.activities x.contents.links x.work.now in
+    let S = state x.tables.now in
     let p = plan_of x.sheet.now x.contents in
     let L = c.loop-i in
-    let g = c.get_act.ensures in (
+    let g = c.act.ensures in (
       omega (arith, c.max-d.ensures, g.1, L.invariant.0),
       λ q. c.max-d.ensures ∙ ap (max L.d) g.0 ∙ day_more p q S L.i L.d (omega arith) (L.invariant.1 q),
     )
@@ -44,7 +44,7 @@ pub returns : goal.returns
 unfolding plan_of
 returns c =
     let x = c.args in
-    let S = state_of x.contents.activities x.contents.links x.work.now in
+    let S = state x.tables.now in
     let p = plan_of x.sheet.now x.contents in
     let L = c.loop-i in
     let n : L.i ≡ x.contents.activities = omega arith in

@@ -1,7 +1,7 @@
 -- `rows::finish_day` meets its contract: `d` is the finish day of the first i activities.
 use mathlib.Core.Path.{◌≡◌}
 use Prim.Native.Nat.{◌^◌, ◌<◌}
-use Rattle.memory.specs.State.{state_of}
+use Rattle.memory.specs.Seen.{state}
 use Rattle.order.specs.Plan.{plan_of}
 use Rattle.passes.specs.Run.{Ran}
 use Rattle.results.specs.Results.{finish_day}
@@ -11,4 +11,4 @@ use Rattle.rows.proofs.finish_day.Given as goal
 abbrev pub invariant-loop-i : goal.invariant-loop-i
 invariant-loop-i l =
     (l.d < 2 ^ 63)
-    × ((q : Ran) → l.d ≡ finish_day (plan_of l.sheet l.contents) q (shown_in (plan_of l.sheet l.contents) (state_of l.contents.activities l.contents.links l.work)) l.i)
+    × ((q : Ran) → l.d ≡ finish_day (plan_of l.sheet l.contents) q (shown_in (plan_of l.sheet l.contents) (state l.tables)) l.i)

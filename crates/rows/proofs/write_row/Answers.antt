@@ -4,7 +4,7 @@ use mathlib.Core.Path.{refl, ap, ◌∙◌}
 use Prim.Native.Nat.{◌*◌, ◌≤◌, ◌<◌, ◌^◌}
 use native.Mathlib.Omega.{arith}
 use Rattle.project.specs.declared.Activity.{Activity}
-use Rattle.memory.specs.State.{state_of}
+use Rattle.memory.specs.Seen.{state}
 use Rattle.order.specs.Plan.{plan_of}
 use Rattle.rows.specs.Writing.{stored_from}
 use Rattle.rows.specs.WritingLaws.{fields_are}
@@ -29,7 +29,7 @@ write_fields-requires c =
     let e = ap (λ (a : Activity). a.calendar) a in
     let n : k ≤ x.contents.calendars = omega (arith, e, h.0.named x.i h.1) in
     let i : c.activity_of-activity.result.id < 2 ^ 63 = omega arith in
-    (h.2, i, omega (arith, h.0.days.is k n, h.0.days.low k n), c.shown_at-x.ensures.1, c.get_act-left.ensures.1, c.get_act-es.ensures.1, c.get_act-ef.ensures.1)
+    (h.2, i, omega (arith, h.0.days.is k n, h.0.days.low k n), c.shown_at-x.ensures.1, c.act-left.ensures.1, c.act-es.ensures.1, c.act-ef.ensures.1)
 
 pub returns : goal.returns
 unfolding plan_of
@@ -41,9 +41,9 @@ returns c =
     let e = ap (λ (a : Activity). a.calendar) a in
     let n : k ≤ x.contents.calendars = omega (arith, e, h.0.named x.i h.1) in
     let p = plan_of x.sheet.now x.contents in
-    let S = state_of x.contents.activities x.contents.links x.work.now in
+    let S = state x.tables.now in
     c.write_fields.ensures
     ∙ ap (stored_from x.results.now (15 * x.i) 0)
     (fields_are p S x.i _ _ _ _ _ _ _ _ _ (ap (λ (a : Activity). a.id) a) (h.0.days.is k n ∙ ap p.day_length e) c.shown_at-x.ensures.0 refl
-    (c.get_act-is_summary.ensures.0 ∙ h.0.marks x.i h.1) (ap Ok c.recorded_at-actual.ensures ∙ h.0.recorded x.i h.1) c.get_act-left.ensures.0
-    c.get_act-es.ensures.0 c.get_act-ef.ensures.0)
+    (c.act-is_summary.ensures.0 ∙ h.0.marks x.i h.1) (ap Ok c.recorded_at-actual.ensures ∙ h.0.recorded x.i h.1) c.act-left.ensures.0
+    c.act-es.ensures.0 c.act-ef.ensures.0)

@@ -5,7 +5,7 @@ use Prim.Native.Nat.{◌*◌}
 use native.Mathlib.Omega.{arith}
 use lib.IntN.{ℤ}
 use lib.ListN.{length, drop}
-use Rattle.memory.specs.State.{state_of}
+use Rattle.memory.specs.Seen.{state}
 use Rattle.order.specs.Plan.{plan_of}
 use Rattle.rows.specs.Writing.{row_in, rows_in}
 use Rattle.rows.specs.WritingLaws.{rows_none, rows_more, rows_same, stored_length}
@@ -14,7 +14,7 @@ use Rattle.rows.proofs.write_rows.Goals as goal
 pub loop-i-init : goal.loop-i-init
 loop-i-init c =
     let x = c.args in
-    let S = state_of x.contents.activities x.contents.links x.work.now in
+    let S = state x.tables.now in
     let p = plan_of x.sheet.now x.contents in
     (refl, rows_none p S x.results.now)
 
@@ -24,7 +24,7 @@ write_row-requires c = (c.requires.0, omega arith, omega (arith, c.requires.1, c
 pub loop-i-preserved : goal.loop-i-preserved
 loop-i-preserved c =
     let x = c.args in
-    let S = state_of x.contents.activities x.contents.links x.work.now in
+    let S = state x.tables.now in
     let p = plan_of x.sheet.now x.contents in
     let L = c.loop-i in
     let e = c.write_row.ensures in (
@@ -39,7 +39,7 @@ pub returns : goal.returns
 unfolding plan_of
 returns c =
     let x = c.args in
-    let S = state_of x.contents.activities x.contents.links x.work.now in
+    let S = state x.tables.now in
     let p = plan_of x.sheet.now x.contents in
     let L = c.loop-i in
     let n : L.i ≡ x.contents.activities = omega arith in

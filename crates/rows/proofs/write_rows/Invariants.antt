@@ -3,7 +3,7 @@ use mathlib.Core.Path.{◌≡◌}
 use mathlib.Core.List.{◌++◌}
 use Prim.Native.Nat.{◌*◌}
 use lib.ListN.{length, drop}
-use Rattle.memory.specs.State.{state_of}
+use Rattle.memory.specs.Seen.{state}
 use Rattle.order.specs.Plan.{plan_of}
 use Rattle.rows.specs.Writing.{rows_in}
 use Rattle.rows.proofs.write_rows.Given as goal
@@ -11,4 +11,4 @@ use Rattle.rows.proofs.write_rows.Given as goal
 abbrev pub invariant-loop-i : goal.invariant-loop-i
 invariant-loop-i l =
     (length l.results ≡ length l.initial.results)
-    × (l.results ≡ rows_in (plan_of l.sheet l.contents) (state_of l.contents.activities l.contents.links l.work) l.i ++ drop (15 * l.i) l.initial.results)
+    × (l.results ≡ rows_in (plan_of l.sheet l.contents) (state l.tables) l.i ++ drop (15 * l.i) l.initial.results)

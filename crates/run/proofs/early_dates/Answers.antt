@@ -2,7 +2,7 @@
 use borrow.Author.Rules.{rules}
 use mathlib.Core.Path.{refl, ◌∙◌}
 use native.Mathlib.Omega.{arith}
-use Rattle.memory.specs.State.{state_of}
+use Rattle.memory.specs.Seen.{state}
 use Rattle.topology.specs.FrameLaws.{frame_acts, frame_then}
 use Rattle.order.specs.Plan.{plan_of}
 use Rattle.dates.specs.KeptLaws.{ready_kept, recorded_kept}
@@ -14,7 +14,7 @@ pub returns-in_err-remaining : goal.returns-in_err-remaining
 returns-in_err-remaining c = rw (handed_on _ _ c.from_residual.ensures.1) (let x = c.args in
     let p = plan_of x.sheet.now x.contents in
     let call = c.remaining in
-    let T = state_of x.contents.activities x.contents.links call.new.work in (
+    let T = state call.new.tables in (
       early_stops p T T call.result c.in_err-remaining.field-0.0 call.ensures.0 c.in_err-remaining.was,
       λ d. not_done c.in_err-remaining.field-0.0 d,
       frame_acts 12 20 0 0 14 20 (omega arith) (omega arith) call.ensures.2,
@@ -35,8 +35,8 @@ returns c =
     let p = plan_of x.sheet.now x.contents in
     let first = c.remaining in
     let second = c.forward_pass in
-    let T₁ = state_of x.contents.activities x.contents.links first.new.work in
-    let T = state_of x.contents.activities x.contents.links second.new.work in (
+    let T₁ = state first.new.tables in
+    let T = state second.new.tables in (
       early_goes p T₁ T first.result second.result first.ensures.0 c.in_ok-remaining.was second.ensures.0,
       λ d. recorded_kept second.ensures.1 p refl refl refl (first.ensures.1 c.in_ok-remaining.was),
       frame_then 12 20 0 0 (frame_acts 12 20 0 0 14 20 (omega arith) (omega arith) first.ensures.2) (frame_acts 12 20 0 0 12 15 (omega arith) (omega arith) second.ensures.1),

@@ -2,7 +2,7 @@
 use borrow.Author.Rules.{rules}
 use mathlib.Core.Path.{refl, sym, ◌∙◌}
 use native.Mathlib.Omega.{arith}
-use Rattle.memory.specs.State.{state_of}
+use Rattle.memory.specs.Seen.{state}
 use Rattle.order.specs.Plan.{plan_of}
 use Rattle.topology.specs.FrameLaws.{frame_acts, frame_then}
 use Rattle.dates.specs.KeptLaws.{ready_kept, recorded_kept}
@@ -14,8 +14,8 @@ pub returns-in_err-free_pass : goal.returns-in_err-free_pass
 returns-in_err-free_pass c = rw (handed_on _ _ c.from_residual.ensures.1) (let x = c.args in
     let call = c.free_pass in
     let a = call.ensures in
-    let T = state_of x.contents.activities x.contents.links call.new.work in (
-      λ e. floats_stop (plan_of x.sheet.now x.contents) x.finish (state_of x.contents.activities x.contents.links x.work.now) T T call.result a.0 c.in_err-free_pass.field-0.0 c.in_err-free_pass.was e,
+    let T = state call.new.tables in (
+      λ e. floats_stop (plan_of x.sheet.now x.contents) x.finish (state x.tables.now) T T call.result a.0 c.in_err-free_pass.field-0.0 c.in_err-free_pass.was e,
       frame_acts 12 17 0 0 12 16 (omega arith) (omega arith) a.1,
       a.2,
     ))
@@ -36,9 +36,9 @@ returns c =
     let second = c.path_pass in
     let a = first.ensures in
     let b = second.ensures in
-    let S = state_of x.contents.activities x.contents.links x.work.now in
-    let T₁ = state_of x.contents.activities x.contents.links first.new.work in
-    let T = state_of x.contents.activities x.contents.links second.new.work in (
+    let S = state x.tables.now in
+    let T₁ = state first.new.tables in
+    let T = state second.new.tables in (
       floats_go (plan_of x.sheet.now x.contents) x.finish S T₁ T first.result a.0 b.1 c.in_ok-free_pass.was second.result b.0,
       frame_then 12 17 0 0 (frame_acts 12 17 0 0 12 16 (omega arith) (omega arith) a.1) (frame_acts 12 17 0 0 16 17 (omega arith) (omega arith) b.1),
       b.2 ∙ a.2,

@@ -1,7 +1,7 @@
 -- `run::late_dates` meets its contract.
 use borrow.Author.Rules.{rules}
 use mathlib.Core.Path.{refl, sym, ◌∙◌}
-use Rattle.memory.specs.State.{state_of}
+use Rattle.memory.specs.Seen.{state}
 use Rattle.topology.specs.FrameLaws.{frame_refl}
 use Rattle.order.specs.Plan.{plan_of}
 use Rattle.dates.specs.Columns.{early_in}
@@ -12,7 +12,7 @@ use Rattle.run.proofs.late_dates.Goals as goal
 pub returns-in_err-last : goal.returns-in_err-last
 returns-in_err-last c = rw (handed_on _ _ c.from_residual.ensures.1) (let x = c.args in
     let p = plan_of x.sheet.now x.contents in
-    let S = state_of x.contents.activities x.contents.links x.work.now in (
+    let S = state x.tables.now in (
       late_ends p S S c.in_err-last.field-0.0 (sym (c.end_of.ensures.0 (early_in p S) c.requires.2) ∙ c.in_err-last.was),
       frame_refl 10 12 0 0 S,
       refl,
@@ -25,9 +25,9 @@ backward_pass-requires c =
 pub returns-in_err-backward_pass : goal.returns-in_err-backward_pass
 returns-in_err-backward_pass c = rw (handed_on _ _ c.from_residual-in_err-backward_pass.ensures.1) (let x = c.args in
     let p = plan_of x.sheet.now x.contents in
-    let S = state_of x.contents.activities x.contents.links x.work.now in
+    let S = state x.tables.now in
     let call = c.backward_pass in
-    let T = state_of x.contents.activities x.contents.links call.new.work in (
+    let T = state call.new.tables in (
       late_stops p S T c.in_ok-last.last (sym (c.end_of.ensures.0 (early_in p S) c.requires.2) ∙ c.in_ok-last.was) call.result call.ensures.0 c.in_err-backward_pass.field-0.0 c.in_err-backward_pass.was,
       call.ensures.1,
       call.ensures.2,
@@ -37,9 +37,9 @@ pub returns : goal.returns
 returns c =
     let x = c.args in
     let p = plan_of x.sheet.now x.contents in
-    let S = state_of x.contents.activities x.contents.links x.work.now in
+    let S = state x.tables.now in
     let call = c.backward_pass in
-    let T = state_of x.contents.activities x.contents.links call.new.work in (
+    let T = state call.new.tables in (
       late_goes p S T c.in_ok-last.last (sym (c.end_of.ensures.0 (early_in p S) c.requires.2) ∙ c.in_ok-last.was) call.result call.ensures.0 c.in_ok-backward_pass.was,
       call.ensures.1,
       call.ensures.2,

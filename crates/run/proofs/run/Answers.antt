@@ -4,7 +4,7 @@ use Rattle.worktime.specs.declared.ClockError.{ClockError}
 use borrow.Author.Rules.{rules}
 use mathlib.Core.Path.{◌≡◌, refl, subst, ◌∙◌}
 use native.Mathlib.Omega.{arith}
-use Rattle.memory.specs.State.{state_of}
+use Rattle.memory.specs.Seen.{state}
 use Rattle.topology.specs.FrameLaws.{frame_acts, frame_then}
 use Rattle.order.specs.Plan.{plan_of}
 use Rattle.dates.specs.Columns.{early_in, ended}
@@ -18,7 +18,7 @@ pub returns-in_err-early_dates : goal.returns-in_err-early_dates
 returns-in_err-early_dates c = rw (handed_on _ _ c.from_residual.ensures.1) (let x = c.args in
     let p = plan_of x.sheet.now x.contents in
     let call = c.early_dates in
-    let T = state_of x.contents.activities x.contents.links call.new.work in (
+    let T = state call.new.tables in (
       run_early p T T call.result c.in_err-early_dates.field-0.0 call.ensures.0 c.in_err-early_dates.was,
       λ e d. not_by c.in_err-early_dates.field-0.0 e d,
       frame_acts 10 20 0 0 12 20 (omega arith) (omega arith) call.ensures.2,
@@ -30,7 +30,7 @@ late_and_floats-requires c =
     let x = c.args in
     let p = plan_of x.sheet.now x.contents in
     let call = c.early_dates in
-    let T = state_of x.contents.activities x.contents.links call.new.work in (
+    let T = state call.new.tables in (
       ready_kept c.requires call.ensures.2 call.ensures.3 (omega arith),
       call.ensures.1 c.in_ok-early_dates.was,
       subst (λ (r : Result Unit ClockError). ended (early_in p T) r ≡ early_dates p) c.in_ok-early_dates.was call.ensures.0,

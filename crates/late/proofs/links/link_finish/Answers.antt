@@ -12,7 +12,7 @@ use Rattle.dates.specs.Columns.{early_in, late_in}
 use Rattle.passes.specs.Backward.{over_lag}
 use Rattle.passes.specs.Plan.{own}
 use Rattle.order.specs.Plan.{plan_of}
-use Rattle.memory.specs.State.{state_of}
+use Rattle.memory.specs.Seen.{state}
 use Rattle.number.specs.Zed.{up, dn}
 use Rattle.number.specs.Exits.{handed_on}
 use Rattle.late.specs.StandLaws.{times_are, over_are, by_are}
@@ -38,7 +38,7 @@ returns c =
     λ i last O.
     let R = c.requires.0 in
     let p = plan_of c.args.sheet.now c.args.contents in
-    let S = state_of c.args.contents.activities c.args.contents.links c.args.work.now in
+    let S = state c.args.tables.now in
     let d = early_in p S in
     let m = late_in p S last in
     let τ = c.tie_at-tie.result in
@@ -53,7 +53,7 @@ pub returns-in_err-f : goal.returns-in_err-f
 returns-in_err-f c = rw (handed_on _ _ c.from_residual-in_err-f.ensures.1) (λ i last O.
     let R = c.requires.0 in
     let p = plan_of c.args.sheet.now c.args.contents in
-    let S = state_of c.args.contents.activities c.args.contents.links c.args.work.now in
+    let S = state c.args.tables.now in
     let d = early_in p S in
     let m = late_in p S last in
     let τ = c.tie_at-tie.result in
@@ -68,7 +68,7 @@ pub returns-in_err-v : goal.returns-in_err-v
 returns-in_err-v c = rw (handed_on _ _ c.from_residual-in_err-v.ensures.1) (λ i last O.
     let R = c.requires.0 in
     let p = plan_of c.args.sheet.now c.args.contents in
-    let S = state_of c.args.contents.activities c.args.contents.links c.args.work.now in
+    let S = state c.args.tables.now in
     let d = early_in p S in
     let m = late_in p S last in
     let τ = c.tie_at-tie.result in
@@ -82,7 +82,7 @@ pub returns-in_err-times : goal.returns-in_err-times
 returns-in_err-times c = rw (handed_on _ _ c.from_residual.ensures.1) (λ i last O.
     let R = c.requires.0 in
     let p = plan_of c.args.sheet.now c.args.contents in
-    let S = state_of c.args.contents.activities c.args.contents.links c.args.work.now in
+    let S = state c.args.tables.now in
     let d = early_in p S in
     let m = late_in p S last in
     let τ = c.tie_at-tie.result in

@@ -14,14 +14,14 @@ pub returns : goal.returns
 returns c =
     let p = plan_of c.args.sheet.now c.args.contents in
     let w = in_plan_worked c.calendar_of-calendar.ensures ∙ ap (λ (y : Activity). worked (p.hours y.calendar)) c.activity_of-activity.ensures in
-    sym (times_at (own p c.args.j) _ _ _ _ ((λ z. next_start (sym w z) (sym c.get_act-start.ensures.0 z)) ∙ sym c.latest_same.ensures ∙ c.in_ok-s.was) ((λ z. next_start (sym w z) (sym c.get_act-finish.ensures.0 z)) ∙ sym c.latest_same-2.ensures ∙ c.in_ok-f.was))
+    sym (times_at (own p c.args.j) _ _ _ _ ((λ z. next_start (sym w z) (sym c.act-start.ensures.0 z)) ∙ sym c.latest_same.ensures ∙ c.in_ok-s.was) ((λ z. next_start (sym w z) (sym c.act-finish.ensures.0 z)) ∙ sym c.latest_same-2.ensures ∙ c.in_ok-f.was))
 
 pub returns-in_err-f : goal.returns-in_err-f
 returns-in_err-f c = rw (handed_on _ _ c.from_residual-in_err-f.ensures.1) (let p = plan_of c.args.sheet.now c.args.contents in
     let w = in_plan_worked c.calendar_of-calendar.ensures ∙ ap (λ (y : Activity). worked (p.hours y.calendar)) c.activity_of-activity.ensures in
-    sym (times_finish_refused (own p c.args.j) _ _ _ _ ((λ z. next_start (sym w z) (sym c.get_act-start.ensures.0 z)) ∙ sym c.latest_same.ensures ∙ c.in_ok-s.was) ((λ z. next_start (sym w z) (sym c.get_act-finish.ensures.0 z)) ∙ sym c.latest_same-2.ensures ∙ c.in_err-f.was)))
+    sym (times_finish_refused (own p c.args.j) _ _ _ _ ((λ z. next_start (sym w z) (sym c.act-start.ensures.0 z)) ∙ sym c.latest_same.ensures ∙ c.in_ok-s.was) ((λ z. next_start (sym w z) (sym c.act-finish.ensures.0 z)) ∙ sym c.latest_same-2.ensures ∙ c.in_err-f.was)))
 
 pub returns-in_err-s : goal.returns-in_err-s
 returns-in_err-s c = rw (handed_on _ _ c.from_residual.ensures.1) (let p = plan_of c.args.sheet.now c.args.contents in
     let w = in_plan_worked c.calendar_of-calendar.ensures ∙ ap (λ (y : Activity). worked (p.hours y.calendar)) c.activity_of-activity.ensures in
-    sym (times_start_refused (own p c.args.j) _ _ _ ((λ z. next_start (sym w z) (sym c.get_act-start.ensures.0 z)) ∙ sym c.latest_same.ensures ∙ c.in_err-s.was)))
+    sym (times_start_refused (own p c.args.j) _ _ _ ((λ z. next_start (sym w z) (sym c.act-start.ensures.0 z)) ∙ sym c.latest_same.ensures ∙ c.in_err-s.was)))
