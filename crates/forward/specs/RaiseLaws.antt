@@ -35,45 +35,45 @@ module _ (s : List ℕ) (c : Contents) (t : ℕ) (tables : Tables) (i floor : �
   abbrev pub plan : Plan
   plan = plan_of s c
 
-  abbrev pub state : State
-  state = state tables
+  abbrev pub seen : State
+  seen = state tables
 
   abbrev pub dates : Early
-  dates = early_in plan state
+  dates = early_in plan seen
 
   -- link k is next, and the start so far
   abbrev pub Raising : ℕ → ℕ → Type 0
-  Raising start k = Cursor (raise_step plan dates i) Ok (state.link to_field) t i floor start k
+  Raising start k = Cursor (raise_step plan dates i) Ok (seen.link to_field) t i floor start k
 
   module _ {calendars : List PlanCalendar} (R : Ready s c calendars t tables) where
-    pub raising_start : i < c.activities → (k : ℕ) → k ≡ state.act first_in i → Raising floor k
+    pub raising_start : i < c.activities → (k : ℕ) → k ≡ seen.act first_in i → Raising floor k
     raising_start l k e =
         rw e
-        (cursor_start (raise_step plan dates i) Ok (state.link to_field) t i floor
+        (cursor_start (raise_step plan dates i) Ok (seen.link to_field) t i floor
         (R.standing.chains_in.heads i (omega (arith, activities_are s c))))
 
-    whole : raised plan dates i (after (state.link to_field) t i 0) floor ≡ raised plan dates i (ties_into plan i) floor
+    whole : raised plan dates i (after (seen.link to_field) t i 0) floor ≡ raised plan dates i (ties_into plan i) floor
     whole = ap (λ (ks : List ℕ). raised plan dates i ks floor) (into_is plan R.standing i)
 
     module _ {start k : ℕ} (C : Raising start k) where
       pub raising_end : t ≤ k → Ok start ≡ raised plan dates i (ties_into plan i) floor
       raising_end l =
-          cursor_end (raise_step plan dates i) Ok (state.link to_field) t i floor C l
-          ∙ sym (raised_gathers plan dates i (after (state.link to_field) t i 0) floor) ∙ whole
+          cursor_end (raise_step plan dates i) Ok (seen.link to_field) t i floor C l
+          ∙ sym (raised_gathers plan dates i (after (seen.link to_field) t i 0) floor) ∙ whole
 
       module _ (b : k < t) {x : Result ℕ ClockError} (e : x ≡ via Err (link_start plan dates i k) (λ s. Ok (max start s))) where
         pub raising_stop : (r : ClockError) → x ≡ Err r → Err r ≡ raised plan dates i (ties_into plan i) floor
         raising_stop r a =
-            cursor_stop (raise_step plan dates i) Ok (state.link to_field) t i floor C (Err r) b (raise_stop plan dates i k start e r a)
-            ∙ sym (raised_gathers plan dates i (after (state.link to_field) t i 0) floor) ∙ whole
+            cursor_stop (raise_step plan dates i) Ok (seen.link to_field) t i floor C (Err r) b (raise_stop plan dates i k start e r a)
+            ∙ sym (raised_gathers plan dates i (after (seen.link to_field) t i 0) floor) ∙ whole
 
-        pub raising_turn : (u : ℕ) → x ≡ Ok u → (j : ℕ) → j ≡ state.link next_into k → Raising u j
+        pub raising_turn : (u : ℕ) → x ≡ Ok u → (j : ℕ) → j ≡ seen.link next_into k → Raising u j
         raising_turn u a j q =
             rw q
-            (cursor_turn (raise_step plan dates i) Ok (state.link to_field) t i floor C u b (R.standing.chains_in.nexts k (omega arith) b)
+            (cursor_turn (raise_step plan dates i) Ok (seen.link to_field) t i floor C u b (R.standing.chains_in.nexts k (omega arith) b)
             (raise_turn plan dates i k start e u a))
 
-    pub raising_less : (k j : ℕ) → k < t → j ≡ state.link next_into k → t - j < t - k
+    pub raising_less : (k j : ℕ) → k < t → j ≡ seen.link next_into k → t - j < t - k
     raising_less k j b q = omega (arith, (R.standing.chains_in.nexts k (omega arith) b).low)
 
     -- ---- in hand
@@ -82,13 +82,13 @@ module _ (s : List ℕ) (c : Contents) (t : ℕ) (tables : Tables) (i floor : �
       within = omega (arith, activities_are s c)
 
       pub hand_is : {activity : Activity} {calendar : Calendar} {left : ℕ} → activity ≡ (plan_of s c).activity i
-          → InPlan s c (calendar_of (plan_of s c) i) calendar → left ≡ state.act work_left i
+          → InPlan s c (calendar_of (plan_of s c) i) calendar → left ≡ seen.act work_left i
           → InHand plan dates i activity (worked_by calendar) left
       hand_is a C e = record {
         activity_is = a;
         own_is = sym (in_plan_worked C);
-        left_is = e ∙ sym (column_at (plan_of s c).activities (λ i. 0) work_left state i within);
+        left_is = e ∙ sym (column_at (plan_of s c).activities (λ i. 0) work_left seen i within);
       }
 
-      pub flag_is : (mark : ℕ) → mark ≡ state.act is_summary i → ltb 0 mark ≡ summary (plan_of s c) i
+      pub flag_is : (mark : ℕ) → mark ≡ seen.act is_summary i → ltb 0 mark ≡ summary (plan_of s c) i
       flag_is mark e = mark_flag (summary (plan_of s c) i) (e ∙ R.standing.marks i within)

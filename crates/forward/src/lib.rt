@@ -213,7 +213,7 @@ fn forward_all(
     requires { Ready sheet.now contents calendars.now t tables.old × Recorded (plan_of sheet.now contents) (state tables.old) }
     ensures { (ended (early_in (plan_of sheet.now contents) (state tables.new)) result ≡ through (forward (plan_of sheet.now contents)) (order (plan_of sheet.now contents)) (early_in (plan_of sheet.now contents) (state tables.old))) × Frame 12 15 0 0 (state tables.old) (state tables.new) × SameSlice tables.old tables.new }
 {
-    for q in 0..a {
+    for q in 0..contents.activities {
         let i = tables.act(q, memory::fields::ORDER_AT) as usize;
         forward_one(sheet, contents, calendars, t, tables, i)?;
     }

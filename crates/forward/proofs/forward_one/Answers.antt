@@ -6,6 +6,7 @@ use Rattle.dates.specs.Columns.{early_in}
 use Rattle.memory.specs.Seen.{state}
 use Rattle.order.specs.Plan.{plan_of}
 use Rattle.forward.specs.StoreLaws.{settled_ended, settled_frame, forward_open, completed_ended, completed_frame, in_plan}
+use native.Mathlib.Omega.{arith}
 use Rattle.forward.proofs.forward_one.Goals as goal
 
 pub returns-in_default : goal.returns-in_default
@@ -21,7 +22,7 @@ store-requires c =
     let p = plan_of c.args.sheet.now c.args.contents in
     let w = in_plan c.args.sheet.now c.args.contents _ c.requires.2 in
     let below = (recorded_below p c.args.i).completed _ _ (sym (c.requires.1 _ w) ∙ ap Ok (sym c.recorded_at-recorded.ensures ∙ c.in-Completed.is)) in
-    (c.requires.0.room, c.requires.2, below.0, below.1, c.act-left.ensures.1)
+    (omega (arith, c.requires.0.activities, c.requires.2), below.0, below.1, c.act-left.ensures.1)
 
 pub returns : goal.returns
 returns c =

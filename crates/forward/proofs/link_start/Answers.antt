@@ -13,7 +13,7 @@ use Rattle.forward.proofs.link_start.Goals as goal
 
 pub tie_at-tie-requires : goal.tie_at-tie-requires
 tie_at-tie-requires c =
-    (c.requires.0.room, omega (arith, kept_within c.requires.0, c.requires.2))
+    omega (arith, c.requires.0.links, kept_within c.requires.0, c.requires.2)
 
 pub returns : goal.returns
 returns c =

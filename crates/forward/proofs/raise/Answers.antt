@@ -22,7 +22,7 @@ returns-in_err-s c = rw (handed_on _ _ c.from_residual.ensures.1) (raising_stop 
 
 pub link-k-requires : goal.link-k-requires
 link-k-requires c =
-    (omega (arith, c.requires.0.activities, omega (arith, kept_within c.requires.0, c.loop-k-test.true)), omega arith)
+    (omega (arith, c.requires.0.links, kept_within c.requires.0, c.loop-k-test.true), omega arith)
 
 pub loop-k-smaller : goal.loop-k-smaller
 loop-k-smaller c =
