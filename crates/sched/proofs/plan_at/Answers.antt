@@ -1,7 +1,5 @@
 -- `sched::plan_at` meets its contract.
 use mathlib.Core.Path.{refl, sym, ap, subst, ◌∙◌}
-use mathlib.Core.List.{List}
-use lib.IntN.{ℤ}
 use lib.ListN.{length}
 use Rattle.std.proofs.Common.{rules}
 use Rattle.number.specs.Exits.{handed_on}
