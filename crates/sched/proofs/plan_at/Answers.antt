@@ -9,11 +9,6 @@ use Rattle.sched.specs.CallLaws.{zeros}
 use Rattle.sched.proofs.CallLaws.{planned_checked, names_kept}
 use Rattle.sched.proofs.plan_at.Goals as goal
 
-pub check_plan-requires : goal.check_plan-requires
-check_plan-requires c =
-    let o = c.of-tables.ensures in
-    (record { read = c.requires.0; activities = o.1; links = o.2 }, c.requires.1, c.requires.2, c.requires.4)
-
 pub returns-in_err-counts : goal.returns-in_err-counts
 returns-in_err-counts c =
     let x = c.args in
