@@ -1,7 +1,5 @@
 -- `sched::plan_at` meets its contract.
 use mathlib.Core.Path.{refl, sym, ap, subst, ◌∙◌}
-use mathlib.Core.List.{List}
-use lib.IntN.{ℤ}
 use lib.ListN.{length}
 use Rattle.std.proofs.Common.{rules}
 use Rattle.number.specs.Exits.{handed_on}
@@ -10,11 +8,6 @@ use Rattle.dates.specs.Standing.{Ready}
 use Rattle.sched.specs.CallLaws.{zeros}
 use Rattle.sched.proofs.CallLaws.{planned_checked, names_kept}
 use Rattle.sched.proofs.plan_at.Goals as goal
-
-pub check_plan-requires : goal.check_plan-requires
-check_plan-requires c =
-    let o = c.of-tables.ensures in
-    (record { read = c.requires.0; activities = o.1; links = o.2 }, c.requires.1, c.requires.2, c.requires.4)
 
 pub returns-in_err-counts : goal.returns-in_err-counts
 returns-in_err-counts c =
