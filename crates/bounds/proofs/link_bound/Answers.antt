@@ -5,10 +5,10 @@ use Rattle.bounds.specs.ReadyLaws.{kept_within}
 use Rattle.bounds.proofs.link_bound.Goals as goal
 
 pub tie_at-tie-requires : goal.tie_at-tie-requires
-tie_at-tie-requires c = (c.requires.0.room, omega (arith, kept_within c.requires.0, c.requires.2))
+tie_at-tie-requires c = omega (arith, c.requires.0.links, kept_within c.requires.0, c.requires.2)
 
 pub recorded_at-recorded-requires : goal.recorded_at-recorded-requires
-recorded_at-recorded-requires c = (c.requires.0.room, from_in c.requires.0 _ c.requires.2 _ c.tie_at-tie.ensures)
+recorded_at-recorded-requires c = omega (arith, c.requires.0.activities, from_in c.requires.0 _ c.requires.2 _ c.tie_at-tie.ensures)
 
 pub act-early-requires : goal.act-early-requires
 act-early-requires c = (omega (arith, c.requires.0.activities, from_in c.requires.0 _ c.requires.2 _ c.tie_at-tie.ensures), omega arith)
