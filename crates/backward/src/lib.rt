@@ -26,7 +26,7 @@ use worktime::ClockError;
 
 // One more than the greatest early finish so far, on with activity `i`; a summary has none.
 fn finish_onward(sheet: &[u8], contents: Contents, tables: &Tables, i: usize, top: u64) -> u64
-    requires { (tables.now.activities ≡ contents.activities) × (tables.now.links ≡ contents.links) × (i < contents.activities) × Marked (plan_of sheet.now contents) (state tables.now) × (top ≤ 2 ^ 63) }
+    requires { (tables.now.activities ≡ contents.activities) × (i < contents.activities) × Marked (plan_of sheet.now contents) (state tables.now) × (top ≤ 2 ^ 63) }
     ensures { (result ≡ onward (summary (plan_of sheet.now contents) i) ((state tables.now).act early_finish i) top) × (result ≤ 2 ^ 63) }
 {
     if tables.act(i, memory::fields::IS_SUMMARY) == 0 {
@@ -39,7 +39,7 @@ fn finish_onward(sheet: &[u8], contents: Contents, tables: &Tables, i: usize, to
 
 // The greatest early finish of the activities that are no summaries, and the project's start where there is none.
 pub fn greatest_finish(sheet: &[u8], contents: Contents, tables: &Tables) -> u64
-    requires { SheetRead sheet.now contents × (tables.now.activities ≡ contents.activities) × (tables.now.links ≡ contents.links) × Marked (plan_of sheet.now contents) (state tables.now) }
+    requires { SheetRead sheet.now contents × (tables.now.activities ≡ contents.activities) × Marked (plan_of sheet.now contents) (state tables.now) }
     ensures { (result ≡ finish (plan_of sheet.now contents) (early_in (plan_of sheet.now contents) (state tables.now))) × (result < 2 ^ 63) }
 {
     let mut top: u64 = 0;
@@ -77,7 +77,7 @@ fn store_late(tables: &mut Tables, i: usize, start: u64, finish: u64)
 
 // Completed work: its late dates are its early ones.
 fn keep_early(tables: &mut Tables, i: usize)
-    requires { (i < tables.old.activities) }
+    requires { i < tables.old.activities }
     ensures { (state tables.new ≡ stored (state tables.old) i ((state tables.old).act early_start i) ((state tables.old).act early_finish i)) × SameSlice tables.old tables.new }
 {
     let start = tables.act(i, memory::fields::EARLY_START);
@@ -137,7 +137,7 @@ fn backward_all(
     requires { Ready sheet.now contents calendars.now t tables.old × Recorded (plan_of sheet.now contents) (state tables.old) }
     ensures { (ended (late_in (plan_of sheet.now contents) (state tables.new) last) result ≡ through (backward (plan_of sheet.now contents) (early_in (plan_of sheet.now contents) (state tables.old)) last) (reverse (order (plan_of sheet.now contents))) (late_in (plan_of sheet.now contents) (state tables.old) last)) × Frame 10 12 0 0 (state tables.old) (state tables.new) × SameSlice tables.old tables.new }
 {
-    for q in (0..a).rev() {
+    for q in (0..contents.activities).rev() {
         let i = tables.act(q, memory::fields::ORDER_AT) as usize;
         backward_one(sheet, contents, calendars, t, tables, last, i)?;
     }

@@ -53,7 +53,7 @@ fn successor_times(
     tables: &Tables,
     j: usize,
 ) -> Result<LateDates, ClockError>
-    requires { SheetRead sheet.now contents × Places sheet.now contents calendars.now × (tables.now.activities ≡ contents.activities) × (tables.now.links ≡ contents.links) × (j < contents.activities) }
+    requires { SheetRead sheet.now contents × Places sheet.now contents calendars.now × (tables.now.activities ≡ contents.activities) × (j < contents.activities) }
     ensures { result ≡ times_of (own (plan_of sheet.now contents) j) ((state tables.now).act late_start j) ((state tables.now).act late_finish j) }
 {
     let activity = dates::activity_of(sheet, contents, j);

@@ -11,7 +11,8 @@ use Rattle.passes.specs.Dates.{Early}
 use Rattle.order.specs.Checks.{order}
 use Rattle.order.specs.Plan.{plan_of}
 use Rattle.topology.specs.FrameLaws.{frame_refl, frame_then}
-use Rattle.memory.specs.State.{state_of}
+use Rattle.memory.specs.SeenLaws.{same_refl, same_then}
+use Rattle.memory.specs.Seen.{state}
 use Rattle.memory.specs.Fields.{order_at}
 use Rattle.dates.specs.KeptLaws.{ready_kept, recorded_kept, early_kept}
 use Rattle.dates.specs.OrderLaws.{backward_length, backward_at, backward_below}
@@ -22,13 +23,13 @@ pub loop-q-init : goal.loop-q-init
 loop-q-init c =
     let C = c.args.contents in
     let p = plan_of c.args.sheet.now C in
-    let S = state_of C.activities C.links c.args.tables.now in
+    let S = state c.args.tables.now in
     let last = c.args.last in
     let e : C.activities - C.activities ≡ 0 = omega arith in
-    (refl, frame_refl 10 12 0 0 S, rw e (through_start (backward p (early_in p S) last) (reverse (order p)) (late_in p S last)))
+    (same_refl _, frame_refl 10 12 0 0 S, rw e (through_start (backward p (early_in p S) last) (reverse (order p)) (late_in p S last)))
 
 pub act-i-requires : goal.act-i-requires
-act-i-requires c = (omega (arith, c.requires.0.room, c.loop-q.invariant.0), omega arith, omega arith)
+act-i-requires c = (omega (arith, c.requires.0.activities, c.loop-q.invariant.0.activities), omega arith)
 
 pub backward_one-requires : goal.backward_one-requires
 backward_one-requires c =
@@ -36,18 +37,18 @@ backward_one-requires c =
     let p = plan_of c.args.sheet.now C in
     let L = c.loop-q in
     let R = ready_kept c.requires.0 L.invariant.1 L.invariant.0 (omega arith) in
-    let T = state_of C.activities C.links L.work in
+    let T = state L.tables in
     let e : C.activities - (C.activities - L.q + 1) ≡ L.q - 1 = omega arith in
     (R, recorded_kept L.invariant.1 p refl refl refl c.requires.1, omega (arith, c.act-i.ensures.0, ap (T.act order_at) e, backward_below R (C.activities - L.q) (omega arith)))
 
 pub returns-in_err-backward_one : goal.returns-in_err-backward_one
 returns-in_err-backward_one c = rw (handed_on _ _ c.from_residual.ensures.1) (let C = c.args.contents in
     let p = plan_of c.args.sheet.now C in
-    let S = state_of C.activities C.links c.args.tables.now in
+    let S = state c.args.tables.now in
     let L = c.loop-q in
     let R = ready_kept c.requires.0 L.invariant.1 L.invariant.0 (omega arith) in
-    let T = state_of C.activities C.links L.work in
-    let U = state_of C.activities C.links c.backward_one.new.tables in
+    let T = state L.tables in
+    let U = state c.backward_one.new.tables in
     let last = c.args.last in
     let b = c.backward_one.ensures in
     let i = c.act-i.result in
@@ -57,18 +58,18 @@ returns-in_err-backward_one c = rw (handed_on _ _ c.from_residual.ensures.1) (le
     let e = b.0 ∙ ap (λ (d : Early). backward p d last (late_in p T last) i) (early_kept L.invariant.1 p refl refl refl) in (
       through_stop (backward p (early_in p S) last) (reverse (order p)) (late_in p S last) L.invariant.2 i at l (late_in p U last) c.backward_one.result e (late_in p U last) _ c.in_err-backward_one.was,
       frame_then 10 12 0 0 L.invariant.1 b.1,
-      b.2 ∙ L.invariant.0,
+      same_then L.invariant.0 b.2,
     ))
 
 pub loop-q-preserved : goal.loop-q-preserved
 loop-q-preserved c =
     let C = c.args.contents in
     let p = plan_of c.args.sheet.now C in
-    let S = state_of C.activities C.links c.args.tables.now in
+    let S = state c.args.tables.now in
     let L = c.loop-q in
     let R = ready_kept c.requires.0 L.invariant.1 L.invariant.0 (omega arith) in
-    let T = state_of C.activities C.links L.work in
-    let U = state_of C.activities C.links c.backward_one.new.tables in
+    let T = state L.tables in
+    let U = state c.backward_one.new.tables in
     let last = c.args.last in
     let b = c.backward_one.ensures in
     let i = c.act-i.result in
@@ -77,7 +78,7 @@ loop-q-preserved c =
     let l : C.activities - L.q < length (reverse (order p)) = omega (arith, backward_length R) in
     let e = b.0 ∙ ap (λ (d : Early). backward p d last (late_in p T last) i) (early_kept L.invariant.1 p refl refl refl) in
     let n : C.activities - (L.q - 1) ≡ C.activities - L.q + 1 = omega arith in (
-      b.2 ∙ L.invariant.0,
+      same_then L.invariant.0 b.2,
       frame_then 10 12 0 0 L.invariant.1 b.1,
       rw n (through_turn (backward p (early_in p S) last) (reverse (order p)) (late_in p S last) L.invariant.2 i at l (late_in p U last) c.backward_one.result e c.in_ok-backward_one.was),
     )
@@ -86,7 +87,7 @@ pub returns : goal.returns
 returns c =
     let C = c.args.contents in
     let p = plan_of c.args.sheet.now C in
-    let S = state_of C.activities C.links c.args.tables.now in
+    let S = state c.args.tables.now in
     let last = c.args.last in
     let L = c.loop-q in
     (through_end (backward p (early_in p S) last) (reverse (order p)) (late_in p S last) L.invariant.2 (omega (arith, backward_length c.requires.0)), L.invariant.1, L.invariant.0)

@@ -1,8 +1,6 @@
 -- `backward::backward_all` meets its contract. The loop's invariant: the last `q` activities of the order are done.
 use mathlib.Core.List.{reverse}
-use mathlib.Core.Path.{◌≡◌}
 use Prim.Native.Nat.{◌-◌}
-use lib.ListN.{length}
 use Rattle.dates.specs.ThroughLaws.{Through}
 use Rattle.dates.specs.Columns.{early_in, late_in}
 use Rattle.passes.specs.Backward.{backward}

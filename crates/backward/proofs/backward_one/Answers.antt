@@ -9,7 +9,8 @@ use Rattle.passes.specs.Backward.{late}
 use Rattle.passes.specs.Dates.{leaves}
 use Rattle.order.specs.Plan.{plan_of}
 use Rattle.topology.specs.Frame.{Frame}
-use Rattle.memory.specs.State.{State, state_of}
+use Rattle.memory.specs.State.{State}
+use Rattle.memory.specs.Seen.{state}
 use Rattle.backward.specs.BackLaws.{stored_late, stored_frame, back_completed, back_unfinished}
 use Rattle.backward.specs.FinishLaws.{start_at, finish_at}
 use Rattle.backward.proofs.backward_one.Goals as goal
@@ -22,7 +23,7 @@ pub returns-in_default : goal.returns-in_default
 returns-in_default c =
     let C = c.args.contents in
     let p = plan_of c.args.sheet.now C in
-    let S = state_of C.activities C.links c.args.tables.now in
+    let S = state c.args.tables.now in
     let a = c.recorded_at-actual.ensures in
     let b : c.args.i < p.activities = omega (arith, c.requires.2, activities_are c.args.sheet.now C) in (
       c.place_unfinished.ensures.0
@@ -37,11 +38,11 @@ pub returns : goal.returns
 returns c =
     let C = c.args.contents in
     let p = plan_of c.args.sheet.now C in
-    let S = state_of C.activities C.links c.args.tables.now in
+    let S = state c.args.tables.now in
     let d = early_in p S in
     let m = late_in p S c.args.last in
     let i = c.args.i in
-    let T = state_of C.activities C.links c.keep_early.new.tables in
+    let T = state c.keep_early.new.tables in
     let E = c.keep_early.ensures.0 in
     let b : i < p.activities = omega (arith, c.requires.2, activities_are c.args.sheet.now C) in
     let e = start_at c.args.sheet.now C S i c.requires.2 in

@@ -3,8 +3,10 @@ use mathlib.Core.List.{reverse}
 use mathlib.Core.Path.{◌≡◌, refl, sym, ap, ◌∙◌}
 use Prim.Native.Nat.{ℕ}
 use native.Mathlib.Omega.{arith}
-use Rattle.memory.specs.State.{State, state_of, fill_act}
-use Rattle.memory.specs.Fields.{late_finish}
+use Rattle.memory.specs.SeenLaws.{same_then}
+use Rattle.memory.specs.State.{State, fill_act}
+use Rattle.memory.specs.Seen.{state}
+use Rattle.memory.specs.Fields.{late_start, late_finish}
 use Rattle.topology.specs.Frame.{Frame}
 use Rattle.topology.specs.FrameLaws.{frame_then}
 use Rattle.order.specs.Plan.{plan_of}
@@ -19,38 +21,37 @@ use Rattle.backward.specs.BackLaws.{filled_late, filled_frame}
 use Rattle.backward.proofs.backward_pass.Goals as goal
 
 pub fill_act-requires : goal.fill_act-requires
-fill_act-requires c = (c.requires.0.room, omega arith, c.requires.2)
+fill_act-requires c = (omega arith, c.requires.2)
 
 pub fill_act-requires-2 : goal.fill_act-requires-2
-fill_act-requires-2 c = (omega (arith, c.requires.0.room, c.fill_act.ensures.1), omega arith, c.requires.2)
+fill_act-requires-2 c = (omega arith, c.requires.2)
 
 pub backward_all-requires : goal.backward_all-requires
 backward_all-requires c =
     let C = c.args.contents in
     let p = plan_of c.args.sheet.now C in
-    let S = state_of C.activities C.links c.args.tables.now in
+    let S = state c.args.tables.now in
     let last = c.args.last in
-    let T = state_of C.activities C.links c.fill_act-2.new.tables in
-    let E : T ≡ filled S C.activities last = c.fill_act-2.ensures.0 ∙ ap (λ (W : State). fill_act W late_finish C.activities c.args.last) c.fill_act.ensures.0 in
+    let T = state c.fill_act-2.new.self in
+    let A : c.args.tables.now.activities ≡ C.activities = c.requires.0.activities in
+    let E : T ≡ filled S C.activities last = c.fill_act-2.ensures.0 ∙ (λ z. fill_act (c.fill_act.ensures.0 z) late_finish ((c.fill_act.ensures.1.activities ∙ A) z) last) ∙ ap (λ (n : ℕ). fill_act (fill_act S late_start n last) late_finish C.activities last) A in
     let F : Frame 10 12 0 0 S T = rw E (filled_frame p S last C.activities) in
-    (ready_kept c.requires.0 F (c.fill_act-2.ensures.1 ∙ c.fill_act.ensures.1) (omega arith), recorded_kept F p refl refl refl c.requires.1)
-
-pub shape_of-work : goal.shape_of-work
-shape_of-work c = c.backward_all.ensures.2 ∙ c.fill_act-2.ensures.1 ∙ c.fill_act.ensures.1
+    (ready_kept c.requires.0 F (same_then c.fill_act.ensures.1 c.fill_act-2.ensures.1) (omega arith), recorded_kept F p refl refl refl c.requires.1)
 
 pub returns : goal.returns
 returns c =
     let C = c.args.contents in
     let p = plan_of c.args.sheet.now C in
-    let S = state_of C.activities C.links c.args.tables.now in
+    let S = state c.args.tables.now in
     let last = c.args.last in
-    let T = state_of C.activities C.links c.fill_act-2.new.tables in
-    let E : T ≡ filled S C.activities last = c.fill_act-2.ensures.0 ∙ ap (λ (W : State). fill_act W late_finish C.activities c.args.last) c.fill_act.ensures.0 in
+    let T = state c.fill_act-2.new.self in
+    let A : c.args.tables.now.activities ≡ C.activities = c.requires.0.activities in
+    let E : T ≡ filled S C.activities last = c.fill_act-2.ensures.0 ∙ (λ z. fill_act (c.fill_act.ensures.0 z) late_finish ((c.fill_act.ensures.1.activities ∙ A) z) last) ∙ ap (λ (n : ℕ). fill_act (fill_act S late_start n last) late_finish C.activities last) A in
     let F : Frame 10 12 0 0 S T = rw E (filled_frame p S last C.activities) in
     let b = c.backward_all.ensures in
     let x : late_in p T last ≡ record { ls = λ i. last; lf = λ i. last } =
     ap (λ (W : State). late_in p W last) (E ∙ ap (λ (n : ℕ). filled S n last) (sym (activities_are c.args.sheet.now C))) ∙ filled_late p S last in (
       b.0 ∙ (λ z. through (backward p (early_kept F p refl refl refl z) last) (reverse (order p)) (x z)),
       frame_then 10 12 0 0 F b.1,
-      b.2 ∙ c.fill_act-2.ensures.1 ∙ c.fill_act.ensures.1,
+      same_then (same_then c.fill_act.ensures.1 c.fill_act-2.ensures.1) b.2,
     )

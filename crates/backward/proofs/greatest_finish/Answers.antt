@@ -6,7 +6,7 @@ use Rattle.bounds.specs.ReadyLaws.{activities_are}
 use Rattle.dates.specs.Columns.{early_in}
 use Rattle.order.specs.Ids.{summary}
 use Rattle.order.specs.Plan.{plan_of}
-use Rattle.memory.specs.State.{state_of}
+use Rattle.memory.specs.Seen.{state}
 use Rattle.backward.specs.FinishLaws.{finish_at, one_none, one_more, finish_none, finish_some}
 use Rattle.backward.specs.Finish.{onward, greatest_one}
 use Rattle.backward.proofs.greatest_finish.Goals as goal
@@ -15,7 +15,7 @@ pub loop-i-init : goal.loop-i-init
 loop-i-init c =
     let C = c.args.contents in
     let p = plan_of c.args.sheet.now C in
-    let S = state_of C.activities C.links c.args.tables.now in
+    let S = state c.args.tables.now in
     (omega arith, λ M. one_none p (early_in p S))
 
 pub finish_onward-top-requires : goal.finish_onward-top-requires
@@ -25,7 +25,7 @@ pub loop-i-preserved : goal.loop-i-preserved
 loop-i-preserved c =
     let C = c.args.contents in
     let p = plan_of c.args.sheet.now C in
-    let S = state_of C.activities C.links c.args.tables.now in
+    let S = state c.args.tables.now in
     let L = c.loop-i in (
       c.finish_onward-top.ensures.1,
       λ M. one_more p (early_in p S) L.i L.top _ (L.invariant.1 M) (c.finish_onward-top.ensures.0 ∙ ap (λ (x : ℕ). onward (summary p L.i) x L.top) (sym (finish_at c.args.sheet.now C S L.i (omega arith)))),
@@ -38,7 +38,7 @@ pub returns-then-top-gt0 : goal.returns-then-top-gt0
 returns-then-top-gt0 c =
     let C = c.args.contents in
     let p = plan_of c.args.sheet.now C in
-    let S = state_of C.activities C.links c.args.tables.now in
+    let S = state c.args.tables.now in
     let L = c.loop-i in
     let e : L.i ≡ p.activities = omega (arith, activities_are c.args.sheet.now C) in
     let g = L.invariant.1 c.requires.2 ∙ ap (greatest_one p (early_in p S)) e in
@@ -51,7 +51,7 @@ pub returns : goal.returns
 returns c =
     let C = c.args.contents in
     let p = plan_of c.args.sheet.now C in
-    let S = state_of C.activities C.links c.args.tables.now in
+    let S = state c.args.tables.now in
     let L = c.loop-i in
     let e : L.i ≡ p.activities = omega (arith, activities_are c.args.sheet.now C) in
     let g = L.invariant.1 c.requires.2 ∙ ap (greatest_one p (early_in p S)) e in

@@ -1,5 +1,5 @@
 -- `backward::place_unfinished` meets its contract: the dates found are stored.
-use mathlib.Core.Path.{refl, sym, ap, ◌∙◌}
+use mathlib.Core.Path.{sym, ap, ◌∙◌}
 use Prim.Native.Nat.{◌<◌}
 use native.Mathlib.Omega.{arith}
 use Rattle.late.specs.Times.{dated}
@@ -9,7 +9,9 @@ use Rattle.passes.specs.Dates.{leaves}
 use Rattle.order.specs.Plan.{plan_of}
 use Rattle.topology.specs.FrameLaws.{frame_refl}
 use Rattle.topology.specs.Frame.{Frame}
-use Rattle.memory.specs.State.{State, state_of}
+use Rattle.memory.specs.SeenLaws.{same_refl}
+use Rattle.memory.specs.State.{State}
+use Rattle.memory.specs.Seen.{state}
 use Rattle.number.specs.Exits.{handed_on}
 use Rattle.backward.specs.BackLaws.{stored_late, stored_frame}
 use Rattle.backward.proofs.place_unfinished.Goals as goal
@@ -17,16 +19,16 @@ use Rattle.backward.proofs.place_unfinished.Goals as goal
 pub store_late-requires : goal.store_late-requires
 store_late-requires c =
     let f = c.late_of.ensures.1 _ _ c.in_ok-dates.was in
-    (c.requires.0.room, c.requires.1, f.0, f.1)
+    (omega (arith, c.requires.0.activities, c.requires.1), f.0, f.1)
 
 pub returns : goal.returns
 returns c =
     let C = c.args.contents in
     let p = plan_of c.args.sheet.now C in
-    let S = state_of C.activities C.links c.args.tables.now in
+    let S = state c.args.tables.now in
     let d = early_in p S in
     let m = late_in p S c.args.last in
-    let T = state_of C.activities C.links c.store_late.new.tables in
+    let T = state c.store_late.new.tables in
     let E = c.store_late.ensures.0 in
     let b : c.args.i < p.activities = omega (arith, c.requires.1, activities_are c.args.sheet.now C) in
     let F : Frame 10 12 0 0 S T = rw E (stored_frame p S c.args.i c.in_ok-dates.dates.start c.in_ok-dates.dates.finish) in (
@@ -39,7 +41,7 @@ returns c =
 pub returns-in_err-dates : goal.returns-in_err-dates
 returns-in_err-dates c = rw (handed_on _ _ c.from_residual.ensures.1) (let C = c.args.contents in
     let p = plan_of c.args.sheet.now C in
-    let S = state_of C.activities C.links c.args.tables.now in
+    let S = state c.args.tables.now in
     let d = early_in p S in
     let m = late_in p S c.args.last in
-    (ap (dated p d m c.args.i) (sym c.in_err-dates.was) ∙ c.late_of.ensures.0, frame_refl 10 12 0 0 S, refl))
+    (ap (dated p d m c.args.i) (sym c.in_err-dates.was) ∙ c.late_of.ensures.0, frame_refl 10 12 0 0 S, same_refl _))

@@ -21,10 +21,10 @@ use Rattle.late.specs.UnfinishedLaws.{own_bounded, own_by}
 use Rattle.late.proofs.links.link_finish.Goals as goal
 
 pub tie_at-tie-requires : goal.tie_at-tie-requires
-tie_at-tie-requires c = (c.requires.0.room, omega (arith, c.requires.1, kept_within c.requires.0))
+tie_at-tie-requires c = omega (arith, c.requires.0.links, c.requires.1, kept_within c.requires.0)
 
 pub successor_times-requires : goal.successor_times-requires
-successor_times-requires c = let R = c.requires.0 in (R.read, R.located, R.room, to_in R _ c.requires.1 _ c.tie_at-tie.ensures)
+successor_times-requires c = let R = c.requires.0 in (R.read, R.located, R.activities, to_in R _ c.requires.1 _ c.tie_at-tie.ensures)
 
 pub over_lag-requires : goal.over_lag-requires
 over_lag-requires c =

@@ -17,7 +17,7 @@ pub returns-in_err-f : goal.returns-in_err-f
 returns-in_err-f c = rw (handed_on _ _ c.from_residual.ensures.1) (lowering_stop c.requires.0 c.args.i c.args.last (c.loop-k.invariant c.requires.0) _ c.loop-k-test.true (sym (c.link_finish.ensures c.args.i c.args.last c.requires.2) ∙ c.in_err-f.was))
 
 pub link-k-requires : goal.link-k-requires
-link-k-requires c = (omega (arith, c.requires.0.activities, omega (arith, kept_within c.requires.0, c.loop-k-test.true)), omega arith)
+link-k-requires c = (omega (arith, c.requires.0.links, kept_within c.requires.0, c.loop-k-test.true), omega arith)
 
 pub loop-k-smaller : goal.loop-k-smaller
 loop-k-smaller c =
