@@ -30,7 +30,7 @@ pub act-lf-requires : goal.act-lf-requires
 act-lf-requires c = let q = c.requires in (omega (arith, q.0.activities, q.2), omega arith)
 
 pub recorded_at-recorded-requires : goal.recorded_at-recorded-requires
-recorded_at-recorded-requires c = let q = c.requires in (q.0.room, q.2)
+recorded_at-recorded-requires c = let q = c.requires in omega (arith, q.0.activities, q.2)
 
 pub returns : goal.returns
 returns c =

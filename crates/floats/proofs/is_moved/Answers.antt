@@ -16,7 +16,7 @@ returns-then-free-eq0 c =
     unmoved_none p d x.i x.free c.if-free-eq0.true
 
 pub act-requires : goal.act-requires
-act-requires c = let q = c.requires in (q.0, q.1, omega arith)
+act-requires c = let q = c.requires in (omega (arith, q.0, q.1), omega arith)
 
 pub returns-then-act-gt0 : goal.returns-then-act-gt0
 returns-then-act-gt0 c =
@@ -26,7 +26,7 @@ returns-then-act-gt0 c =
     unmoved_summary p d x.i x.free _ (c.act.ensures.0 ∙ c.requires.3) c.if-act-gt0.true
 
 pub recorded_at-recorded-requires : goal.recorded_at-recorded-requires
-recorded_at-recorded-requires c = let q = c.requires in (q.0, q.1)
+recorded_at-recorded-requires c = let q = c.requires in omega (arith, q.0, q.1)
 
 pub returns : goal.returns
 returns c =

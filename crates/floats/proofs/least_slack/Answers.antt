@@ -31,7 +31,7 @@ returns-in_err-gap c = rw (handed_on _ _ c.from_residual.ensures.1) (let x = c.a
     slack_stop q.0 x.i x.slack C c.loop-k-test.true _ (sym (c.gap_at.ensures ∙ gap_own q.0 x.i L.k x.start x.finish w (in_plan_worked q.2) q.3) ∙ c.in_err-gap.was))
 
 pub link-k-requires : goal.link-k-requires
-link-k-requires c = let q = c.requires in (omega (arith, q.0.activities, omega (arith, kept_within q.0, c.loop-k-test.true)), omega arith)
+link-k-requires c = let q = c.requires in (omega (arith, q.0.links, kept_within q.0, c.loop-k-test.true), omega arith)
 
 pub loop-k-smaller : goal.loop-k-smaller
 loop-k-smaller c =

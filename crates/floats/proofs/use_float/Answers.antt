@@ -30,7 +30,7 @@ returns-then-is_moved c =
     (r.0 ∙ sym (freed_held p S x.i x.free (sym c.is_moved.ensures ∙ c.if-is_moved.true)), r.1, r.2)
 
 pub put_act-requires : goal.put_act-requires
-put_act-requires c = let q = c.requires in (q.0, q.1, omega arith, q.5)
+put_act-requires c = let q = c.requires in (omega (arith, q.0, q.1), omega arith, q.5)
 
 pub returns : goal.returns
 returns c =
@@ -39,7 +39,7 @@ returns c =
     let p = plan_of x.sheet.now x.contents in
     let S = state x.tables.now in
     let e = c.put_act.ensures.0 in
-    let F : Frame 12 16 0 0 S (state c.put_act.new.tables) =
+    let F : Frame 12 16 0 0 S (state c.put_act.new.self) =
     rw e (frame_put 12 16 0 0 free_float (omega arith) (omega arith) S x.i (pos x.free))
     in (
       ap (λ (T : State). leaves (freed_in p T)) e
