@@ -23,7 +23,7 @@ pub act-left-requires : goal.act-left-requires
 act-left-requires c = (omega (arith, c.requires.0.ready.activities, c.requires.2), omega arith)
 
 pub link-code-requires : goal.link-code-requires
-link-code-requires c = (omega (arith, c.requires.0.ready.activities, link_in c.requires.0 c.args.k c.requires.3), omega arith)
+link-code-requires c = (omega (arith, c.requires.0.ready.links, link_in c.requires.0 c.args.k c.requires.3), omega arith)
 
 pub returns-in_err-s : goal.returns-in_err-s
 returns-in_err-s c = rw (handed_on _ _ c.from_residual-in_err-s.ensures.1) (let x = c.args in

@@ -32,10 +32,10 @@ returns-then-u-act c =
     λ go. drives_elsewhere p d x.i x.k go b.result b.ensures c.in_ok-u.u c.in_ok-u.was (λ q. c.if-u-act.true (q ∙ sym e))
 
 pub link-from-requires : goal.link-from-requires
-link-from-requires c = (omega (arith, c.requires.0.ready.activities, link_in c.requires.0 c.args.k c.requires.3), omega arith)
+link-from-requires c = (omega (arith, c.requires.0.ready.links, link_in c.requires.0 c.args.k c.requires.3), omega arith)
 
 pub recorded_at-recorded-requires : goal.recorded_at-recorded-requires
-recorded_at-recorded-requires c = (c.requires.0.ready.room, from_inside c.requires.0 c.args.k c.requires.3 c.link-from.result c.link-from.ensures.0)
+recorded_at-recorded-requires c = omega (arith, c.requires.0.ready.activities, from_inside c.requires.0 c.args.k c.requires.3 c.link-from.result c.link-from.ensures.0)
 
 pub is_completed-requires : goal.is_completed-requires
 is_completed-requires c = tt
