@@ -19,9 +19,6 @@ returns-in_err-b c = rw (handed_on _ _ c.from_residual.ensures.1) (let x = c.arg
     let b = c.link_bound in
     sym (start_no_bound p d x.i x.k b.result c.in_err-b.field-0.0 b.ensures c.in_err-b.was))
 
-pub act-left-requires : goal.act-left-requires
-act-left-requires c = (omega (arith, c.requires.0.ready.activities, c.requires.2), omega arith)
-
 pub link-code-requires : goal.link-code-requires
 link-code-requires c = (omega (arith, c.requires.0.ready.links, link_in c.requires.0 c.args.k c.requires.3), omega arith)
 

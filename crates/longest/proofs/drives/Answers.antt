@@ -9,9 +9,6 @@ use Rattle.longest.specs.OwnLaws.{link_in, start_read, from_inside, completed_re
 use Rattle.longest.specs.DriveLaws.{drives_refused, drives_elsewhere, drives_by}
 use Rattle.longest.proofs.drives.Goals as goal
 
-pub bound_start-requires : goal.bound_start-requires
-bound_start-requires c = c.requires
-
 pub returns-in_err-u : goal.returns-in_err-u
 returns-in_err-u c = rw (handed_on _ _ c.from_residual.ensures.1) (let x = c.args in
     let p = plan_of x.sheet.now x.contents in
@@ -36,9 +33,6 @@ link-from-requires c = (omega (arith, c.requires.0.ready.links, link_in c.requir
 
 pub recorded_at-recorded-requires : goal.recorded_at-recorded-requires
 recorded_at-recorded-requires c = omega (arith, c.requires.0.ready.activities, from_inside c.requires.0 c.args.k c.requires.3 c.link-from.result c.link-from.ensures.0)
-
-pub is_completed-requires : goal.is_completed-requires
-is_completed-requires c = tt
 
 pub returns : goal.returns
 returns c =

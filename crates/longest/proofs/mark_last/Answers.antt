@@ -20,12 +20,6 @@ loop-i-init c =
     let S = state x.tables.now in
     (same_refl x.tables.now, frame_refl 16 17 0 0 S, λ p t e W R. marks_none (last_ones p (early_in p S) x.finish) S)
 
-pub is_last-requires : goal.is_last-requires
-is_last-requires c = omega (arith, c.loop-i.invariant.0.activities)
-
-pub put_act-requires : goal.put_act-requires
-put_act-requires c = (omega (arith, c.loop-i.invariant.0.activities), omega arith, omega (arith, c.from-v.ensures, bit_le c.is_last.result))
-
 pub loop-i-preserved : goal.loop-i-preserved
 loop-i-preserved c =
     let x = c.args in

@@ -14,9 +14,6 @@ use Rattle.longest.specs.LastLaws.{frame_mark}
 use Rattle.longest.specs.MarkLaws.{mark_refused, mark_leaves, mark_sets}
 use Rattle.longest.proofs.mark_link.Goals as goal
 
-pub drives-requires : goal.drives-requires
-drives-requires c = c.requires
-
 pub returns-in_err-sets : goal.returns-in_err-sets
 returns-in_err-sets c =
     rw (handed_on _ _ c.from_residual.ensures.1) (let x = c.args in

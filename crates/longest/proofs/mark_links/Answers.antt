@@ -11,9 +11,6 @@ use Rattle.longest.specs.OwnLaws.{link_in}
 use Rattle.longest.specs.WalkLaws.{marking_start, next_stands, marking_turn, marking_stop, marking_end}
 use Rattle.longest.proofs.mark_links.Goals as goal
 
-pub act-k-requires : goal.act-k-requires
-act-k-requires c = (omega (arith, c.requires.0.ready.activities, c.requires.2), omega arith)
-
 pub loop-k-init : goal.loop-k-init
 loop-k-init c =
     let x = c.args in

@@ -10,9 +10,6 @@ use Rattle.longest.specs.OwnLaws.{own_made}
 use Rattle.longest.specs.WalkLaws.{turn_on, turn_off}
 use Rattle.longest.proofs.on_path.Goals as goal
 
-pub act-requires : goal.act-requires
-act-requires c = (omega (arith, c.requires.0.ready.activities, c.requires.1), omega arith)
-
 pub returns-then-act-eq0 : goal.returns-then-act-eq0
 returns-then-act-eq0 c =
     let x = c.args in
