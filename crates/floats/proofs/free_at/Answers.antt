@@ -12,12 +12,6 @@ use Rattle.floats.specs.StoreLaws.{free_found, free_refused}
 use Rattle.floats.specs.PassLaws.{own_is}
 use Rattle.floats.proofs.free_at.Goals as goal
 
-pub activity_of-activity-requires : goal.activity_of-activity-requires
-activity_of-activity-requires c = let q = c.requires in (q.0.read, q.2)
-
-pub calendar_of-calendar-requires : goal.calendar_of-calendar-requires
-calendar_of-calendar-requires c = let q = c.requires in (q.0.read, q.0.located)
-
 pub free_of-requires : goal.free_of-requires
 free_of-requires c =
     let q = c.requires in

@@ -17,15 +17,6 @@ use Rattle.floats.specs.FitLaws.{moved_bound}
 use Rattle.floats.specs.StoreLaws.{stored_frame, held_to, held_refused}
 use Rattle.floats.proofs.hold_late.Goals as goal
 
-pub act-es-requires : goal.act-es-requires
-act-es-requires c = let q = c.requires in (omega (arith, q.0, q.1), omega arith)
-
-pub act-ef-requires : goal.act-ef-requires
-act-ef-requires c = let q = c.requires in (omega (arith, q.0, q.1), omega arith)
-
-pub act-left-requires : goal.act-left-requires
-act-left-requires c = let q = c.requires in (omega (arith, q.0, q.1), omega arith)
-
 pub store_move-requires : goal.store_move-requires
 store_move-requires c =
     let q = c.requires in

@@ -11,16 +11,10 @@ use Rattle.number.specs.Exits.{handed_on}
 use Rattle.floats.specs.GapLaws.{gap_own, slack_start, slack_later, slack_turn, slack_stop, slack_end}
 use Rattle.floats.proofs.least_slack.Goals as goal
 
-pub act-k-requires : goal.act-k-requires
-act-k-requires c = let q = c.requires in (omega (arith, q.0.activities, q.1), omega arith)
-
 pub loop-k-init : goal.loop-k-init
 loop-k-init c =
     let x = c.args in
     rw (to_z-of_z c.ranges.slack) (slack_start c.requires.0 x.i x.slack _ c.requires.1 c.act-k.ensures.0)
-
-pub gap_at-requires : goal.gap_at-requires
-gap_at-requires c = let q = c.requires in (q.0, c.loop-k-test.true)
 
 pub returns-in_err-gap : goal.returns-in_err-gap
 returns-in_err-gap c = rw (handed_on _ _ c.from_residual.ensures.1) (let x = c.args in

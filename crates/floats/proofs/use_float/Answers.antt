@@ -14,12 +14,6 @@ use Rattle.floats.specs.Slack.{freed_in}
 use Rattle.floats.specs.StoreLaws.{free_stored, freed_held, freed_stays}
 use Rattle.floats.proofs.use_float.Goals as goal
 
-pub is_moved-requires : goal.is_moved-requires
-is_moved-requires c = let q = c.requires in (q.0, q.1, q.2.is, q.3, q.4)
-
-pub hold_late-requires : goal.hold_late-requires
-hold_late-requires c = let q = c.requires in (q.0, q.1, q.2)
-
 pub returns-then-is_moved : goal.returns-then-is_moved
 returns-then-is_moved c =
     let x = c.args in
@@ -28,9 +22,6 @@ returns-then-is_moved c =
     let S = state x.tables.now in
     let r = c.hold_late.ensures in
     (r.0 ∙ sym (freed_held p S x.i x.free (sym c.is_moved.ensures ∙ c.if-is_moved.true)), r.1, r.2)
-
-pub put_act-requires : goal.put_act-requires
-put_act-requires c = let q = c.requires in (omega (arith, q.0, q.1), omega arith, q.5)
 
 pub returns : goal.returns
 returns c =

@@ -9,9 +9,6 @@ use Rattle.longest.specs.OwnLaws.{own_worked, own_place, link_in, start_left}
 use Rattle.longest.specs.DriveLaws.{start_no_bound, start_no_start, start_placed}
 use Rattle.longest.proofs.bound_start.Goals as goal
 
-pub link_bound-requires : goal.link_bound-requires
-link_bound-requires c = (c.requires.0.ready, c.requires.0.recorded, c.requires.3)
-
 pub returns-in_err-b : goal.returns-in_err-b
 returns-in_err-b c = rw (handed_on _ _ c.from_residual.ensures.1) (let x = c.args in
     let p = plan_of x.sheet.now x.contents in

@@ -16,9 +16,6 @@ returns-in_err-u c = rw (handed_on _ _ c.from_residual.ensures.1) (let x = c.arg
     let b = c.bound_start in
     λ go. drives_refused p d x.i x.k go b.result b.ensures c.in_err-u.field-0.0 c.in_err-u.was)
 
-pub act-requires : goal.act-requires
-act-requires c = (omega (arith, c.requires.0.ready.activities, c.requires.2), omega arith)
-
 pub returns-then-u-act : goal.returns-then-u-act
 returns-then-u-act c =
     let x = c.args in

@@ -1,6 +1,5 @@
 -- `longest::is_last` meets its contract, each way out by its law.
 use mathlib.Core.Path.{sym, ◌∙◌}
-use native.Mathlib.Omega.{arith}
 use Rattle.memory.specs.Seen.{state}
 use Rattle.longest.specs.LastLaws.{last_summary, last_completed, last_finish}
 use Rattle.longest.proofs.is_last.Goals as goal

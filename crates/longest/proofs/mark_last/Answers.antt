@@ -2,7 +2,6 @@
 use mathlib.Core.Path.{◌≡◌, refl, sym, ap, ◌∙◌}
 use Prim.Native.Nat.{ℕ}
 use native.Mathlib.Omega.{arith}
-use Rattle.number.specs.BitLaws.{bit_le}
 use Rattle.memory.specs.Seen.{state}
 use Rattle.memory.specs.SeenLaws.{same_refl, same_then}
 use Rattle.memory.specs.Fields.{longest_path}

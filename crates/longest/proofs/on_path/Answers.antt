@@ -22,12 +22,6 @@ returns-then-act-eq0 c =
       same_refl x.tables.now,
     )
 
-pub activity_of-activity-requires : goal.activity_of-activity-requires
-activity_of-activity-requires c = (c.requires.0.ready.read, c.requires.1)
-
-pub calendar_of-calendar-requires : goal.calendar_of-calendar-requires
-calendar_of-calendar-requires c = (c.requires.0.ready.read, c.requires.0.ready.located)
-
 pub mark_links-requires : goal.mark_links-requires
 mark_links-requires c = (c.requires.0, own_made c.activity_of-activity.ensures c.calendar_of-calendar.ensures, c.requires.1)
 

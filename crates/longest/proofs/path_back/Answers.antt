@@ -23,9 +23,6 @@ loop-q-init c =
     let e : x.contents.activities - x.contents.activities ≡ 0 = omega arith in
     (same_refl x.tables.now, frame_refl 16 17 0 0 S, λ other. rw e (path_start p S other))
 
-pub act-i-requires : goal.act-i-requires
-act-i-requires c = (omega (arith, c.requires.ready.activities, c.loop-q.invariant.0.activities), omega arith)
-
 pub on_path-requires : goal.on_path-requires
 on_path-requires c =
     let x = c.args in

@@ -7,14 +7,8 @@ use Rattle.order.specs.Plan.{plan_of}
 use Rattle.passes.specs.Floats.{last_ones}
 use Rattle.dates.specs.Columns.{early_in, path_in, ended}
 use Rattle.bounds.specs.ReadyLaws.{activities_are}
-use Rattle.longest.specs.KeptLaws.{lent_kept}
 use Rattle.longest.specs.WalkLaws.{pass_is}
 use Rattle.longest.proofs.path_pass.Goals as goal
-
-pub path_back-requires : goal.path_back-requires
-path_back-requires c =
-    let m = c.mark_last in
-    lent_kept (record { ready = c.requires.0; recorded = c.requires.1 }) m.new.tables m.ensures.1 m.ensures.2
 
 pub returns : goal.returns
 returns c =
