@@ -1,7 +1,7 @@
 // Free float and held late moves, from the last activity of the order to the first.
 #![tactic(auto)]
 
-ghost use Rattle.std.specs.Prelude.{◌≡◌, ◌&&◌, reverse, ℕ, ◌^◌, ◌<◌, ltb, length, Ok};
+ghost use Rattle.std.specs.Prelude.{◌≡◌, ◌&&◌, reverse, ℕ, ◌^◌, ◌<◌, ltb, Ok};
 ghost use Rattle.number.specs.Bit.{bit};
 ghost use Rattle.clock.specs.On.{worked_by};
 ghost use Rattle.memory.specs.Seen.{state, SameSlice};
@@ -223,7 +223,7 @@ fn is_moved(
     activity: Activity,
     free: u64,
 ) -> bool
-    requires { (tables.now.activities ≡ contents.activities) × (tables.now.links ≡ contents.links) × (i < contents.activities) × (activity ≡ (plan_of sheet.now contents).activity i) × ((state tables.now).act is_summary i ≡ bit (summary (plan_of sheet.now contents) i)) × (Ok (actual_in (state tables.now) i) ≡ recorded (plan_of sheet.now contents) i) }
+    requires { (tables.now.activities ≡ contents.activities) × (i < contents.activities) × (activity ≡ (plan_of sheet.now contents).activity i) × ((state tables.now).act is_summary i ≡ bit (summary (plan_of sheet.now contents) i)) × (Ok (actual_in (state tables.now) i) ≡ recorded (plan_of sheet.now contents) i) }
     ensures { result ≡ (holds_late (plan_of sheet.now contents) (early_in (plan_of sheet.now contents) (state tables.now)) i && ltb 0 free) }
 {
     if free == 0 {
@@ -258,7 +258,7 @@ fn hold_late(
     calendar: &Calendar,
     free: u64,
 ) -> Result<(), ClockError>
-    requires { (tables.old.activities ≡ contents.activities) × (tables.old.links ≡ contents.links) × (i < contents.activities) × Own sheet.now contents i activity calendar.now }
+    requires { (tables.old.activities ≡ contents.activities) × (i < contents.activities) × Own sheet.now contents i activity calendar.now }
     ensures { (ended (freed_in (plan_of sheet.now contents) (state tables.new)) result ≡ held_move (plan_of sheet.now contents) (early_in (plan_of sheet.now contents) (state tables.old)) i free (free_in (plan_of sheet.now contents) (state tables.old))) × Frame 12 16 0 0 (state tables.old) (state tables.new) × SameSlice tables.old tables.new }
 {
     let es = tables.act(i, memory::fields::EARLY_START);
@@ -279,7 +279,7 @@ fn use_float(
     calendar: &Calendar,
     free: u64,
 ) -> Result<(), ClockError>
-    requires { (tables.old.activities ≡ contents.activities) × (tables.old.links ≡ contents.links) × (i < contents.activities) × Own sheet.now contents i activity calendar.now × ((state tables.old).act is_summary i ≡ bit (summary (plan_of sheet.now contents) i)) × (Ok (actual_in (state tables.old) i) ≡ recorded (plan_of sheet.now contents) i) × (free < 2 ^ 63) }
+    requires { (tables.old.activities ≡ contents.activities) × (i < contents.activities) × Own sheet.now contents i activity calendar.now × ((state tables.old).act is_summary i ≡ bit (summary (plan_of sheet.now contents) i)) × (Ok (actual_in (state tables.old) i) ≡ recorded (plan_of sheet.now contents) i) × (free < 2 ^ 63) }
     ensures { (ended (freed_in (plan_of sheet.now contents) (state tables.new)) result ≡ freed (plan_of sheet.now contents) (early_in (plan_of sheet.now contents) (state tables.old)) i free (free_in (plan_of sheet.now contents) (state tables.old))) × Frame 12 16 0 0 (state tables.old) (state tables.new) × SameSlice tables.old tables.new }
 {
     if is_moved(sheet, contents, tables, i, activity, free) {
@@ -321,7 +321,7 @@ fn free_each(
     requires { Ready sheet.now contents calendars.now t tables.old × Recorded (plan_of sheet.now contents) (state tables.old) }
     ensures { ((e : ℕ) → ended (freed_in (plan_of sheet.now contents) (state tables.new)) result ≡ through (free_float (plan_of sheet.now contents) finish (late_in (plan_of sheet.now contents) (state tables.old) e)) (reverse (order (plan_of sheet.now contents))) (freed_in (plan_of sheet.now contents) (state tables.old))) × Frame 12 16 0 0 (state tables.old) (state tables.new) × SameSlice tables.old tables.new }
 {
-    for q in (0..a).rev() {
+    for q in (0..contents.activities).rev() {
         let i = tables.act(q, memory::fields::ORDER_AT) as usize;
         free_at(sheet, contents, calendars, t, tables, finish, i)?;
     }

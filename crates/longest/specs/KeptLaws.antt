@@ -1,5 +1,5 @@
 -- What the longest path is lent stays while its marks are put.
-use Rattle.std.specs.Prelude.{◌≡◌, refl, List, ℕ, ℤ, length}
+use Rattle.std.specs.Prelude.{refl, List, ℕ}
 use Rattle.std.proofs.Common.{arith}
 use Rattle.memory.specs.declared.Tables.{Tables}
 use Rattle.memory.specs.Seen.{state, SameSlice}

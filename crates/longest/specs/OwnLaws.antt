@@ -1,5 +1,5 @@
 -- An activity in hand, its own calendar, and what is read of its dates and of a link into it, as the definitions have them.
-use Rattle.std.specs.Prelude.{◌≡◌, List, ℕ, ◌<◌, ℤ, Result, Ok}
+use Rattle.std.specs.Prelude.{◌≡◌, List, ℕ, ◌<◌, Result, Ok}
 use Rattle.worktime.specs.declared.ClockError.{ClockError}
 use Rattle.std.proofs.Common.{sym, ap, ap₂, subst, ◌∙◌, arith}
 use Rattle.calendar.specs.declared.value.Calendar.{Calendar}

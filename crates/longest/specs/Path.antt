@@ -1,5 +1,5 @@
 -- The longest path as code takes it: where a link's bound places its successor, and one link's turn in the walk along the links into an activity.
-use Rattle.std.specs.Prelude.{◌≡◌, Bool, true, false, List, ℕ, ℤ, Result, Ok, Err}
+use Rattle.std.specs.Prelude.{◌≡◌, Bool, true, false, List, ℕ, Result, Ok, Err}
 use Rattle.worktime.specs.declared.ClockError.{ClockError}
 use Rattle.calendar.specs.declared.value.Calendar.{Calendar}
 use Rattle.project.specs.declared.Activity.{Activity}

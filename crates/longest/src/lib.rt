@@ -1,7 +1,7 @@
 // The longest path: from the activities that finish the project back along the links that set a start.
 #![tactic(auto)]
 
-ghost use Rattle.std.specs.Prelude.{◌≡◌, Bool, reverse, ℕ, ◌<◌, length, Ok};
+ghost use Rattle.std.specs.Prelude.{◌≡◌, Bool, reverse, ℕ, ◌<◌, Ok};
 ghost use Rattle.memory.specs.Seen.{state, SameSlice};
 ghost use Rattle.topology.specs.Frame.{Frame};
 ghost use Rattle.order.specs.Plan.{Plan, plan_of};
@@ -33,7 +33,7 @@ fn is_completed(actual: Actual) -> bool
 
 // Whether activity `i` finishes the project, whose greatest finish is `finish`.
 fn is_last(tables: &Tables, i: usize, finish: u64) -> bool
-    requires { (i < tables.now.activities) }
+    requires { i < tables.now.activities }
     ensures { (p : Plan) (t : ℕ) → p.activities ≡ tables.now.activities → Standing p t (state tables.now) → Recorded p (state tables.now) → result ≡ last_ones p (early_in p (state tables.now)) finish i }
 {
     if tables.act(i, memory::fields::IS_SUMMARY) != 0 {
@@ -50,7 +50,7 @@ fn is_last(tables: &Tables, i: usize, finish: u64) -> bool
 fn mark_last(tables: &mut Tables, finish: u64)
     ensures { ((p : Plan) (t : ℕ) → p.activities ≡ tables.old.activities → Standing p t (state tables.old) → Recorded p (state tables.old) → path_in p (state tables.new) (last_ones p (early_in p (state tables.old)) finish) ≡ last_ones p (early_in p (state tables.old)) finish) × Frame 16 17 0 0 (state tables.old) (state tables.new) × SameSlice tables.old tables.new }
 {
-    for i in 0..a {
+    for i in 0..tables.activities {
         let v = u64::from(is_last(tables, i, finish));
         tables.put_act(i, memory::fields::LONGEST_PATH, v);
     }
@@ -193,7 +193,7 @@ fn path_back(
     requires { Lent sheet.now contents calendars.now t tables.old }
     ensures { ((other : ℕ → Bool) → ended (path_in (plan_of sheet.now contents) (state tables.new) other) result ≡ through (on_path (plan_of sheet.now contents) (early_in (plan_of sheet.now contents) (state tables.old))) (reverse (order (plan_of sheet.now contents))) (path_in (plan_of sheet.now contents) (state tables.old) other)) × Frame 16 17 0 0 (state tables.old) (state tables.new) × SameSlice tables.old tables.new }
 {
-    for q in (0..a).rev() {
+    for q in (0..contents.activities).rev() {
         let i = tables.act(q, memory::fields::ORDER_AT) as usize;
         on_path(sheet, contents, calendars, t, tables, i)?;
     }

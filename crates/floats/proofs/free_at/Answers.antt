@@ -1,8 +1,9 @@
 -- `floats::free_at` meets its contract. Each way out has its law.
-use mathlib.Core.Path.{refl, ◌∙◌}
+use mathlib.Core.Path.{◌∙◌}
 use native.Mathlib.Omega.{arith}
 use Prim.Native.Nat.{◌<◌}
 use Rattle.memory.specs.Seen.{state}
+use Rattle.memory.specs.SeenLaws.{same_refl}
 use Rattle.topology.specs.FrameLaws.{frame_refl}
 use Rattle.order.specs.Plan.{plan_of}
 use Rattle.bounds.specs.ReadyLaws.{activities_are}
@@ -10,12 +11,6 @@ use Rattle.number.specs.Exits.{handed_on}
 use Rattle.floats.specs.StoreLaws.{free_found, free_refused}
 use Rattle.floats.specs.PassLaws.{own_is}
 use Rattle.floats.proofs.free_at.Goals as goal
-
-pub activity_of-activity-requires : goal.activity_of-activity-requires
-activity_of-activity-requires c = let q = c.requires in (q.0.read, q.2)
-
-pub calendar_of-calendar-requires : goal.calendar_of-calendar-requires
-calendar_of-calendar-requires c = let q = c.requires in (q.0.read, q.0.located)
 
 pub free_of-requires : goal.free_of-requires
 free_of-requires c =
@@ -28,7 +23,7 @@ use_float-requires c =
     let q = c.requires in
     let i : x.i < (plan_of x.sheet.now x.contents).activities = omega (arith, activities_are x.sheet.now x.contents, q.2) in
     let o = own_is c.activity_of-activity.ensures c.calendar_of-calendar.ensures in
-    (q.0.room, q.2, o, q.0.standing.marks x.i i, q.1 x.i i, c.free_of.ensures.1 _ c.in_ok-free.was)
+    (q.0.activities, q.2, o, q.0.standing.marks x.i i, q.1 x.i i, c.free_of.ensures.1 _ c.in_ok-free.was)
 
 pub returns : goal.returns
 returns c =
@@ -46,4 +41,4 @@ returns-in_err-free c = rw (handed_on _ _ c.from_residual.ensures.1) (let x = c.
     let p = plan_of x.sheet.now x.contents in
     let S = state x.tables.now in
     let i : x.i < p.activities = omega (arith, activities_are x.sheet.now x.contents, q.2) in
-    (λ e. free_refused p S x.i i x.finish e _ c.free_of.ensures.0 _ c.in_err-free.was, frame_refl 12 16 0 0 S, refl))
+    (λ e. free_refused p S x.i i x.finish e _ c.free_of.ensures.0 _ c.in_err-free.was, frame_refl 12 16 0 0 S, same_refl x.tables.now))

@@ -3,8 +3,8 @@ use mathlib.Core.Path.{◌≡◌, refl, ap, ◌∙◌}
 use mathlib.Core.List.{reverse}
 use native.Mathlib.Omega.{arith}
 use Prim.Native.Nat.{◌+◌, ◌-◌}
-use Rattle.memory.specs.State.{state_of}
 use Rattle.memory.specs.Seen.{state}
+use Rattle.memory.specs.SeenLaws.{same_refl, same_then}
 use Rattle.memory.specs.Fields.{order_at}
 use Rattle.topology.specs.FrameLaws.{frame_refl, frame_then}
 use Rattle.order.specs.Plan.{plan_of}
@@ -25,7 +25,7 @@ loop-q-init c =
     let p = plan_of x.sheet.now x.contents in
     let S = state x.tables.now in
     let z : x.contents.activities - x.contents.activities ≡ 0 = omega arith in
-    (refl, frame_refl 12 16 0 0 S, λ e. rw z (through_start (free_float p x.finish (late_in p S e)) (reverse (order p)) (freed_in p S)))
+    (same_refl x.tables.now, frame_refl 12 16 0 0 S, λ e. rw z (through_start (free_float p x.finish (late_in p S e)) (reverse (order p)) (freed_in p S)))
 
 pub act-i-requires : goal.act-i-requires
 act-i-requires c =
@@ -34,7 +34,7 @@ act-i-requires c =
     let S = state x.tables.now in
     let L = c.loop-q in
     let R = ready_kept c.requires.0 L.invariant.1 L.invariant.0 (omega arith) in
-    (omega (arith, R.activities, omega arith), omega arith)
+    (omega (arith, R.activities), omega arith)
 
 pub free_at-requires : goal.free_at-requires
 free_at-requires c =
@@ -44,7 +44,7 @@ free_at-requires c =
     let L = c.loop-q in
     let R = ready_kept c.requires.0 L.invariant.1 L.invariant.0 (omega arith) in
     let A = x.contents.activities in
-    let T = state_of A x.contents.links L.work in
+    let T = state L.tables in
     let e : A - (A - L.q + 1) ≡ L.q - 1 = omega arith in
     (R, recorded_kept L.invariant.1 p refl refl refl c.requires.1, omega (arith, c.act-i.ensures.0, ap (T.act order_at) e, backward_below R (A - L.q) (omega arith)))
 
@@ -57,14 +57,14 @@ returns-in_err-free_at c = rw (handed_on _ _ c.from_residual.ensures.1) (let x =
     let y = freed_in p (state c.free_at.new.tables) in
     let r = c.free_at.result in
     let A = x.contents.activities in
-    let T = state_of A x.contents.links L.work in
+    let T = state L.tables in
     let k : L.q - 1 ≡ A - (A - L.q + 1) = omega arith in
     let at = c.act-i.ensures.0 ∙ ap (T.act order_at) k ∙ backward_at R (A - L.q) (omega arith) in
     let n : A - (L.q - 1) ≡ A - L.q + 1 = omega arith in (
       λ e. through_stop (free_float p x.finish (late_in p S e)) (reverse (order p)) (freed_in p S) (L.invariant.2 e) _ at (omega (arith, backward_length R)) y r
           (step_kept L.invariant.1 p x.finish _ y r c.free_at.ensures.0 e) y _ c.in_err-free_at.was,
       frame_then 12 16 0 0 L.invariant.1 c.free_at.ensures.1,
-      c.free_at.ensures.2 ∙ L.invariant.0,
+      same_then L.invariant.0 c.free_at.ensures.2,
     ))
 
 pub loop-q-preserved : goal.loop-q-preserved
@@ -77,11 +77,11 @@ loop-q-preserved c =
     let y = freed_in p (state c.free_at.new.tables) in
     let r = c.free_at.result in
     let A = x.contents.activities in
-    let T = state_of A x.contents.links L.work in
+    let T = state L.tables in
     let k : L.q - 1 ≡ A - (A - L.q + 1) = omega arith in
     let at = c.act-i.ensures.0 ∙ ap (T.act order_at) k ∙ backward_at R (A - L.q) (omega arith) in
     let n : A - (L.q - 1) ≡ A - L.q + 1 = omega arith in (
-      c.free_at.ensures.2 ∙ L.invariant.0,
+      same_then L.invariant.0 c.free_at.ensures.2,
       frame_then 12 16 0 0 L.invariant.1 c.free_at.ensures.1,
       λ e. rw n (through_turn (free_float p x.finish (late_in p S e)) (reverse (order p)) (freed_in p S) (L.invariant.2 e) _ at (omega (arith, backward_length R)) y r
           (step_kept L.invariant.1 p x.finish _ y r c.free_at.ensures.0 e) c.in_ok-free_at.was),

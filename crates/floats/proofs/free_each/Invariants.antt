@@ -1,8 +1,6 @@
 -- `floats::free_each` meets its contract: q activities are done, and the late dates are as they were.
-use mathlib.Core.Path.{◌≡◌}
 use mathlib.Core.List.{reverse}
 use Prim.Native.Nat.{ℕ, ◌-◌}
-use lib.ListN.{length}
 use Rattle.memory.specs.Seen.{state, SameSlice}
 use Rattle.topology.specs.Frame.{Frame}
 use Rattle.order.specs.Plan.{plan_of}

@@ -20,18 +20,6 @@ use Rattle.floats.specs.StoreLaws.{ef_at}
 use Rattle.floats.specs.GapLaws.{free_of_found, free_of_late, free_of_refused}
 use Rattle.floats.proofs.free_of.Goals as goal
 
-pub slack_of-requires : goal.slack_of-requires
-slack_of-requires c = let q = c.requires in (q.0, q.1, q.2, q.3)
-
-pub act-ef-requires : goal.act-ef-requires
-act-ef-requires c = let q = c.requires in (omega (arith, q.0.activities, q.2), omega arith)
-
-pub act-lf-requires : goal.act-lf-requires
-act-lf-requires c = let q = c.requires in (omega (arith, q.0.activities, q.2), omega arith)
-
-pub recorded_at-recorded-requires : goal.recorded_at-recorded-requires
-recorded_at-recorded-requires c = let q = c.requires in (q.0.room, q.2)
-
 pub returns : goal.returns
 returns c =
     let x = c.args in

@@ -1,8 +1,11 @@
 -- `floats::free_pass` meets its contract.
-use mathlib.Core.Path.{refl, ◌∙◌}
+use mathlib.Core.Path.{refl, ap, ◌∙◌}
+use Prim.Native.Nat.{ℕ}
 use native.Mathlib.Omega.{arith}
 use mathlib.Core.List.{reverse}
 use Rattle.memory.specs.Seen.{state}
+use Rattle.memory.specs.SeenLaws.{same_then}
+use Rattle.memory.specs.State.{fill_act}
 use Rattle.memory.specs.Fields.{free_float}
 use Rattle.topology.specs.Frame.{Frame}
 use Rattle.topology.specs.FrameLaws.{frame_fill, frame_then}
@@ -12,27 +15,23 @@ use Rattle.dates.specs.KeptLaws.{ready_kept, recorded_kept}
 use Rattle.floats.specs.PassLaws.{pass_cleared}
 use Rattle.floats.proofs.free_pass.Goals as goal
 
-pub fill_act-requires : goal.fill_act-requires
-fill_act-requires c = let q = c.requires in (omega (arith, q.0.activities, omega arith), omega arith)
-
 pub free_each-requires : goal.free_each-requires
 free_each-requires c =
     let x = c.args in
     let S = state x.tables.now in
-    let T = state c.fill_act.new.tables in
+    let T = state c.fill_act.new.self in
     let h = c.fill_act.ensures in
-    let F : Frame 12 16 0 0 S T = rw h.0 (frame_fill 12 16 0 0 free_float (omega arith) (omega arith) S x.contents.activities 0) in
+    let g = h.0 ∙ ap (λ (m : ℕ). fill_act S free_float m 0) c.requires.0.activities in
+    let F : Frame 12 16 0 0 S T = rw g (frame_fill 12 16 0 0 free_float (omega arith) (omega arith) S x.contents.activities 0) in
     (ready_kept c.requires.0 F h.1 (omega arith), recorded_kept F (plan_of x.sheet.now x.contents) refl refl refl c.requires.1)
-
-pub shape_of-work : goal.shape_of-work
-shape_of-work c = c.free_each.ensures.2 ∙ c.fill_act.ensures.1
 
 pub returns : goal.returns
 returns c =
     let x = c.args in
     let S = state x.tables.now in
-    let T = state c.fill_act.new.tables in
+    let T = state c.fill_act.new.self in
     let h = c.fill_act.ensures in
-    let F : Frame 12 16 0 0 S T = rw h.0 (frame_fill 12 16 0 0 free_float (omega arith) (omega arith) S x.contents.activities 0) in
+    let g = h.0 ∙ ap (λ (m : ℕ). fill_act S free_float m 0) c.requires.0.activities in
+    let F : Frame 12 16 0 0 S T = rw g (frame_fill 12 16 0 0 free_float (omega arith) (omega arith) S x.contents.activities 0) in
     let r = c.free_each.ensures in
-    (λ e. r.0 e ∙ pass_cleared x.sheet.now x.contents F h.0 x.finish (reverse (order (plan_of x.sheet.now x.contents))) e, frame_then 12 16 0 0 F r.1, r.2 ∙ h.1)
+    (λ e. r.0 e ∙ pass_cleared x.sheet.now x.contents F g x.finish (reverse (order (plan_of x.sheet.now x.contents))) e, frame_then 12 16 0 0 F r.1, same_then h.1 r.2)

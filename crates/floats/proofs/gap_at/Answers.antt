@@ -10,14 +10,14 @@ use Rattle.floats.specs.GapLaws.{gap_refused, gap_between}
 use Rattle.floats.proofs.gap_at.Goals as goal
 
 pub tie_at-tie-requires : goal.tie_at-tie-requires
-tie_at-tie-requires c = let q = c.requires in (q.0.room, omega (arith, kept_within q.0, q.1))
+tie_at-tie-requires c = let q = c.requires in omega (arith, q.0.links, kept_within q.0, q.1)
 
 pub forward_bound-requires : goal.forward_bound-requires
 forward_bound-requires c = let q = c.requires in (q.0.read, q.0.located, lead_fits q.0 _ q.1 _ c.tie_at-tie.ensures)
 
 pub act-target-requires : goal.act-target-requires
 act-target-requires c =
-    let q = c.requires in (q.0.room, to_in q.0 _ q.1 _ c.tie_at-tie.ensures, c.target_field-field.ensures.1)
+    let q = c.requires in (omega (arith, q.0.activities, to_in q.0 _ q.1 _ c.tie_at-tie.ensures), c.target_field-field.ensures.1)
 
 pub returns : goal.returns
 returns c =

@@ -1,5 +1,5 @@
 -- `floats::hold_late` meets its contract. Each way out has its law.
-use mathlib.Core.Path.{refl, sym, ap, ◌∙◌}
+use mathlib.Core.Path.{sym, ap, ◌∙◌}
 use native.Mathlib.Omega.{arith}
 use Rattle.project.specs.declared.Activity.{Activity}
 use Rattle.calendars.specs.CalendarLaws.{in_plan_worked}
@@ -7,6 +7,7 @@ use Rattle.order.specs.Plan.{plan_of}
 use Rattle.passes.specs.Dates.{leaves}
 use Rattle.memory.specs.State.{State}
 use Rattle.memory.specs.Seen.{state}
+use Rattle.memory.specs.SeenLaws.{same_refl}
 use Rattle.topology.specs.Frame.{Frame}
 use Rattle.topology.specs.FrameLaws.{frame_refl}
 use Rattle.bounds.specs.ReadyLaws.{activities_are}
@@ -16,20 +17,11 @@ use Rattle.floats.specs.FitLaws.{moved_bound}
 use Rattle.floats.specs.StoreLaws.{stored_frame, held_to, held_refused}
 use Rattle.floats.proofs.hold_late.Goals as goal
 
-pub act-es-requires : goal.act-es-requires
-act-es-requires c = let q = c.requires in (q.0, q.1, omega arith)
-
-pub act-ef-requires : goal.act-ef-requires
-act-ef-requires c = let q = c.requires in (q.0, q.1, omega arith)
-
-pub act-left-requires : goal.act-left-requires
-act-left-requires c = let q = c.requires in (q.0, q.1, omega arith)
-
 pub store_move-requires : goal.store_move-requires
 store_move-requires c =
     let q = c.requires in
     let m = moved_bound _ _ _ _ _ _ _ _ (sym c.held_move.ensures ∙ c.in_ok-moved.was) in
-    (q.0, q.1, omega arith, omega arith)
+    (omega (arith, q.0, q.1), omega arith, omega arith)
 
 pub returns : goal.returns
 returns c =
@@ -54,4 +46,4 @@ returns-in_err-moved c = rw (handed_on _ _ c.from_residual.ensures.1) (let x = c
     held_refused p S x.i x.free (omega (arith, activities_are x.sheet.now x.contents, q.1)) _ (in_plan_worked q.2.in_plan) _ (ap (λ (a : Activity). a.kind) q.2.is) _ _ _
     c.act-es.ensures.0 c.act-ef.ensures.0 c.act-left.ensures.0 _ (sym c.held_move.ensures ∙ c.in_err-moved.was)
     in
-    (h, frame_refl 12 16 0 0 S, refl))
+    (h, frame_refl 12 16 0 0 S, same_refl x.tables.now))

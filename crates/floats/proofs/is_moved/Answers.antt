@@ -1,7 +1,6 @@
 -- `floats::is_moved` meets its contract. Each way out has its law.
 use Rattle.std.specs.Prelude.{Ok}
 use mathlib.Core.Path.{ap, ◌∙◌}
-use native.Mathlib.Omega.{arith}
 use Rattle.order.specs.Plan.{plan_of}
 use Rattle.memory.specs.Seen.{state}
 use Rattle.dates.specs.Columns.{early_in}
@@ -15,18 +14,12 @@ returns-then-free-eq0 c =
     let d = early_in p (state x.tables.now) in
     unmoved_none p d x.i x.free c.if-free-eq0.true
 
-pub act-requires : goal.act-requires
-act-requires c = let q = c.requires in (q.0, q.1, omega arith)
-
 pub returns-then-act-gt0 : goal.returns-then-act-gt0
 returns-then-act-gt0 c =
     let x = c.args in
     let p = plan_of x.sheet.now x.contents in
     let d = early_in p (state x.tables.now) in
     unmoved_summary p d x.i x.free _ (c.act.ensures.0 ∙ c.requires.3) c.if-act-gt0.true
-
-pub recorded_at-recorded-requires : goal.recorded_at-recorded-requires
-recorded_at-recorded-requires c = let q = c.requires in (q.0, q.1)
 
 pub returns : goal.returns
 returns c =

@@ -11,16 +11,10 @@ use Rattle.number.specs.Exits.{handed_on}
 use Rattle.floats.specs.GapLaws.{gap_own, slack_start, slack_later, slack_turn, slack_stop, slack_end}
 use Rattle.floats.proofs.least_slack.Goals as goal
 
-pub act-k-requires : goal.act-k-requires
-act-k-requires c = let q = c.requires in (omega (arith, q.0.activities, q.1), omega arith)
-
 pub loop-k-init : goal.loop-k-init
 loop-k-init c =
     let x = c.args in
     rw (to_z-of_z c.ranges.slack) (slack_start c.requires.0 x.i x.slack _ c.requires.1 c.act-k.ensures.0)
-
-pub gap_at-requires : goal.gap_at-requires
-gap_at-requires c = let q = c.requires in (q.0, c.loop-k-test.true)
 
 pub returns-in_err-gap : goal.returns-in_err-gap
 returns-in_err-gap c = rw (handed_on _ _ c.from_residual.ensures.1) (let x = c.args in
@@ -31,7 +25,7 @@ returns-in_err-gap c = rw (handed_on _ _ c.from_residual.ensures.1) (let x = c.a
     slack_stop q.0 x.i x.slack C c.loop-k-test.true _ (sym (c.gap_at.ensures ∙ gap_own q.0 x.i L.k x.start x.finish w (in_plan_worked q.2) q.3) ∙ c.in_err-gap.was))
 
 pub link-k-requires : goal.link-k-requires
-link-k-requires c = let q = c.requires in (omega (arith, q.0.activities, omega (arith, kept_within q.0, c.loop-k-test.true)), omega arith)
+link-k-requires c = let q = c.requires in (omega (arith, q.0.links, kept_within q.0, c.loop-k-test.true), omega arith)
 
 pub loop-k-smaller : goal.loop-k-smaller
 loop-k-smaller c =

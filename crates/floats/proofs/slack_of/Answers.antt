@@ -14,15 +14,6 @@ use Rattle.floats.specs.StoreLaws.{ef_at}
 use Rattle.floats.specs.GapLaws.{from_is, slack_found, slack_refused}
 use Rattle.floats.proofs.slack_of.Goals as goal
 
-pub recorded_at-recorded-requires : goal.recorded_at-recorded-requires
-recorded_at-recorded-requires c = let q = c.requires in (q.0.room, q.2)
-
-pub act-es-requires : goal.act-es-requires
-act-es-requires c = let q = c.requires in (omega (arith, q.0.activities, q.2), omega arith)
-
-pub act-ef-requires : goal.act-ef-requires
-act-ef-requires c = let q = c.requires in (omega (arith, q.0.activities, q.2), omega arith)
-
 pub least_slack-requires : goal.least_slack-requires
 least_slack-requires c =
     let x = c.args in

@@ -14,12 +14,6 @@ use Rattle.floats.specs.Slack.{freed_in}
 use Rattle.floats.specs.StoreLaws.{free_stored, freed_held, freed_stays}
 use Rattle.floats.proofs.use_float.Goals as goal
 
-pub is_moved-requires : goal.is_moved-requires
-is_moved-requires c = let q = c.requires in (q.0, q.1, q.2.is, q.3, q.4)
-
-pub hold_late-requires : goal.hold_late-requires
-hold_late-requires c = let q = c.requires in (q.0, q.1, q.2)
-
 pub returns-then-is_moved : goal.returns-then-is_moved
 returns-then-is_moved c =
     let x = c.args in
@@ -29,9 +23,6 @@ returns-then-is_moved c =
     let r = c.hold_late.ensures in
     (r.0 ∙ sym (freed_held p S x.i x.free (sym c.is_moved.ensures ∙ c.if-is_moved.true)), r.1, r.2)
 
-pub put_act-requires : goal.put_act-requires
-put_act-requires c = let q = c.requires in (q.0, q.1, omega arith, q.5)
-
 pub returns : goal.returns
 returns c =
     let x = c.args in
@@ -39,7 +30,7 @@ returns c =
     let p = plan_of x.sheet.now x.contents in
     let S = state x.tables.now in
     let e = c.put_act.ensures.0 in
-    let F : Frame 12 16 0 0 S (state c.put_act.new.tables) =
+    let F : Frame 12 16 0 0 S (state c.put_act.new.self) =
     rw e (frame_put 12 16 0 0 free_float (omega arith) (omega arith) S x.i (pos x.free))
     in (
       ap (λ (T : State). leaves (freed_in p T)) e

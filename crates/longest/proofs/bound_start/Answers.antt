@@ -9,9 +9,6 @@ use Rattle.longest.specs.OwnLaws.{own_worked, own_place, link_in, start_left}
 use Rattle.longest.specs.DriveLaws.{start_no_bound, start_no_start, start_placed}
 use Rattle.longest.proofs.bound_start.Goals as goal
 
-pub link_bound-requires : goal.link_bound-requires
-link_bound-requires c = (c.requires.0.ready, c.requires.0.recorded, c.requires.3)
-
 pub returns-in_err-b : goal.returns-in_err-b
 returns-in_err-b c = rw (handed_on _ _ c.from_residual.ensures.1) (let x = c.args in
     let p = plan_of x.sheet.now x.contents in
@@ -19,11 +16,8 @@ returns-in_err-b c = rw (handed_on _ _ c.from_residual.ensures.1) (let x = c.arg
     let b = c.link_bound in
     sym (start_no_bound p d x.i x.k b.result c.in_err-b.field-0.0 b.ensures c.in_err-b.was))
 
-pub act-left-requires : goal.act-left-requires
-act-left-requires c = (omega (arith, c.requires.0.ready.activities, c.requires.2), omega arith)
-
 pub link-code-requires : goal.link-code-requires
-link-code-requires c = (omega (arith, c.requires.0.ready.activities, link_in c.requires.0 c.args.k c.requires.3), omega arith)
+link-code-requires c = (omega (arith, c.requires.0.ready.links, link_in c.requires.0 c.args.k c.requires.3), omega arith)
 
 pub returns-in_err-s : goal.returns-in_err-s
 returns-in_err-s c = rw (handed_on _ _ c.from_residual-in_err-s.ensures.1) (let x = c.args in

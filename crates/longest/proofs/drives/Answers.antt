@@ -9,18 +9,12 @@ use Rattle.longest.specs.OwnLaws.{link_in, start_read, from_inside, completed_re
 use Rattle.longest.specs.DriveLaws.{drives_refused, drives_elsewhere, drives_by}
 use Rattle.longest.proofs.drives.Goals as goal
 
-pub bound_start-requires : goal.bound_start-requires
-bound_start-requires c = c.requires
-
 pub returns-in_err-u : goal.returns-in_err-u
 returns-in_err-u c = rw (handed_on _ _ c.from_residual.ensures.1) (let x = c.args in
     let p = plan_of x.sheet.now x.contents in
     let d = early_in p (state x.tables.now) in
     let b = c.bound_start in
     λ go. drives_refused p d x.i x.k go b.result b.ensures c.in_err-u.field-0.0 c.in_err-u.was)
-
-pub act-requires : goal.act-requires
-act-requires c = (omega (arith, c.requires.0.ready.activities, c.requires.2), omega arith)
 
 pub returns-then-u-act : goal.returns-then-u-act
 returns-then-u-act c =
@@ -32,13 +26,10 @@ returns-then-u-act c =
     λ go. drives_elsewhere p d x.i x.k go b.result b.ensures c.in_ok-u.u c.in_ok-u.was (λ q. c.if-u-act.true (q ∙ sym e))
 
 pub link-from-requires : goal.link-from-requires
-link-from-requires c = (omega (arith, c.requires.0.ready.activities, link_in c.requires.0 c.args.k c.requires.3), omega arith)
+link-from-requires c = (omega (arith, c.requires.0.ready.links, link_in c.requires.0 c.args.k c.requires.3), omega arith)
 
 pub recorded_at-recorded-requires : goal.recorded_at-recorded-requires
-recorded_at-recorded-requires c = (c.requires.0.ready.room, from_inside c.requires.0 c.args.k c.requires.3 c.link-from.result c.link-from.ensures.0)
-
-pub is_completed-requires : goal.is_completed-requires
-is_completed-requires c = tt
+recorded_at-recorded-requires c = omega (arith, c.requires.0.ready.activities, from_inside c.requires.0 c.args.k c.requires.3 c.link-from.result c.link-from.ensures.0)
 
 pub returns : goal.returns
 returns c =

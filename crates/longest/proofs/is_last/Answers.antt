@@ -1,37 +1,24 @@
 -- `longest::is_last` meets its contract, each way out by its law.
 use mathlib.Core.Path.{sym, ◌∙◌}
-use native.Mathlib.Omega.{arith}
 use Rattle.memory.specs.Seen.{state}
 use Rattle.longest.specs.LastLaws.{last_summary, last_completed, last_finish}
 use Rattle.longest.proofs.is_last.Goals as goal
 
-pub act-requires : goal.act-requires
-act-requires c = (c.requires.0, c.requires.1, omega arith)
-
 pub returns-then-act-ne0 : goal.returns-then-act-ne0
 returns-then-act-ne0 c =
     let x = c.args in
-    λ p t e W R. sym (last_summary p (state x.tables.now) t W R x.finish x.i (rw e c.requires.1) c.act.result c.act.ensures.0 c.if-act-ne0.true)
-
-pub recorded_at-recorded-requires : goal.recorded_at-recorded-requires
-recorded_at-recorded-requires c = c.requires
-
-pub is_completed-requires : goal.is_completed-requires
-is_completed-requires c = tt
+    λ p t e W R. sym (last_summary p (state x.tables.now) t W R x.finish x.i (rw e c.requires) c.act.result c.act.ensures.0 c.if-act-ne0.true)
 
 pub returns-then-is_completed : goal.returns-then-is_completed
 returns-then-is_completed c =
     let x = c.args in
     λ p t e W R.
     sym
-    (last_completed p (state x.tables.now) t W R x.finish x.i (rw e c.requires.1) c.act.result c.act.ensures.0 c.if-act-ne0.false c.recorded_at-recorded.result c.recorded_at-recorded.ensures (sym (c.is_completed.ensures p) ∙ c.if-is_completed.true))
-
-pub act-requires-2 : goal.act-requires-2
-act-requires-2 c = (c.requires.0, c.requires.1, omega arith)
+    (last_completed p (state x.tables.now) t W R x.finish x.i (rw e c.requires) c.act.result c.act.ensures.0 c.if-act-ne0.false c.recorded_at-recorded.result c.recorded_at-recorded.ensures (sym (c.is_completed.ensures p) ∙ c.if-is_completed.true))
 
 pub returns : goal.returns
 returns c =
     let x = c.args in
     λ p t e W R.
     sym
-    (last_finish p (state x.tables.now) t W R x.finish x.i (rw e c.requires.1) c.act.result c.act.ensures.0 c.if-act-ne0.false c.recorded_at-recorded.result c.recorded_at-recorded.ensures (sym (c.is_completed.ensures p) ∙ c.if-is_completed.false) c.act-2.result c.act-2.ensures.0)
+    (last_finish p (state x.tables.now) t W R x.finish x.i (rw e c.requires) c.act.result c.act.ensures.0 c.if-act-ne0.false c.recorded_at-recorded.result c.recorded_at-recorded.ensures (sym (c.is_completed.ensures p) ∙ c.if-is_completed.false) c.act-2.result c.act-2.ensures.0)

@@ -1,10 +1,9 @@
 -- `longest::mark_last` meets its contract: the marks of the activities before i stand.
-use mathlib.Core.Path.{◌≡◌, refl, ap, ◌∙◌}
+use mathlib.Core.Path.{◌≡◌, refl, sym, ap, ◌∙◌}
 use Prim.Native.Nat.{ℕ}
 use native.Mathlib.Omega.{arith}
-use Rattle.number.specs.BitLaws.{bit_le}
-use Rattle.memory.specs.State.{state_of}
 use Rattle.memory.specs.Seen.{state}
+use Rattle.memory.specs.SeenLaws.{same_refl, same_then}
 use Rattle.memory.specs.Fields.{longest_path}
 use Rattle.topology.specs.FrameLaws.{frame_refl}
 use Rattle.passes.specs.Floats.{last_ones}
@@ -18,34 +17,26 @@ pub loop-i-init : goal.loop-i-init
 loop-i-init c =
     let x = c.args in
     let S = state x.tables.now in
-    (refl, frame_refl 16 17 0 0 S, λ p t e W R. marks_none (last_ones p (early_in p S) x.finish) S)
-
-pub is_last-requires : goal.is_last-requires
-is_last-requires c =
-    (omega (arith, c.requires, c.loop-i.invariant.0), omega arith)
-
-pub put_act-requires : goal.put_act-requires
-put_act-requires c =
-    (omega (arith, c.requires, c.loop-i.invariant.0), omega arith, omega arith, omega (arith, c.from-v.ensures, bit_le c.is_last.result))
+    (same_refl x.tables.now, frame_refl 16 17 0 0 S, λ p t e W R. marks_none (last_ones p (early_in p S) x.finish) S)
 
 pub loop-i-preserved : goal.loop-i-preserved
 loop-i-preserved c =
     let x = c.args in
     let v = c.loop-i.invariant in
     let S₀ = state x.tables.now in
-    let S = state_of x.a x.l c.loop-i.tables in
-    let T = state c.put_act.new.tables in
+    let S = state c.loop-i.tables in
+    let T = state c.put_act.new.self in
     let e = c.put_act.ensures in
     let f = c.from-v in
     let g = c.is_last in
-    (e.1 ∙ v.0, frame_mark v.1 c.loop-i.i f.result e.0, λ p t a W R. last_turn p S₀ S T v.1 x.finish c.loop-i.i f.result g.result e.0 f.ensures (v.2 p t a W R) (g.ensures p t a (standing_kept v.1 p (omega arith) W) (recorded_kept v.1 p refl refl refl R)))
+    (same_then v.0 e.1, frame_mark v.1 c.loop-i.i f.result e.0, λ p t a W R. last_turn p S₀ S T v.1 x.finish c.loop-i.i f.result g.result e.0 f.ensures (v.2 p t a W R) (g.ensures p t (a ∙ sym v.0.activities) (standing_kept v.1 p (omega arith) W) (recorded_kept v.1 p refl refl refl R)))
 
 pub returns : goal.returns
 returns c =
     let x = c.args in
     let v = c.loop-i.invariant in
     let S₀ = state x.tables.now in
-    let S = state_of x.a x.l c.loop-i.tables in (
+    let S = state c.loop-i.tables in (
       λ p t a W R.
           let e : p.activities ≡ c.loop-i.i = omega (arith, a) in
           let other = last_ones p (early_in p S₀) x.finish in

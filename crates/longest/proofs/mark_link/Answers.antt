@@ -1,8 +1,9 @@
 -- `longest::mark_link` meets its contract, each way out by its law.
 use Rattle.std.specs.Prelude.{Ok}
-use mathlib.Core.Path.{refl, ap, ◌∙◌}
+use mathlib.Core.Path.{ap, ◌∙◌}
 use native.Mathlib.Omega.{arith}
 use Rattle.memory.specs.Seen.{state}
+use Rattle.memory.specs.SeenLaws.{same_refl}
 use Rattle.order.specs.Plan.{plan_of}
 use Rattle.topology.specs.FrameLaws.{frame_refl}
 use Rattle.dates.specs.Columns.{early_in}
@@ -13,16 +14,13 @@ use Rattle.longest.specs.LastLaws.{frame_mark}
 use Rattle.longest.specs.MarkLaws.{mark_refused, mark_leaves, mark_sets}
 use Rattle.longest.proofs.mark_link.Goals as goal
 
-pub drives-requires : goal.drives-requires
-drives-requires c = c.requires
-
 pub returns-in_err-sets : goal.returns-in_err-sets
 returns-in_err-sets c =
     rw (handed_on _ _ c.from_residual.ensures.1) (let x = c.args in
     let p = plan_of x.sheet.now x.contents in
     let S = state x.tables.now in
     let b = c.drives in
-    (λ other go. mark_refused p (early_in p S) x.i x.k S other go b.result b.ensures c.in_err-sets.field-0.0 c.in_err-sets.was, frame_refl 16 17 0 0 S, refl))
+    (λ other go. mark_refused p (early_in p S) x.i x.k S other go b.result b.ensures c.in_err-sets.field-0.0 c.in_err-sets.was, frame_refl 16 17 0 0 S, same_refl x.tables.now))
 
 pub returns-else-sets : goal.returns-else-sets
 returns-else-sets c =
@@ -30,13 +28,13 @@ returns-else-sets c =
     let p = plan_of x.sheet.now x.contents in
     let S = state x.tables.now in
     let b = c.drives in
-    (λ other go. mark_leaves p (early_in p S) x.i x.k S other go b.result b.ensures (c.in_ok-sets.was ∙ ap Ok c.if-sets.false), frame_refl 16 17 0 0 S, refl)
+    (λ other go. mark_leaves p (early_in p S) x.i x.k S other go b.result b.ensures (c.in_ok-sets.was ∙ ap Ok c.if-sets.false), frame_refl 16 17 0 0 S, same_refl x.tables.now)
 
 pub link-from-requires : goal.link-from-requires
-link-from-requires c = (omega (arith, c.requires.0.ready.activities, link_in c.requires.0 c.args.k c.requires.3), omega arith)
+link-from-requires c = (omega (arith, c.requires.0.ready.links, link_in c.requires.0 c.args.k c.requires.3), omega arith)
 
 pub put_act-requires : goal.put_act-requires
-put_act-requires c = (c.requires.0.ready.room, from_inside c.requires.0 c.args.k c.requires.3 c.link-from.result c.link-from.ensures.0, omega arith, omega arith)
+put_act-requires c = (omega (arith, c.requires.0.ready.activities, from_inside c.requires.0 c.args.k c.requires.3 c.link-from.result c.link-from.ensures.0), omega arith, omega arith)
 
 pub returns-then-sets : goal.returns-then-sets
 returns-then-sets c =
@@ -45,7 +43,7 @@ returns-then-sets c =
     let S = state x.tables.now in
     let b = c.drives in
     let g = c.link-from in
-    let T = state c.put_act.new.tables in
+    let T = state c.put_act.new.self in
     let e = c.put_act.ensures in (
       λ other go.
           mark_sets p (early_in p S) x.i x.k S other go b.result b.ensures (c.in_ok-sets.was ∙ ap Ok c.if-sets.true) T g.result

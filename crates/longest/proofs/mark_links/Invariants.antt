@@ -1,8 +1,6 @@
 -- `longest::mark_links` meets its contract: the links of the chain before k have had their turns.
-use mathlib.Core.Path.{◌≡◌}
 use mathlib.Core.Bool.{Bool}
 use Prim.Native.Nat.{ℕ, ◌-◌}
-use lib.ListN.{length}
 use Rattle.memory.specs.Seen.{state, SameSlice}
 use Rattle.topology.specs.Frame.{Frame}
 use Rattle.order.specs.Plan.{plan_of}

@@ -1,19 +1,14 @@
 -- `longest::on_path` meets its contract, each way out by its law.
-use mathlib.Core.Path.{refl, sym, ◌∙◌}
+use mathlib.Core.Path.{sym, ◌∙◌}
 use native.Mathlib.Omega.{arith}
 use Rattle.memory.specs.Seen.{state}
+use Rattle.memory.specs.SeenLaws.{same_refl}
 use Rattle.topology.specs.FrameLaws.{frame_refl}
 use Rattle.order.specs.Plan.{plan_of}
 use Rattle.bounds.specs.ReadyLaws.{activities_are}
 use Rattle.longest.specs.OwnLaws.{own_made}
 use Rattle.longest.specs.WalkLaws.{turn_on, turn_off}
 use Rattle.longest.proofs.on_path.Goals as goal
-
-pub act-requires : goal.act-requires
-act-requires c = (omega (arith, c.requires.0.ready.activities, c.requires.1), omega arith)
-
-pub shape_of-work-then-act-eq0 : goal.shape_of-work-then-act-eq0
-shape_of-work-then-act-eq0 c = refl
 
 pub returns-then-act-eq0 : goal.returns-then-act-eq0
 returns-then-act-eq0 c =
@@ -24,20 +19,11 @@ returns-then-act-eq0 c =
           sym
           (turn_off p S x.i (omega (arith, c.requires.1, activities_are x.sheet.now x.contents)) other c.act.result c.act.ensures.0 c.if-act-eq0.true),
       frame_refl 16 17 0 0 S,
-      refl,
+      same_refl x.tables.now,
     )
-
-pub activity_of-activity-requires : goal.activity_of-activity-requires
-activity_of-activity-requires c = (c.requires.0.ready.read, c.requires.1)
-
-pub calendar_of-calendar-requires : goal.calendar_of-calendar-requires
-calendar_of-calendar-requires c = (c.requires.0.ready.read, c.requires.0.ready.located)
 
 pub mark_links-requires : goal.mark_links-requires
 mark_links-requires c = (c.requires.0, own_made c.activity_of-activity.ensures c.calendar_of-calendar.ensures, c.requires.1)
-
-pub shape_of-work : goal.shape_of-work
-shape_of-work c = c.mark_links.ensures.2
 
 pub returns : goal.returns
 returns c =

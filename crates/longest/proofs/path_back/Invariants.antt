@@ -1,8 +1,6 @@
 -- `longest::path_back` meets its contract: q activities from the end of the order have had their turns.
-use mathlib.Core.Path.{◌≡◌}
 use mathlib.Core.Bool.{Bool}
 use Prim.Native.Nat.{ℕ, ◌-◌}
-use lib.ListN.{length}
 use Rattle.memory.specs.Seen.{state, SameSlice}
 use Rattle.topology.specs.Frame.{Frame}
 use Rattle.order.specs.Plan.{plan_of}

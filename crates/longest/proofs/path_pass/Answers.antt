@@ -1,40 +1,27 @@
 -- `longest::path_pass` meets its contract: the marks of what finishes the project, and then the pass back along the order.
-use mathlib.Core.Path.{◌∙◌}
-use Rattle.memory.specs.State.{state_of}
+use mathlib.Core.Path.{sym, ◌∙◌}
+use Rattle.memory.specs.Seen.{state}
+use Rattle.memory.specs.SeenLaws.{same_then}
 use Rattle.topology.specs.FrameLaws.{frame_then}
 use Rattle.order.specs.Plan.{plan_of}
 use Rattle.passes.specs.Floats.{last_ones}
 use Rattle.dates.specs.Columns.{early_in, path_in, ended}
 use Rattle.bounds.specs.ReadyLaws.{activities_are}
-use Rattle.longest.specs.KeptLaws.{lent_kept}
 use Rattle.longest.specs.WalkLaws.{pass_is}
 use Rattle.longest.proofs.path_pass.Goals as goal
-
-pub mark_last-requires : goal.mark_last-requires
-mark_last-requires c = c.requires.0.room
-
-pub path_back-requires : goal.path_back-requires
-path_back-requires c =
-    let m = c.mark_last in
-    lent_kept (record { ready = c.requires.0; recorded = c.requires.1 }) m.new.tables m.ensures.1 m.ensures.2
-
-pub shape_of-work : goal.shape_of-work
-shape_of-work c = c.path_back.ensures.2 ∙ c.mark_last.ensures.2
 
 pub returns : goal.returns
 returns c =
     let x = c.args in
     let p = plan_of x.sheet.now x.contents in
-    let a = x.contents.activities in
-    let l = x.contents.links in
-    let S₀ = state_of a l x.tables.now in
+    let S₀ = state x.tables.now in
     let m = c.mark_last in
     let b = c.path_back in
-    let S = state_of a l m.new.tables in
-    let T = state_of a l b.new.tables in
+    let S = state m.new.tables in
+    let T = state b.new.tables in
     let other = last_ones p (early_in p S₀) x.finish in (
       pass_is p S₀ S m.ensures.1 x.finish (ended (path_in p T other) b.result)
-          (m.ensures.0 p x.t (activities_are x.sheet.now x.contents) c.requires.0.standing c.requires.1) (b.ensures.0 other),
+          (m.ensures.0 p x.t (activities_are x.sheet.now x.contents ∙ sym c.requires.0.activities) c.requires.0.standing c.requires.1) (b.ensures.0 other),
       frame_then 16 17 0 0 m.ensures.1 b.ensures.1,
-      b.ensures.2 ∙ m.ensures.2,
+      same_then m.ensures.2 b.ensures.2,
     )
