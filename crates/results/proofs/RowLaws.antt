@@ -1,5 +1,5 @@
 -- The rows of the memory give what the definition shows, one after the other.
-use Rattle.std.specs.Prelude.{◌≡◌, Bool, List, ltb, ℤ, length, Result, Ok, Err}
+use Rattle.std.specs.Prelude.{◌≡◌, Bool, List, ltb, ℤ, Result, Ok, Err}
 use Rattle.worktime.specs.declared.ClockError.{ClockError}
 use Rattle.std.proofs.Common.{sym, ◌∙◌, ⊎_elim, add-one, arith}
 use Rattle.std.proofs.Math.Path.{ap}
