@@ -149,7 +149,7 @@ fn record_dated(
     activity: Activity,
     whole: u64,
 ) -> Result<(), ClockError>
-    requires { SheetRead sheet.now contents × Places sheet.now contents calendars.now × (tables.old.activities ≡ contents.activities) × (tables.old.links ≡ contents.links) × (i < contents.activities) × (activity ≡ (plan_of sheet.now contents).activity i) × (summary (plan_of sheet.now contents) i ≡ false) × (whole ≡ full (plan_of sheet.now contents) i) × (whole < 2 ^ 63) }
+    requires { SheetRead sheet.now contents × Places sheet.now contents calendars.now × (tables.old.activities ≡ contents.activities) × (i < contents.activities) × (activity ≡ (plan_of sheet.now contents).activity i) × (summary (plan_of sheet.now contents) i ≡ false) × (whole ≡ full (plan_of sheet.now contents) i) × (whole < 2 ^ 63) }
     ensures { Row (plan_of sheet.now contents) i (state tables.old) (state tables.new) result × SameSlice tables.old tables.new }
 {
     let k = activity.calendar as usize;

@@ -1,5 +1,5 @@
 -- The rows of the memory give what the definition shows, one after the other.
-use Rattle.std.specs.Prelude.{◌≡◌, Bool, List, ltb, ℤ, length, Result, Ok, Err}
+use Rattle.std.specs.Prelude.{◌≡◌, Bool, List, ltb, ℤ, Result, Ok, Err}
 use Rattle.worktime.specs.declared.ClockError.{ClockError}
 use Rattle.std.proofs.Common.{sym, ◌∙◌, ⊎_elim, add-one, arith}
 use Rattle.std.proofs.Math.Path.{ap}
@@ -42,7 +42,8 @@ module _ {s : List ℕ} {c : Contents} {calendars : List PlanCalendar} {tables :
   unfolding plan_of
   to_show R L D = record {
     read = R.read;
-    room = R.room;
+    activities = R.activities;
+    links = R.links;
     located = R.located;
     days = L;
     named = λ i b. ((checked_fine (plan_of s c) R.fine).activities i b).calendar;
@@ -54,7 +55,8 @@ module _ {s : List ℕ} {c : Contents} {calendars : List PlanCalendar} {tables :
       → SameSlice tables tables' → ToShow s c calendars tables → ToShow s c calendars tables'
   to_show_kept {lo} {hi} {tables'} l F e W = record {
     read = W.read;
-    room = omega (arith, W.room);
+    activities = e.activities ∙ W.activities;
+    links = e.links ∙ W.links;
     located = W.located;
     days = W.days;
     named = W.named;

@@ -1,6 +1,6 @@
 -- What the results are lent, and what is shown of an activity by its row of the memory.
-use Rattle.std.specs.Prelude.{List, ℕ, ◌<◌, ℤ}
-use Rattle.memory.specs.State.{State, Room}
+use Rattle.std.specs.Prelude.{◌≡◌, List, ℕ, ◌<◌}
+use Rattle.memory.specs.State.{State}
 use Rattle.memory.specs.declared.Tables.{Tables}
 use Rattle.memory.specs.Seen.{state}
 use Rattle.sheet.specs.declared.Contents.{Contents}
@@ -20,7 +20,8 @@ use Rattle.results.specs.Showing.{shown_from}
 -- a sheet that was read, its calendars' places and day lengths, each activity's calendar among them, and the recorded work in the memory
 pub record ToShow (s : List ℕ) (c : Contents) (calendars : List PlanCalendar) (tables : Tables) : Type 0 where
   pub read : SheetRead s c
-  pub room : Room c.activities c.links tables
+  pub activities : tables.activities ≡ c.activities
+  pub links : tables.links ≡ c.links
   pub located : Places s c calendars
   pub days : Lengths (plan_of s c) calendars
   pub named : (i : ℕ) → i < c.activities → calendar_of (plan_of s c) i < c.calendars

@@ -202,7 +202,7 @@ fn shown_of(
 
 // ---- an activity's row of the memory
 pub fn times_at(tables: &Tables, i: usize) -> Times
-    requires { (i < tables.now.activities) }
+    requires { i < tables.now.activities }
     ensures { (result ≡ times_in (state tables.now) i) × (result.ef < 2 ^ 63) × (result.lf < 2 ^ 63) × (result.free < 2 ^ 63) }
 {
     let es = tables.act(i, memory::fields::EARLY_START);
@@ -224,7 +224,7 @@ pub fn times_at(tables: &Tables, i: usize) -> Times
 }
 
 fn days_at(tables: &Tables, i: usize) -> Days
-    requires { (i < tables.now.activities) }
+    requires { i < tables.now.activities }
     ensures { (result ≡ days_in (state tables.now) i) × DaysHold result }
 {
     let es = tables.act(i, memory::fields::SHOWN_START);
@@ -236,7 +236,7 @@ fn days_at(tables: &Tables, i: usize) -> Days
 
 // What is shown of activity `i`, from its row.
 pub fn shown_at(tables: &Tables, i: usize) -> Shown
-    requires { (i < tables.now.activities) }
+    requires { i < tables.now.activities }
     ensures { (result ≡ shown_at (state tables.now) i) × Holds result }
 {
     let d = days_at(tables, i);

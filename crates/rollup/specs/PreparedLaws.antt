@@ -1,5 +1,5 @@
 -- The preparation gives the roll-up what it needs.
-use Rattle.std.specs.Prelude.{◌≡◌, Bool, List, eqb, ltb, ℤ, Result, Ok, Err}
+use Rattle.std.specs.Prelude.{◌≡◌, Bool, List, eqb, ltb, Result, Ok, Err}
 use Rattle.worktime.specs.declared.ClockError.{ClockError}
 use Rattle.std.proofs.Math.Path.{refl, ap}
 use Rattle.std.proofs.Common.{sym, ◌∙◌, arith}

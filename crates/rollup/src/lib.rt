@@ -53,14 +53,14 @@ fn chain_down(tables: &mut Tables, key: usize, head: usize)
     requires { (key < head) × (head + 2 ≤ 64) × KeysIn key tables.old.activities (state tables.old) × LinkedIn key head tables.old.activities tables.old.activities (state tables.old) }
     ensures { LinkedIn key head tables.old.activities 0 (state tables.new) × Frame head (head + 2) 0 0 (state tables.old) (state tables.new) × SameSlice tables.old tables.new }
 {
-    for c in (0..a).rev() {
+    for c in (0..tables.activities).rev() {
         chain_one(tables, key, head, c);
     }
 }
 
 // Chains the activities by the field `key`, where 0 is no key: `head` of row i is the first whose key is i + 1, and the field after it the next with the same key.
 fn chain(tables: &mut Tables, key: usize, head: usize)
-    requires { (tables.old.activities < 2 ^ 63) × (key < head) × (head + 2 ≤ 64) × KeysIn key tables.old.activities (state tables.old) }
+    requires { (key < head) × (head + 2 ≤ 64) × KeysIn key tables.old.activities (state tables.old) }
     ensures { LinkedIn key head tables.old.activities 0 (state tables.new) × Frame head (head + 2) 0 0 (state tables.old) (state tables.new) × SameSlice tables.old tables.new }
 {
     tables.fill_act(head, tables.activities as u64);
@@ -74,7 +74,7 @@ fn depth_of(tables: &Tables, i: usize) -> usize
     ensures { (result ≡ depth ((state tables.now).act parent) tables.now.activities i) × (result ≤ tables.now.activities) }
 {
     let mut y = i + 1;
-    for k in 0..a {
+    for k in 0..tables.activities {
         if y == 0 {
             return k;
         }
@@ -85,7 +85,7 @@ fn depth_of(tables: &Tables, i: usize) -> usize
 
 // Puts the depth of activity `i` into its row, where it is a summary, and else 0.
 fn mark_one(tables: &mut Tables, i: usize)
-    requires { (tables.old.activities < 2 ^ 63) × (i < tables.old.activities) × KeysIn parent tables.old.activities (state tables.old) }
+    requires { (i < tables.old.activities) × KeysIn parent tables.old.activities (state tables.old) }
     ensures { (state tables.new ≡ put_act (state tables.old) depth_of i (depth_key (state tables.old) tables.old.activities i)) × SameSlice tables.old tables.new }
 {
     if tables.act(i, memory::fields::IS_SUMMARY) == 0 {
@@ -98,10 +98,10 @@ fn mark_one(tables: &mut Tables, i: usize)
 
 // Puts the depth of each summary into its row, and 0 into the others'.
 fn mark_depths(tables: &mut Tables)
-    requires { (tables.old.activities < 2 ^ 63) × KeysIn parent tables.old.activities (state tables.old) }
+    requires { KeysIn parent tables.old.activities (state tables.old) }
     ensures { DepthsTo (state tables.old) (state tables.new) tables.old.activities tables.old.activities × Frame 30 31 0 0 (state tables.old) (state tables.new) × SameSlice tables.old tables.new }
 {
-    for i in 0..a {
+    for i in 0..tables.activities {
         mark_one(tables, i);
     }
 }
@@ -228,7 +228,7 @@ fn roll_all(
 
 // Finds depths and chains for the roll-up.
 fn prepare(tables: &mut Tables)
-    requires { (tables.old.activities < 2 ^ 63) × KeysIn parent tables.old.activities (state tables.old) }
+    requires { KeysIn parent tables.old.activities (state tables.old) }
     ensures { Prepared tables.old.activities (state tables.old) (state tables.new) × SameSlice tables.old tables.new }
 {
     mark_depths(tables);

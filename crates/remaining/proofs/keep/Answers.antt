@@ -1,17 +1,17 @@
 -- `remaining::keep` meets its contract: the four puts are `kept`.
-use borrow.Author.Rules.{rules}
-use mathlib.Core.Path.{◌∙◌}
+use native.Mathlib.Omega.{arith}
+use Rattle.memory.specs.SeenLaws.{same_then}
 use Rattle.remaining.specs.LeftLaws.{start_below, finish_below}
 use Rattle.remaining.specs.RowLaws.{kept_steps}
 use Rattle.remaining.proofs.keep.Goals as goal
 
 pub put_act-requires-2 : goal.put_act-requires-2
 put_act-requires-2 c =
-    (search rules, search rules, search rules, rw c.start_of.ensures (start_below c.args.actual c.requires.2))
+    (omega (arith, c.requires.0, c.put_act.ensures.1.activities), omega arith, rw c.start_of.ensures (start_below c.args.actual c.requires.1))
 
 pub put_act-requires-3 : goal.put_act-requires-3
 put_act-requires-3 c =
-    (search rules, search rules, search rules, rw c.finish_of.ensures (finish_below c.args.actual c.requires.2))
+    (omega (arith, c.requires.0, c.put_act.ensures.1.activities, c.put_act-2.ensures.1.activities), omega arith, rw c.finish_of.ensures (finish_below c.args.actual c.requires.1))
 
 pub returns : goal.returns
 returns c =
@@ -22,5 +22,5 @@ returns c =
     let x = c.args in (
       kept_steps _ _ _ _ _ x.i x.actual _ _ _ x.left p1.0 p2.0 p3.0 p4.0 c.how_of.ensures.0 c.start_of.ensures
           c.finish_of.ensures,
-      p4.1 ∙ p3.1 ∙ p2.1 ∙ p1.1,
+      same_then p1.1 (same_then p2.1 (same_then p3.1 p4.1)),
     )

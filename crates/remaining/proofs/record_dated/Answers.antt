@@ -1,8 +1,9 @@
 -- `remaining::record_dated` meets its contract: what is recorded is the definition's, and so is the work left.
-use mathlib.Core.Path.{◌≡◌, refl, sym, ap, ◌∙◌}
+use mathlib.Core.Path.{◌≡◌, refl, sym, ◌∙◌}
 use mathlib.Core.Bool.{false}
 use mathlib.Core.List.{List}
 use Prim.Native.Nat.{ℕ}
+use native.Mathlib.Omega.{arith}
 use Rattle.std.specs.Prelude.{Result, Ok, Err}
 use Rattle.worktime.specs.declared.ClockError.{ClockError}
 use Rattle.calendar.specs.declared.value.Calendar.{Calendar}
@@ -10,6 +11,7 @@ use Rattle.sheet.specs.declared.Contents.{Contents}
 use Rattle.project.specs.declared.Activity.{Activity}
 use Rattle.placing.specs.declared.Actual.{Actual}
 use Rattle.placing.specs.Placing.{actual}
+use Rattle.memory.specs.SeenLaws.{same_refl}
 use Rattle.clock.specs.On.{worked_by}
 use Rattle.order.specs.Plan.{plan_of}
 use Rattle.order.specs.Ids.{summary}
@@ -44,8 +46,7 @@ keep-requires c =
     let p = plan_of y.sheet.now y.contents in
     let C = in_plan_own c.calendar_of-calendar.ensures c.args.i c.requires.4 refl in
     let x = c.in_ok-actual.actual in (
-      c.requires.2,
-      c.requires.3,
+      omega (arith, c.requires.2, c.requires.3),
       is_below p y.i (Ok x) (sym c.in_ok-actual.was ∙ recorded-is y.sheet.now y.contents y.i c.requires.4 C c.requires.5 c.actual.ensures),
       left_below p y.i (rw c.requires.6 at c.requires.7) (Ok x) c.in_ok-left.left (sym c.left_of.ensures ∙ c.in_ok-left.was),
     )
@@ -65,7 +66,7 @@ returns-in_err-actual c = rw (handed_on _ _ c.from_residual.ensures.1) (let y = 
     let p = plan_of y.sheet.now y.contents in
     let C = in_plan_own c.calendar_of-calendar.ensures c.args.i c.requires.4 refl in
     let e = sym c.in_err-actual.was ∙ recorded-is y.sheet.now y.contents y.i c.requires.4 C c.requires.5 c.actual.ensures in
-    (row_refused p y.i _ _ (left_is p y.i (Err c.in_err-actual.field-0.0) e), refl))
+    (row_refused p y.i _ _ (left_is p y.i (Err c.in_err-actual.field-0.0) e), same_refl _))
 
 pub returns-in_err-left : goal.returns-in_err-left
 returns-in_err-left c = rw (handed_on _ _ c.from_residual-in_err-left.ensures.1) (let y = c.args in
@@ -73,4 +74,4 @@ returns-in_err-left c = rw (handed_on _ _ c.from_residual-in_err-left.ensures.1)
     let C = in_plan_own c.calendar_of-calendar.ensures c.args.i c.requires.4 refl in
     let x = c.in_ok-actual.actual in
     let e = sym c.in_ok-actual.was ∙ recorded-is y.sheet.now y.contents y.i c.requires.4 C c.requires.5 c.actual.ensures in
-    (row_refused p y.i _ _ (left_is p y.i (Ok x) e ∙ sym c.left_of.ensures ∙ c.in_err-left.was), refl))
+    (row_refused p y.i _ _ (left_is p y.i (Ok x) e ∙ sym c.left_of.ensures ∙ c.in_err-left.was), same_refl _))

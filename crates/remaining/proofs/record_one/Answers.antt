@@ -6,7 +6,6 @@ use mathlib.Core.Bool.{true, false}
 use mathlib.Core.List.{List}
 use Prim.Native.Nat.{ℕ, ◌<◌}
 use native.Mathlib.Omega.{arith}
-use lib.IntN.{ℤ}
 use mir.Facts.{to_z-of_z}
 use mir.Syntax.{w32}
 use mir.Val.{SFits, of_z, to_z}
@@ -19,7 +18,8 @@ use Rattle.project.specs.declared.Activity.{Activity}
 use Rattle.project.specs.declared.Status.{Status}
 use Rattle.project.specs.declared.Status.TheVariants.{NotStarted}
 use Rattle.project.specs.Status.{status_of}
-use Rattle.memory.specs.State.{state_of}
+use Rattle.memory.specs.declared.Tables.{Tables}
+use Rattle.memory.specs.Seen.{state}
 use Rattle.memory.specs.Fields.{is_summary}
 use Rattle.placing.specs.declared.Actual.TheVariants.{Unstarted}
 use Rattle.order.specs.Plan.{Plan, plan_of}
@@ -32,7 +32,7 @@ use Rattle.remaining.specs.RowLaws.{row_kept}
 use Rattle.remaining.proofs.record_one.Goals as goal
 
 -- the mark m tells summaries from others
-module _ {s : List ℕ} {x : Contents} {calendars : List PlanCalendar} {t : ℕ} {xs : List ℤ} (R : Ready s x calendars t xs) {i m : ℕ} (l : i < x.activities) (e : m ≡ (state_of x.activities x.links xs).act is_summary i) where
+module _ {s : List ℕ} {x : Contents} {calendars : List PlanCalendar} {t : ℕ} {tables : Tables} (R : Ready s x calendars t tables) {i m : ℕ} (l : i < x.activities) (e : m ≡ (state tables).act is_summary i) where
   marked : m ≡ bit (summary (plan_of s x) i)
   unfolding plan_of
   marked = e ∙ R.standing.marks i l
@@ -60,7 +60,7 @@ keep-requires c =
     let x = c.args in
     let p = plan_of x.sheet.now x.contents in
     let y = is-summary c.requires.0 c.requires.1 c.act-mark.ensures.0 c.if-mark-ne0.true in
-    (c.requires.0.room, c.requires.1, is_below p x.i (Ok Unstarted) (sym (recorded_summary p x.i y)), omega arith)
+    (omega (arith, c.requires.0.activities, c.requires.1), is_below p x.i (Ok Unstarted) (sym (recorded_summary p x.i y)), omega arith)
 
 pub returns-then-mark-ne0 : goal.returns-then-mark-ne0
 returns-then-mark-ne0 c =
@@ -82,7 +82,7 @@ record_dated-requires c =
     let n = no-summary c.requires.0 c.requires.1 c.act-mark.ensures.0 c.if-mark-ne0.false in (
       c.requires.0.read,
       c.requires.0.located,
-      c.requires.0.room,
+      c.requires.0.activities,
       c.requires.1,
       e,
       n,
@@ -99,7 +99,7 @@ keep-requires-2 c =
     let p = plan_of x.sheet.now x.contents in
     let n = no-summary c.requires.0 c.requires.1 c.act-mark.ensures.0 c.if-mark-ne0.false in
     let r = none-recorded p x.i c.activity_of-activity.ensures n c.status_of-status.ensures c.in-NotStarted.is in
-    (c.requires.0.room, c.requires.1, is_below p x.i (Ok Unstarted) (sym r), c.minutes_of-whole.ensures.1)
+    (omega (arith, c.requires.0.activities, c.requires.1), is_below p x.i (Ok Unstarted) (sym r), c.minutes_of-whole.ensures.1)
 
 pub returns : goal.returns
 returns c =

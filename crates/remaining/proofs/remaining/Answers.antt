@@ -1,7 +1,8 @@
 -- `remaining::remaining` meets its contract: the first i activities are done.
-use mathlib.Core.Path.{◌≡◌, refl, ◌∙◌}
+use mathlib.Core.Path.{◌≡◌}
 use native.Mathlib.Omega.{arith}
 use Rattle.memory.specs.Seen.{state}
+use Rattle.memory.specs.SeenLaws.{same_refl, same_then}
 use Rattle.topology.specs.FrameLaws.{frame_refl, frame_then}
 use Rattle.order.specs.Plan.{plan_of}
 use Rattle.placing.proofs.PlacingSound.{clash}
@@ -14,7 +15,7 @@ pub loop-i-init : goal.loop-i-init
 loop-i-init c =
     let x = c.args in
     let S = state x.tables.now in
-    (refl, frame_refl 14 20 0 0 S, passed_start (plan_of x.sheet.now x.contents) S)
+    (same_refl _, frame_refl 14 20 0 0 S, passed_start (plan_of x.sheet.now x.contents) S)
 
 pub record_one-requires : goal.record_one-requires
 record_one-requires c =
@@ -30,7 +31,7 @@ returns-in_err-record_one c = rw (handed_on _ _ c.from_residual.ensures.1) (let 
       passed_stop p L.i _ _ L.invariant.2 _ e.0 _ c.in_err-record_one.was (omega arith),
       λ d. clash (cc),
       frame_then 14 20 0 0 L.invariant.1 e.0.frame,
-      e.1 ∙ L.invariant.0,
+      same_then L.invariant.0 e.1,
     ))
 
 pub loop-i-preserved : goal.loop-i-preserved
@@ -39,13 +40,10 @@ loop-i-preserved c =
     let L = c.loop-i in
     let x = c.args in
     let p = plan_of x.sheet.now x.contents in (
-      e.1 ∙ L.invariant.0,
+      same_then L.invariant.0 e.1,
       frame_then 14 20 0 0 L.invariant.1 e.0.frame,
       passed_turn p L.i _ _ L.invariant.2 _ e.0 c.in_ok-record_one.was,
     )
-
-pub shape_of-work : goal.shape_of-work
-shape_of-work c = c.loop-i.invariant.0
 
 pub returns : goal.returns
 unfolding plan_of

@@ -1,6 +1,4 @@
 -- `remaining::remaining`: the first i activities are done.
-use mathlib.Core.Path.{◌≡◌}
-use lib.ListN.{length}
 use Rattle.memory.specs.Seen.{state, SameSlice}
 use Rattle.topology.specs.Frame.{Frame}
 use Rattle.order.specs.Plan.{plan_of}

@@ -1,7 +1,7 @@
 -- `results::put_days` meets its contract.
 use mathlib.Core.Path.{ap, ◌∙◌}
-use native.Mathlib.Omega.{arith}
 use Rattle.memory.specs.State.{State, put_act}
+use Rattle.memory.specs.SeenLaws.{same_then}
 use Rattle.memory.specs.Fields.{shown_finish, shown_late_start, shown_late_finish}
 use Rattle.results.proofs.put_days.Goals as goal
 
@@ -14,5 +14,5 @@ returns c =
           ∙ ap (λ (T : State). put_act T shown_late_finish i x.lf) (c.put_act-3.ensures.0
           ∙ ap (λ (T : State). put_act T shown_late_start i x.ls) (c.put_act-2.ensures.0
           ∙ ap (λ (T : State). put_act T shown_finish i x.ef) c.put_act.ensures.0)),
-      omega arith,
+      same_then c.put_act.ensures.1 (same_then c.put_act-2.ensures.1 (same_then c.put_act-3.ensures.1 c.put_act-4.ensures.1)),
     )

@@ -1,6 +1,5 @@
 -- `results::show_all` meets its contract.
 use mathlib.Core.Path.{◌≡◌}
-use lib.ListN.{length}
 use Rattle.memory.specs.Seen.{state, SameSlice}
 use Rattle.order.specs.Plan.{plan_of}
 use Rattle.results.proofs.RowLaws.{Shows}

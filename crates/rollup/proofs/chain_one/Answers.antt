@@ -1,9 +1,10 @@
 -- `rollup::chain_one` meets its contract.
-use mathlib.Core.Path.{◌≡◌, refl, sym, ap, subst, ◌∙◌}
+use mathlib.Core.Path.{◌≡◌, sym, ap, subst, ◌∙◌}
 use Prim.Native.Nat.{suc, ◌+◌, ◌-◌, ◌<◌}
 use native.Mathlib.Omega.{arith}
 use Rattle.memory.specs.State.{State, put_act}
 use Rattle.memory.specs.Seen.{state}
+use Rattle.memory.specs.SeenLaws.{same_refl, same_then}
 use Rattle.topology.specs.Frame.{Frame}
 use Rattle.topology.specs.FrameLaws.{frame_refl}
 use Rattle.rollup.specs.Chained.{LinkedIn}
@@ -11,7 +12,7 @@ use Rattle.rollup.specs.ChainedLaws.{chain_skip, chain_more, chain_frame}
 use Rattle.rollup.proofs.chain_one.Goals as goal
 
 pub act-k-requires : goal.act-k-requires
-act-k-requires c = let h = c.requires in (h.0, h.1, omega (arith, h.2, h.3))
+act-k-requires c = let h = c.requires in (h.0, omega (arith, h.1, h.2))
 
 pub returns-then-k-eq0 : goal.returns-then-k-eq0
 returns-then-k-eq0 c =
@@ -20,7 +21,7 @@ returns-then-k-eq0 c =
     let S = state x.tables.now in
     let k = c.act-k.result in
     let e = c.act-k.ensures.0 in
-    (chain_skip x.key x.head x.a h.2 S x.c h.1 (sym e ∙ c.if-k-eq0.true) h.5, frame_refl x.head (x.head + 2) 0 0 S, refl)
+    (chain_skip x.key x.head x.tables.now.activities h.1 S x.c h.0 (sym e ∙ c.if-k-eq0.true) h.4, frame_refl x.head (x.head + 2) 0 0 S, same_refl _)
 
 pub act-first-requires : goal.act-first-requires
 act-first-requires c =
@@ -29,7 +30,7 @@ act-first-requires c =
     let S = state x.tables.now in
     let k = c.act-k.result in
     let e = c.act-k.ensures.0 in
-    (h.0, omega (arith, e, h.4 x.c h.1, c.if-k-eq0.false), omega (arith, h.3))
+    (omega (arith, e, h.3 x.c h.0, c.if-k-eq0.false), omega (arith, h.2))
 
 pub put_act-requires-2 : goal.put_act-requires-2
 put_act-requires-2 c =
@@ -38,7 +39,7 @@ put_act-requires-2 c =
     let S = state x.tables.now in
     let k = c.act-k.result in
     let e = c.act-k.ensures.0 in
-    (omega (arith, c.put_act.ensures.1, h.0), omega (arith, e, h.4 x.c h.1, c.if-k-eq0.false), omega (arith, h.3), omega (arith, h.0, h.1))
+    (omega (arith, c.put_act.ensures.1.activities, e, h.3 x.c h.0, c.if-k-eq0.false), omega (arith, h.2), omega (arith, h.0, x.tables.now.room))
 
 pub returns : goal.returns
 returns c =
@@ -49,12 +50,12 @@ returns c =
     let e = c.act-k.ensures.0 in
     let n = c.if-k-eq0.false in
     let i = k - 1 in
-    let l : i < x.a = omega (arith, e, h.4 x.c h.1, n) in
+    let l : i < x.tables.now.activities = omega (arith, e, h.3 x.c h.0, n) in
     let d : S.act x.key x.c ≡ suc i = omega (arith, e, n) in
     let f = c.put_act-2.ensures.0
     ∙ ap (λ (T : State). put_act T x.head i x.c) (c.put_act.ensures.0 ∙ ap (put_act S (x.head + 1) x.c) c.act-first.ensures.0)
     in (
-      subst (LinkedIn x.key x.head x.a x.c) (sym f) (chain_more x.key x.head x.a h.2 S x.c i h.1 d l h.5),
-      subst (Frame x.head (x.head + 2) 0 0 S) (sym f) (chain_frame x.key x.head x.a h.2 S x.c i h.1 d l h.5),
-      omega arith,
+      subst (LinkedIn x.key x.head x.tables.now.activities x.c) (sym f) (chain_more x.key x.head x.tables.now.activities h.1 S x.c i h.0 d l h.4),
+      subst (Frame x.head (x.head + 2) 0 0 S) (sym f) (chain_frame x.key x.head x.tables.now.activities h.1 S x.c i h.0 d l h.4),
+      same_then c.put_act.ensures.1 c.put_act-2.ensures.1,
     )

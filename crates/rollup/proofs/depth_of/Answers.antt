@@ -10,27 +10,27 @@ use Rattle.rollup.proofs.depth_of.Goals as goal
 pub loop-k-init : goal.loop-k-init
 loop-k-init c =
     let x = c.args in
-    let up = (state x.tables.now).act parent in climbs_start up x.a x.i c.requires.1
+    let up = (state x.tables.now).act parent in climbs_start up x.tables.now.activities x.i c.requires.0
 
 pub returns-then-y-eq0 : goal.returns-then-y-eq0
 returns-then-y-eq0 c =
     let x = c.args in
-    let up = (state x.tables.now).act parent in let L = c.loop-k in (climbs_top up x.a x.i L.y L.k L.invariant c.if-y-eq0.true, L.invariant.steps)
+    let up = (state x.tables.now).act parent in let L = c.loop-k in (climbs_top up x.tables.now.activities x.i L.y L.k L.invariant c.if-y-eq0.true, L.invariant.steps)
 
 pub overflow_sub-y : goal.overflow_sub-y
 overflow_sub-y c = omega (arith, c.if-y-eq0.false)
 
 pub act-y-requires : goal.act-y-requires
-act-y-requires c = (c.requires.0, omega (arith, c.if-y-eq0.false, c.loop-k.invariant.low), omega arith)
+act-y-requires c = (omega (arith, c.if-y-eq0.false, c.loop-k.invariant.low), omega arith)
 
 pub loop-k-preserved : goal.loop-k-preserved
 loop-k-preserved c =
     let x = c.args in
     let up = (state x.tables.now).act parent in
     let L = c.loop-k in
-    climbs_turn up x.a x.i L.y L.k L.invariant (omega arith) (omega (arith, c.if-y-eq0.false)) (c.requires.2 (L.y - 1) (omega (arith, c.if-y-eq0.false, L.invariant.low))) _ c.act-y.ensures.0
+    climbs_turn up x.tables.now.activities x.i L.y L.k L.invariant (omega arith) (omega (arith, c.if-y-eq0.false)) (c.requires.1 (L.y - 1) (omega (arith, c.if-y-eq0.false, L.invariant.low))) _ c.act-y.ensures.0
 
 pub returns : goal.returns
 returns c =
     let x = c.args in
-    let up = (state x.tables.now).act parent in let L = c.loop-k in let e : x.a ≡ L.k = omega arith in (e ∙ climbs_end up x.a x.i L.y L.k L.invariant (omega arith), omega arith)
+    let up = (state x.tables.now).act parent in let L = c.loop-k in let e : x.tables.now.activities ≡ L.k = omega arith in (e ∙ climbs_end up x.tables.now.activities x.i L.y L.k L.invariant (omega arith), omega arith)

@@ -5,4 +5,4 @@ use Rattle.rollup.specs.DepthLaws.{Climbs}
 use Rattle.rollup.proofs.depth_of.Given as goal
 
 abbrev pub invariant-loop-k : goal.invariant-loop-k
-invariant-loop-k l = Climbs ((state l.tables).act parent) l.a l.i l.y l.k
+invariant-loop-k l = Climbs ((state l.tables).act parent) l.tables.activities l.i l.y l.k

@@ -1,11 +1,11 @@
 -- `rollup::mark_depths` meets its contract: the first i have their depths.
-use mathlib.Core.Path.{◌≡◌, refl, sym, ap, subst}
+use mathlib.Core.Path.{◌≡◌, sym, ap, subst, ◌∙◌}
 use Prim.Native.Nat.{ℕ, ◌+◌}
 use native.Mathlib.Omega.{arith}
-use lib.IntN.{ℤ}
-use mathlib.Core.List.{List}
-use Rattle.memory.specs.State.{State, state_of}
-use Rattle.memory.specs.Fields.{parent}
+use Rattle.memory.specs.State.{State, put_act}
+use Rattle.memory.specs.Seen.{state}
+use Rattle.memory.specs.SeenLaws.{same_refl, same_then}
+use Rattle.memory.specs.Fields.{parent, depth_of}
 use Rattle.topology.specs.Frame.{Frame}
 use Rattle.topology.specs.FrameLaws.{frame_refl, frame_then, outside_below}
 use Rattle.rollup.specs.Depths.{depth_key, DepthsTo}
@@ -15,31 +15,30 @@ use Rattle.rollup.proofs.mark_depths.Goals as goal
 pub loop-i-init : goal.loop-i-init
 loop-i-init c =
     let x = c.args in
-    let S : List ℤ → State = λ ys. state_of x.a x.l ys in (refl, frame_refl 30 31 0 0 (S x.tables.now), depths_none (S x.tables.now) (S x.tables.now) x.a)
+    (same_refl _, frame_refl 30 31 0 0 (state x.tables.now), depths_none (state x.tables.now) (state x.tables.now) x.tables.now.activities)
 
 pub mark_one-requires : goal.mark_one-requires
 mark_one-requires c =
-    let h = c.requires in
     let L = c.loop-i in
-    (omega (arith, L.invariant.0, h.0), h.1, omega arith, λ j b. omega (arith, h.2 j b, ap (λ (f : ℕ → ℕ). f j) (L.invariant.1.acts parent (outside_below 30 31 parent (omega arith)))))
+    let s = L.invariant.0.activities in
+    (omega (arith, s), λ j b. omega (arith, s, c.requires j (omega (arith, s, b)), ap (λ (f : ℕ → ℕ). f j) (L.invariant.1.acts parent (outside_below 30 31 parent (omega arith)))))
 
 pub loop-i-preserved : goal.loop-i-preserved
 loop-i-preserved c =
     let x = c.args in
-    let S : List ℤ → State = λ ys. state_of x.a x.l ys in
     let L = c.loop-i in
     let e = c.mark_one.ensures in
-    let v = depth_key (S L.work) x.a L.i in (
-      omega arith,
-      subst (Frame 30 31 0 0 (S x.tables.now)) (sym e.0) (frame_then 30 31 0 0 L.invariant.1 (depth_frame (S L.work) L.i v)),
-      subst (λ (T : State). DepthsTo (S x.tables.now) T x.a (L.i + 1)) (sym e.0)
-          (depths_more (S x.tables.now) (S L.work) x.a L.i v (key_kept (S x.tables.now) (S L.work) x.a L.i L.invariant.1) L.invariant.2),
+    let v = depth_key (state L.tables) x.tables.now.activities L.i in
+    let d = e.0 ∙ ap (λ (n : ℕ). put_act (state L.tables) depth_of L.i (depth_key (state L.tables) n L.i)) L.invariant.0.activities in (
+      same_then L.invariant.0 e.1,
+      subst (Frame 30 31 0 0 (state x.tables.now)) (sym d) (frame_then 30 31 0 0 L.invariant.1 (depth_frame (state L.tables) L.i v)),
+      subst (λ (T : State). DepthsTo (state x.tables.now) T x.tables.now.activities (L.i + 1)) (sym d)
+          (depths_more (state x.tables.now) (state L.tables) x.tables.now.activities L.i v (key_kept (state x.tables.now) (state L.tables) x.tables.now.activities L.i L.invariant.1) L.invariant.2),
     )
 
 pub returns : goal.returns
 returns c =
     let x = c.args in
-    let S : List ℤ → State = λ ys. state_of x.a x.l ys in
     let L = c.loop-i in
-    let e : L.i ≡ x.a = omega arith in
-    (subst (DepthsTo (S x.tables.now) (S L.work) x.a) e L.invariant.2, L.invariant.1, L.invariant.0)
+    let e : L.i ≡ x.tables.now.activities = omega arith in
+    (subst (DepthsTo (state x.tables.now) (state L.tables) x.tables.now.activities) e L.invariant.2, L.invariant.1, L.invariant.0)

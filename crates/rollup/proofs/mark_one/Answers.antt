@@ -11,19 +11,19 @@ pub returns-then-act-eq0 : goal.returns-then-act-eq0
 returns-then-act-eq0 c =
     let x = c.args in
     let S = state x.tables.now in
-    (c.put_act.ensures.0 ∙ ap (put_act S depth_of x.i) (key_none S x.a x.i (sym c.act.ensures.0 ∙ c.if-act-eq0.true)), c.put_act.ensures.1)
+    (c.put_act.ensures.0 ∙ ap (put_act S depth_of x.i) (key_none S x.tables.now.activities x.i (sym c.act.ensures.0 ∙ c.if-act-eq0.true)), c.put_act.ensures.1)
 
 pub depth_of-d-requires : goal.depth_of-d-requires
-depth_of-d-requires c = let h = c.requires in (h.0, h.2, h.3)
+depth_of-d-requires c = let h = c.requires in h
 
 pub put_act-requires-2 : goal.put_act-requires-2
-put_act-requires-2 c = let h = c.requires in (h.0, h.2, omega arith, omega (arith, c.depth_of-d.ensures.1, h.1))
+put_act-requires-2 c = (c.requires.0, omega arith, omega (arith, c.depth_of-d.ensures.1, c.args.tables.now.room))
 
 pub returns : goal.returns
 returns c =
     let x = c.args in
     let S = state x.tables.now in (
       c.put_act-2.ensures.0
-          ∙ ap (put_act S depth_of x.i) (c.depth_of-d.ensures.0 ∙ key_some S x.a x.i (λ e. c.if-act-eq0.false (c.act.ensures.0 ∙ e))),
+          ∙ ap (put_act S depth_of x.i) (c.depth_of-d.ensures.0 ∙ key_some S x.tables.now.activities x.i (λ e. c.if-act-eq0.false (c.act.ensures.0 ∙ e))),
       c.put_act-2.ensures.1,
     )

@@ -1,6 +1,4 @@
 -- `rollup::roll_all` meets its contract: the depths from `d` up to the top are left.
-use mathlib.Core.Path.{◌≡◌}
-use lib.ListN.{length}
 use Rattle.memory.specs.Seen.{state, SameSlice}
 use Rattle.order.specs.Plan.{plan_of}
 use Rattle.rollup.specs.RollingLaws.{Rising}

@@ -3,10 +3,9 @@ use mathlib.Core.Path.{◌≡◌, refl, sym, ap, subst, ◌∙◌}
 use mathlib.Core.List.{List}
 use Prim.Native.Nat.{ℕ, suc, ◌+◌, ◌-◌}
 use native.Mathlib.Omega.{arith}
-use lib.IntN.{ℤ}
 use Rattle.cells.specs.Chain.{Stands}
-use Rattle.memory.specs.State.{State, state_of}
 use Rattle.memory.specs.Seen.{state}
+use Rattle.memory.specs.SeenLaws.{same_refl, same_then}
 use Rattle.memory.specs.Fields.{depth_of, next_deep}
 use Rattle.topology.specs.FrameLaws.{frame_refl, frame_then}
 use Rattle.order.specs.Plan.{plan_of}
@@ -22,7 +21,7 @@ pub overflow_sub-d : goal.overflow_sub-d
 overflow_sub-d c = omega (arith, c.requires.2)
 
 pub act-k-requires : goal.act-k-requires
-act-k-requires c = let h = c.requires in (omega (arith, h.0.activities, omega (arith, h.2, h.3)), omega arith)
+act-k-requires c = let h = c.requires in (omega (arith, h.0.activities, h.2, h.3), omega arith)
 
 pub loop-k-init : goal.loop-k-init
 unfolding plan_of
@@ -30,12 +29,11 @@ loop-k-init c =
     let x = c.args in
     let h = c.requires in
     let p = plan_of x.sheet.now x.contents in
-    let S : List ℤ → State = λ ys. state_of x.contents.activities x.contents.links ys in
-    let S₀ = S x.tables.now in
+    let S₀ = state x.tables.now in
     let n : suc (x.d - 1) ≡ x.d = omega (arith, h.2) in
     let T = h.1.deep.heads (x.d - 1) (omega (arith, h.2, h.3)) in
     let U = subst (Stands (S₀.act depth_of) x.contents.activities (suc (x.d - 1)) 0) (sym c.act-k.ensures.0) T in
-    (refl, rolls_start p S₀ x.d _ (frame_refl 20 30 0 0 S₀) (subst (λ (i : ℕ). Stands (S₀.act depth_of) x.contents.activities i 0 c.act-k.result) n U))
+    (same_refl _, rolls_start p S₀ x.d _ (frame_refl 20 30 0 0 S₀) (subst (λ (i : ℕ). Stands (S₀.act depth_of) x.contents.activities i 0 c.act-k.result) n U))
 
 pub roll_one-requires : goal.roll_one-requires
 unfolding plan_of
@@ -43,30 +41,28 @@ roll_one-requires c =
     let x = c.args in
     let h = c.requires in
     let p = plan_of x.sheet.now x.contents in
-    let S : List ℤ → State = λ ys. state_of x.contents.activities x.contents.links ys in
-    let S₀ = S x.tables.now in
+    let S₀ = state x.tables.now in
     let L = c.loop-k in
-    (to_show_kept (omega arith) L.invariant.1.frame L.invariant.0 h.0, deep_kept p S₀ (S L.work) L.invariant.1.frame h.1, omega (arith, c.loop-k-test.true), h.4)
+    (to_show_kept (omega arith) L.invariant.1.frame L.invariant.0 h.0, deep_kept p S₀ (state L.tables) L.invariant.1.frame h.1, omega (arith, c.loop-k-test.true), h.4)
 
 pub returns-in_err-roll_one : goal.returns-in_err-roll_one
 unfolding plan_of
 returns-in_err-roll_one c = rw (handed_on _ _ c.from_residual.ensures.1) (let x = c.args in
     let h = c.requires in
     let p = plan_of x.sheet.now x.contents in
-    let S : List ℤ → State = λ ys. state_of x.contents.activities x.contents.links ys in
-    let S₀ = S x.tables.now in
+    let S₀ = state x.tables.now in
     let L = c.loop-k in
     let W = L.invariant.1 in
     let e = c.roll_one.ensures in
-    let T = S c.roll_one.new.tables in (
-      (λ q. rolls_stop p S₀ x.d (S L.work) T L.k W (omega (arith, c.loop-k-test.true)) _ e.0 _ (shown_in p T) c.in_err-roll_one.was q
+    let T = state c.roll_one.new.tables in (
+      (λ q. rolls_stop p S₀ x.d (state L.tables) T L.k W (omega (arith, c.loop-k-test.true)) _ e.0 _ (shown_in p T) c.in_err-roll_one.was q
           ∙ ap (λ (ks : List ℕ). through (rolled p q) ks (shown_in p S₀)) (depth_is p S₀ h.1 x.d h.2 q)),
       frame_then 20 30 0 0 W.frame e.1,
-      omega (arith, e.2, L.invariant.0),
+      same_then L.invariant.0 e.2,
     ))
 
 pub act-k-requires-in-loop-k : goal.act-k-requires-in-loop-k
-act-k-requires-in-loop-k c = let h = c.requires in (omega (arith, c.roll_one.ensures.2, c.loop-k.invariant.0, h.0.room), omega (arith, c.loop-k-test.true), omega arith)
+act-k-requires-in-loop-k c = (omega (arith, c.roll_one.ensures.2.activities, c.loop-k.invariant.0.activities, c.requires.0.activities, c.loop-k-test.true), omega arith)
 
 -- what is rolled up leaves the chain, so the next stands where the definition says
 next-stands : (c : goal.After-act-k-in-loop-k) → Stands ((state c.args.tables.now).act depth_of) c.args.contents.activities ((state c.args.tables.now).act depth_of c.loop-k.k) (c.loop-k.k + 1) c.act-k-in-loop-k.result
@@ -86,12 +82,11 @@ pub loop-k-preserved : goal.loop-k-preserved
 unfolding plan_of
 loop-k-preserved c =
     let x = c.args in
-    let S : List ℤ → State = λ ys. state_of x.contents.activities x.contents.links ys in
     let L = c.loop-k in
     let W = L.invariant.1 in
     let e = c.roll_one.ensures in
-    let T = S c.roll_one.new.tables in
-    (omega (arith, e.2, L.invariant.0), rolls_turn (plan_of x.sheet.now x.contents) (S x.tables.now) x.d (S L.work) T L.k W (omega (arith, c.loop-k-test.true)) _ e.0 _ T refl c.in_ok-roll_one.was (frame_then 20 30 0 0 W.frame e.1) (next-stands c))
+    let T = state c.roll_one.new.tables in
+    (same_then L.invariant.0 e.2, rolls_turn (plan_of x.sheet.now x.contents) (state x.tables.now) x.d (state L.tables) T L.k W (omega (arith, c.loop-k-test.true)) _ e.0 _ T refl c.in_ok-roll_one.was (frame_then 20 30 0 0 W.frame e.1) (next-stands c))
 
 pub returns : goal.returns
 unfolding plan_of
@@ -99,10 +94,9 @@ returns c =
     let x = c.args in
     let h = c.requires in
     let p = plan_of x.sheet.now x.contents in
-    let S : List ℤ → State = λ ys. state_of x.contents.activities x.contents.links ys in
-    let S₀ = S x.tables.now in
+    let S₀ = state x.tables.now in
     let L = c.loop-k in (
-      (λ q. rolls_end p S₀ x.d (S L.work) L.k L.invariant.1 (omega (arith, c.loop-k-test.false)) q ∙ ap (λ (ks : List ℕ). through (rolled p q) ks (shown_in p S₀)) (depth_is p S₀ h.1 x.d h.2 q)),
+      (λ q. rolls_end p S₀ x.d (state L.tables) L.k L.invariant.1 (omega (arith, c.loop-k-test.false)) q ∙ ap (λ (ks : List ℕ). through (rolled p q) ks (shown_in p S₀)) (depth_is p S₀ h.1 x.d h.2 q)),
       L.invariant.1.frame,
       L.invariant.0,
     )

@@ -1,7 +1,5 @@
 -- `rollup::roll_depth` meets its contract: the next summary of the depth is k.
-use mathlib.Core.Path.{◌≡◌}
 use Prim.Native.Nat.{◌-◌}
-use lib.ListN.{length}
 use Rattle.memory.specs.Seen.{state, SameSlice}
 use Rattle.order.specs.Plan.{plan_of}
 use Rattle.rollup.specs.RollingLaws.{Rolls}

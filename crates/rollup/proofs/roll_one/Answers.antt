@@ -1,15 +1,18 @@
 -- `rollup::roll_one` meets its contract.
-use mathlib.Core.Path.{refl, sym, subst}
-use Prim.Native.Nat.{◌<◌}
+use mathlib.Core.Path.{sym, ap, subst, ◌∙◌}
+use Prim.Native.Nat.{ℕ, ◌<◌}
 use native.Mathlib.Omega.{arith}
 use Rattle.memory.specs.Seen.{state}
-use Rattle.memory.specs.Fields.{first_child}
+use Rattle.memory.specs.SeenLaws.{same_refl}
+use Rattle.memory.specs.Fields.{parent, first_child}
 use Rattle.topology.specs.Frame.{Frame}
 use Rattle.topology.specs.FrameLaws.{frame_refl}
 use Rattle.order.specs.Plan.{plan_of}
 use Rattle.results.specs.View.{shown_in}
 use Rattle.results.proofs.RowLaws.{shown_frame}
 use Rattle.number.specs.Exits.{handed_on}
+use Rattle.rollup.specs.Chained.{LinkedIn}
+use Rattle.rollup.specs.Roll.{child_sum}
 use Rattle.rollup.specs.RollingLaws.{one_none, one_done, one_refused}
 use Rattle.rollup.proofs.roll_one.Goals as goal
 
@@ -23,7 +26,7 @@ returns-then-first-contents c =
     let h = c.requires in
     let p = plan_of x.sheet.now x.contents in
     let S = state x.tables.now in
-    ((λ q. one_none p S h.1 x.s h.2 (omega (arith, c.act-first.ensures.0, c.if-first-contents.true)) q), frame_refl 20 30 0 0 S, refl)
+    ((λ q. one_none p S h.1 x.s h.2 (omega (arith, c.act-first.ensures.0, c.if-first-contents.true)) q), frame_refl 20 30 0 0 S, same_refl _)
 
 pub sum_children-x-requires : goal.sum_children-x-requires
 unfolding plan_of
@@ -31,8 +34,12 @@ sum_children-x-requires c =
     let x = c.args in
     let h = c.requires in
     let p = plan_of x.sheet.now x.contents in
-    let S = state x.tables.now in
-    (h.0.room, h.2, h.1.children, c.act-first.ensures.0, omega (arith, c.if-first-contents.false))
+    let S = state x.tables.now in (
+      omega (arith, h.0.activities, h.2),
+      subst (λ (n : ℕ). LinkedIn parent first_child n 0 S) (sym h.0.activities) h.1.children,
+      c.act-first.ensures.0,
+      omega (arith, h.0.activities, c.if-first-contents.false),
+    )
 
 pub summed_of-requires : goal.summed_of-requires
 unfolding plan_of
@@ -49,7 +56,7 @@ put_shown-requires c =
     let h = c.requires in
     let p = plan_of x.sheet.now x.contents in
     let S = state x.tables.now in
-    (h.0.room, h.2, rw c.in_ok-y.was at c.summed_of.ensures.1)
+    (omega (arith, h.0.activities, h.2), rw c.in_ok-y.was at c.summed_of.ensures.1)
 
 pub returns : goal.returns
 unfolding plan_of
@@ -61,7 +68,7 @@ returns c =
     let l : S.act first_child x.s < x.contents.activities = omega (arith, c.act-first.ensures.0, c.if-first-contents.false) in
     let y = c.in_ok-y.y in
     let e = c.put_shown.ensures in (
-      (λ q. one_done p S h.1 x.s h.2 l _ _ c.sum_children-x.ensures.0 c.summed_of.ensures.0 y _ c.in_ok-y.was e.0 q),
+      (λ q. one_done p S h.1 x.s h.2 l _ _ (c.sum_children-x.ensures.0 ∙ ap (λ (n : ℕ). child_sum S n x.s) h.0.activities) c.summed_of.ensures.0 y _ c.in_ok-y.was e.0 q),
       subst (Frame 20 30 0 0 S) (sym e.0) (shown_frame S x.s y),
       e.1,
     )
@@ -73,7 +80,7 @@ returns-in_err-y c = rw (handed_on _ _ c.from_residual.ensures.1) (let x = c.arg
     let p = plan_of x.sheet.now x.contents in
     let S = state x.tables.now in
     let l : S.act first_child x.s < x.contents.activities = omega (arith, c.act-first.ensures.0, c.if-first-contents.false) in (
-      (λ q. one_refused p S h.1 x.s h.2 l _ _ c.sum_children-x.ensures.0 c.summed_of.ensures.0 _ (shown_in p S) c.in_err-y.was q),
+      (λ q. one_refused p S h.1 x.s h.2 l _ _ (c.sum_children-x.ensures.0 ∙ ap (λ (n : ℕ). child_sum S n x.s) h.0.activities) c.summed_of.ensures.0 _ (shown_in p S) c.in_err-y.was q),
       frame_refl 20 30 0 0 S,
-      refl,
+      same_refl _,
     ))

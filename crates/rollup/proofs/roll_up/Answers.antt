@@ -1,16 +1,18 @@
 -- `rollup::roll_up` meets its contract.
-use mathlib.Core.Path.{ap, ◌∙◌}
-use mathlib.Core.List.{List}
+use mathlib.Core.Path.{sym, ap, subst, ◌∙◌}
 use Prim.Native.Nat.{ℕ}
 use native.Mathlib.Omega.{arith}
-use lib.IntN.{ℤ}
-use Rattle.memory.specs.State.{State, state_of}
+use Rattle.memory.specs.Seen.{state}
+use Rattle.memory.specs.SeenLaws.{same_then}
+use Rattle.memory.specs.Fields.{parent}
 use Rattle.topology.specs.FrameLaws.{frame_then, frame_wider}
 use Rattle.order.specs.Plan.{plan_of}
 use Rattle.passes.specs.Dates.{through}
 use Rattle.results.specs.declared.Shown.{Shown}
 use Rattle.results.specs.Results.{rolled, deepest_first}
 use Rattle.results.proofs.RowLaws.{to_show_kept}
+use Rattle.rollup.specs.Chained.{KeysIn}
+use Rattle.rollup.specs.Prepared.{Prepared}
 use Rattle.rollup.specs.PreparedLaws.{deep_from, shown_kept, keys_in}
 use Rattle.rollup.proofs.roll_up.Goals as goal
 
@@ -23,9 +25,8 @@ prepare-requires c =
     let x = c.args in
     let h = c.requires in
     let p = plan_of x.sheet.now x.contents in
-    let S : List ℤ → State = λ ys. state_of x.contents.activities x.contents.links ys in
-    let S₀ = S x.tables.now in
-    (h.0.room, omega (arith, h.0.read.activities_few), keys_in p S₀ h.1)
+    let S₀ = state x.tables.now in
+    subst (λ (n : ℕ). KeysIn parent n S₀) (sym h.0.activities) (keys_in p S₀ h.1)
 
 pub roll_all-requires : goal.roll_all-requires
 unfolding plan_of
@@ -33,11 +34,10 @@ roll_all-requires c =
     let x = c.args in
     let h = c.requires in
     let p = plan_of x.sheet.now x.contents in
-    let S : List ℤ → State = λ ys. state_of x.contents.activities x.contents.links ys in
-    let S₀ = S x.tables.now in
+    let S₀ = state x.tables.now in
     let e = c.prepare.ensures in
-    let T = S c.prepare.new.tables in
-    (to_show_kept (omega arith) e.0.frame e.1 h.0, deep_from p S₀ T h.1.parents h.1.marks h.1.within e.0, c.read_project-project.ensures)
+    let T = state c.prepare.new.tables in
+    (to_show_kept (omega arith) e.0.frame e.1 h.0, deep_from p S₀ T h.1.parents h.1.marks h.1.within (subst (λ (n : ℕ). Prepared n S₀ T) h.0.activities e.0), c.read_project-project.ensures)
 
 pub returns : goal.returns
 unfolding plan_of
@@ -45,11 +45,10 @@ returns c =
     let x = c.args in
     let h = c.requires in
     let p = plan_of x.sheet.now x.contents in
-    let S : List ℤ → State = λ ys. state_of x.contents.activities x.contents.links ys in
-    let S₀ = S x.tables.now in
+    let S₀ = state x.tables.now in
     let e = c.prepare.ensures in
     let d = c.roll_all.ensures in (
       (λ q. d.0 q ∙ ap (λ (f : ℕ → Shown). through (rolled p q) (deepest_first p q x.contents.activities) f) (shown_kept (omega arith) e.0.frame x.contents.activities)),
       frame_then 20 35 0 0 (frame_wider 20 35 0 0 30 35 0 0 (omega arith) (omega arith) (omega arith) (omega arith) e.0.frame) (frame_wider 20 35 0 0 20 30 0 0 (omega arith) (omega arith) (omega arith) (omega arith) d.1),
-      omega (arith, e.1, d.2),
+      same_then e.1 d.2,
     )

@@ -13,10 +13,10 @@ use Rattle.rollup.specs.RollLaws.{Sums, sums_start, sums_turn, sums_end}
 use Rattle.rollup.proofs.sum_children.Goals as goal
 
 pub shown_at-x-requires : goal.shown_at-x-requires
-shown_at-x-requires c = (c.requires.0, c.requires.4)
+shown_at-x-requires c = c.requires.3
 
 pub act-k-requires : goal.act-k-requires
-act-k-requires c = (c.requires.0, c.requires.4, omega arith)
+act-k-requires c = (c.requires.3, omega arith)
 
 pub loop-k-init : goal.loop-k-init
 loop-k-init c =
@@ -24,28 +24,28 @@ loop-k-init c =
     let h = c.requires in
     let S = state x.tables.now in
     let key = S.act parent in
-    let F = shown_to x.a S in
+    let F = shown_to x.tables.now.activities S in
     let n = S.act first_child x.s in
-    let e = (h.2.heads x.s h.1).hits (omega (arith, h.3, h.4)) in
-    let T = subst (λ (i : ℕ). Stands key x.a i (n + 1) (S.act next_child n)) e (h.2.nexts n (omega arith) (omega (arith, h.3, h.4)) (omega (arith, e))) in
-    let U = subst (Stands key x.a (suc x.s) (n + 1)) (sym (c.act-k.ensures.0 ∙ ap (S.act next_child) h.3)) T in
-    (sums_start F key x.a (suc x.s) n _ U _ (c.shown_at-x.ensures.0 ∙ ap (shown_at S) h.3 ∙ sym (to_at_lem x.a S n (omega (arith, h.3, h.4)))), c.shown_at-x.ensures.1)
+    let e = (h.1.heads x.s h.0).hits (omega (arith, h.2, h.3)) in
+    let T = subst (λ (i : ℕ). Stands key x.tables.now.activities i (n + 1) (S.act next_child n)) e (h.1.nexts n (omega arith) (omega (arith, h.2, h.3)) (omega (arith, e))) in
+    let U = subst (Stands key x.tables.now.activities (suc x.s) (n + 1)) (sym (c.act-k.ensures.0 ∙ ap (S.act next_child) h.2)) T in
+    (sums_start F key x.tables.now.activities (suc x.s) n _ U _ (c.shown_at-x.ensures.0 ∙ ap (shown_at S) h.2 ∙ sym (to_at_lem x.tables.now.activities S n (omega (arith, h.2, h.3)))), c.shown_at-x.ensures.1)
 
 pub shown_at-requires : goal.shown_at-requires
-shown_at-requires c = (c.requires.0, omega arith)
+shown_at-requires c = omega arith
 
 pub join-x-requires : goal.join-x-requires
 join-x-requires c = (c.loop-k.invariant.1, c.shown_at.ensures.1)
 
 pub act-k-requires-in-loop-k : goal.act-k-requires-in-loop-k
-act-k-requires-in-loop-k c = (c.requires.0, omega arith, omega arith)
+act-k-requires-in-loop-k c = (omega arith, omega arith)
 
-next-stands : (c : goal.After-act-k-in-loop-k) → Stands ((state c.args.tables.now).act parent) c.args.a ((state c.args.tables.now).act parent c.loop-k.k) (c.loop-k.k + 1) c.act-k-in-loop-k.result
+next-stands : (c : goal.After-act-k-in-loop-k) → Stands ((state c.args.tables.now).act parent) c.args.tables.now.activities ((state c.args.tables.now).act parent c.loop-k.k) (c.loop-k.k + 1) c.act-k-in-loop-k.result
 next-stands c =
     let x = c.args in
     let key = (state x.tables.now).act parent in
     let L = c.loop-k in
-    subst (Stands key x.a (key L.k) (L.k + 1)) (sym c.act-k-in-loop-k.ensures.0) (c.requires.2.nexts L.k (omega arith) (omega arith) (omega (arith, L.invariant.0.hits (omega arith))))
+    subst (Stands key x.tables.now.activities (key L.k) (L.k + 1)) (sym c.act-k-in-loop-k.ensures.0) (c.requires.1.nexts L.k (omega arith) (omega arith) (omega (arith, L.invariant.0.hits (omega arith))))
 
 pub loop-k-smaller : goal.loop-k-smaller
 loop-k-smaller c = omega (arith, (next-stands c).low)
@@ -55,11 +55,11 @@ loop-k-preserved c =
     let x = c.args in
     let S = state x.tables.now in
     let key = S.act parent in
-    let F = shown_to x.a S in
+    let F = shown_to x.tables.now.activities S in
     let L = c.loop-k in
-    let y = c.shown_at.ensures.0 ∙ sym (to_at_lem x.a S L.k (omega arith)) in (
-      subst (λ (v : Shown). Sums F key x.a (suc x.s) (child_sum S x.a x.s) v c.act-k-in-loop-k.result) (sym c.join-x.ensures.0)
-          (sums_turn F key x.a (suc x.s) (child_sum S x.a x.s) L.x L.k L.invariant.0 _ _ (omega arith) y (next-stands c)),
+    let y = c.shown_at.ensures.0 ∙ sym (to_at_lem x.tables.now.activities S L.k (omega arith)) in (
+      subst (λ (v : Shown). Sums F key x.tables.now.activities (suc x.s) (child_sum S x.tables.now.activities x.s) v c.act-k-in-loop-k.result) (sym c.join-x.ensures.0)
+          (sums_turn F key x.tables.now.activities (suc x.s) (child_sum S x.tables.now.activities x.s) L.x L.k L.invariant.0 _ _ (omega arith) y (next-stands c)),
       c.join-x.ensures.1,
     )
 
@@ -69,6 +69,6 @@ returns c =
     let h = c.requires in
     let S = state x.tables.now in
     let key = S.act parent in
-    let F = shown_to x.a S in
+    let F = shown_to x.tables.now.activities S in
     let L = c.loop-k in
-    (sums_end F key x.a (suc x.s) (child_sum S x.a x.s) L.x L.k L.invariant.0 (omega arith), L.invariant.1)
+    (sums_end F key x.tables.now.activities (suc x.s) (child_sum S x.tables.now.activities x.s) L.x L.k L.invariant.0 (omega arith), L.invariant.1)

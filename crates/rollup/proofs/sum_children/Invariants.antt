@@ -9,7 +9,7 @@ use Rattle.rollup.specs.RollLaws.{Sums}
 use Rattle.rollup.proofs.sum_children.Given as goal
 
 abbrev pub invariant-loop-k : goal.invariant-loop-k
-invariant-loop-k l = Sums (shown_to l.a (state l.tables)) ((state l.tables).act parent) l.a (suc l.s) (child_sum (state l.tables) l.a l.s) l.x l.k × Holds l.x
+invariant-loop-k l = Sums (shown_to l.tables.activities (state l.tables)) ((state l.tables).act parent) l.tables.activities (suc l.s) (child_sum (state l.tables) l.tables.activities l.s) l.x l.k × Holds l.x
 
 abbrev pub decreases-loop-k : goal.decreases-loop-k
-decreases-loop-k l = l.a - l.k
+decreases-loop-k l = l.tables.activities - l.k
