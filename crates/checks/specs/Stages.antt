@@ -71,7 +71,7 @@ module _ (p : Plan) (v : Verdict) (size room : ℕ) (names : List ℕ) (tables :
 module _ (s : List ℕ) (contents : Contents) (calendars : List PlanCalendar) (names : List ℕ) (tables : Tables) (names' : List ℕ) (tables' : Tables) where
   pub record PlanFine (c : PlanCounts) : Type 0 where
     pub fine : (checked (plan_of s contents)).number ≡ 0
-    pub ready : Ready s contents calendars c.kept tables'.cells.now
+    pub ready : Ready s contents calendars c.kept tables'
     pub elsewhere : Elsewhere c.kept tables'
     pub named : names' ≡ then_zeros (ignored_links (plan_of s contents)) names
     pub ignored : c.ignored ≡ length (ignored_links (plan_of s contents))

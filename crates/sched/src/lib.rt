@@ -2,7 +2,8 @@
 #![tactic(auto)]
 
 ghost use Rattle.std.specs.Prelude.{◌≡◌, Bool, ◌&&◌, Result, Ok, Err, List, ℕ, ◌+◌, ◌*◌, ◌^◌, ◌≤◌, ◌<◌, max, leb, length, replicate};
-ghost use Rattle.memory.specs.State.{Room, state_of};
+ghost use Rattle.memory.specs.State.{Room};
+ghost use Rattle.memory.specs.Seen.{state};
 ghost use Rattle.sheet.specs.Known.{SheetRead};
 ghost use Rattle.order.specs.Plan.{plan_of};
 ghost use Rattle.order.specs.Ties.{ignored_links, open_ends};
@@ -119,11 +120,11 @@ fn has_room(contents: Contents, results: usize, names: usize, work: usize) -> bo
 }
 
 // Refuses without names: names and memory are cleared.
-fn refuse(names: &mut [u32], work: &mut [i64], error: ClockError) -> Result<Accepted, Refusal>
-    ensures { (result ≡ Err (Clock error)) × (names.new ≡ replicate (length names.old) 0) × (work.new ≡ zeros work.old) }
+fn refuse(names: &mut [u32], tables: &mut Tables, error: ClockError) -> Result<Accepted, Refusal>
+    ensures { (result ≡ Err (Clock error)) × (names.new ≡ replicate (length names.old) 0) × (tables.new.cells.now ≡ zeros tables.old.cells.now) }
 {
     cells::clear_u32(names);
-    cells::clear(work);
+    tables.clear();
     Err(Refusal::from(error))
 }
 
@@ -133,16 +134,16 @@ fn accept(
     contents: Contents,
     calendars: &[PlanCalendar],
     results: &mut [i64],
-    work: &mut [i64],
+    tables: &mut Tables,
     ignored: usize,
     ends: u64,
 ) -> Accepted
-    requires { ToWrite sheet.now contents calendars.now work.old × (15 * contents.activities ≤ length results.old) }
-    ensures { ((e : ℕ) (other : ℕ → Bool) → AcceptedAs (plan_of sheet.now contents) (ran_in (plan_of sheet.now contents) (state_of contents.activities contents.links work.old) e other) (shown_in (plan_of sheet.now contents) (state_of contents.activities contents.links work.old)) ignored ends results.old results.new result) × (work.new ≡ zeros work.old) }
+    requires { ToWrite sheet.now contents calendars.now tables.old × (15 * contents.activities ≤ length results.old) }
+    ensures { ((e : ℕ) (other : ℕ → Bool) → AcceptedAs (plan_of sheet.now contents) (ran_in (plan_of sheet.now contents) (state tables.old) e other) (shown_in (plan_of sheet.now contents) (state tables.old)) ignored ends results.old results.new result) × (tables.new.cells.now ≡ zeros tables.old.cells.now) }
 {
-    let day = rows::finish_day(sheet, contents, work);
-    rows::write_rows(sheet, contents, calendars, work, results);
-    cells::clear(work);
+    let day = rows::finish_day(sheet, contents, tables);
+    rows::write_rows(sheet, contents, calendars, tables, results);
+    tables.clear();
     Accepted {
         finish_day: day,
         activities: contents.activities as u64,
@@ -162,15 +163,15 @@ fn show_plan(
     ends: u64,
     results: &mut [i64],
     names: &mut [u32],
-    work: &mut [i64],
+    tables: &mut Tables,
 ) -> Result<Accepted, Refusal>
-    requires { Ready sheet.now contents calendars.now t work.old × Recorded (plan_of sheet.now contents) (state_of contents.activities contents.links work.old) × Lengths (plan_of sheet.now contents) calendars.now × (15 * contents.activities ≤ length results.old) × (ignored ≡ length (ignored_links (plan_of sheet.now contents))) × (ends ≡ open_ends (plan_of sheet.now contents)) × RanTo (plan_of sheet.now contents) (state_of contents.activities contents.links work.old) last }
-    ensures { (m : Lent) → LentAs m (plan_of sheet.now contents) results.old names.old work.old → ended_with result results.new names.new work.new ≡ planned m (plan_of sheet.now contents) }
+    requires { Ready sheet.now contents calendars.now t tables.old × Recorded (plan_of sheet.now contents) (state tables.old) × Lengths (plan_of sheet.now contents) calendars.now × (15 * contents.activities ≤ length results.old) × (ignored ≡ length (ignored_links (plan_of sheet.now contents))) × (ends ≡ open_ends (plan_of sheet.now contents)) × RanTo (plan_of sheet.now contents) (state tables.old) last }
+    ensures { (m : Lent) → LentAs m (plan_of sheet.now contents) results.old names.old tables.old.cells.now → ended_with result results.new names.new tables.new.cells.now ≡ planned m (plan_of sheet.now contents) }
 {
     // No `?`: names and memory are cleared before the refusal goes on.
-    match rollup::results(sheet, contents, calendars, t, work) {
-        Ok(()) => Ok(accept(sheet, contents, calendars, results, work, ignored, ends)),
-        Err(e) => refuse(names, work, e),
+    match rollup::results(sheet, contents, calendars, t, tables) {
+        Ok(()) => Ok(accept(sheet, contents, calendars, results, tables, ignored, ends)),
+        Err(e) => refuse(names, tables, e),
     }
 }
 
@@ -184,17 +185,17 @@ fn run_plan(
     ends: u64,
     results: &mut [i64],
     names: &mut [u32],
-    work: &mut [i64],
+    tables: &mut Tables,
 ) -> Result<Accepted, Refusal>
-    requires { Ready sheet.now contents calendars.now t work.old × Lengths (plan_of sheet.now contents) calendars.now × (15 * contents.activities ≤ length results.old) × (ignored ≡ length (ignored_links (plan_of sheet.now contents))) × (ends ≡ open_ends (plan_of sheet.now contents)) }
-    ensures { (m : Lent) → LentAs m (plan_of sheet.now contents) results.old names.old work.old → ended_with result results.new names.new work.new ≡ planned m (plan_of sheet.now contents) }
+    requires { Ready sheet.now contents calendars.now t tables.old × Lengths (plan_of sheet.now contents) calendars.now × (15 * contents.activities ≤ length results.old) × (ignored ≡ length (ignored_links (plan_of sheet.now contents))) × (ends ≡ open_ends (plan_of sheet.now contents)) }
+    ensures { (m : Lent) → LentAs m (plan_of sheet.now contents) results.old names.old tables.old.cells.now → ended_with result results.new names.new tables.new.cells.now ≡ planned m (plan_of sheet.now contents) }
 {
     // No `?`: names and memory are cleared before the refusal goes on.
-    match run::run(sheet, contents, calendars, t, work) {
+    match run::run(sheet, contents, calendars, t, tables) {
         Ok(last) => show_plan(
-            sheet, contents, calendars, t, last, ignored, ends, results, names, work,
+            sheet, contents, calendars, t, last, ignored, ends, results, names, tables,
         ),
-        Err(error) => refuse(names, work, error),
+        Err(error) => refuse(names, tables, error),
     }
 }
 
@@ -221,7 +222,7 @@ fn plan_at(
         counts.open_ends,
         results,
         names,
-        work,
+        &mut tables,
     )
 }
 
