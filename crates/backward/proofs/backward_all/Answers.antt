@@ -28,9 +28,6 @@ loop-q-init c =
     let e : C.activities - C.activities ≡ 0 = omega arith in
     (same_refl _, frame_refl 10 12 0 0 S, rw e (through_start (backward p (early_in p S) last) (reverse (order p)) (late_in p S last)))
 
-pub act-i-requires : goal.act-i-requires
-act-i-requires c = (omega (arith, c.requires.0.activities, c.loop-q.invariant.0.activities), omega arith)
-
 pub backward_one-requires : goal.backward_one-requires
 backward_one-requires c =
     let C = c.args.contents in

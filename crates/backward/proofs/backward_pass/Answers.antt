@@ -20,12 +20,6 @@ use Rattle.backward.specs.Stored.{filled}
 use Rattle.backward.specs.BackLaws.{filled_late, filled_frame}
 use Rattle.backward.proofs.backward_pass.Goals as goal
 
-pub fill_act-requires : goal.fill_act-requires
-fill_act-requires c = (omega arith, c.requires.2)
-
-pub fill_act-requires-2 : goal.fill_act-requires-2
-fill_act-requires-2 c = (omega arith, c.requires.2)
-
 pub backward_all-requires : goal.backward_all-requires
 backward_all-requires c =
     let C = c.args.contents in

@@ -18,9 +18,6 @@ loop-i-init c =
     let S = state c.args.tables.now in
     (omega arith, λ M. one_none p (early_in p S))
 
-pub finish_onward-top-requires : goal.finish_onward-top-requires
-finish_onward-top-requires c = (c.requires.1, omega arith, c.requires.2, c.loop-i.invariant.0)
-
 pub loop-i-preserved : goal.loop-i-preserved
 loop-i-preserved c =
     let C = c.args.contents in
@@ -31,9 +28,6 @@ loop-i-preserved c =
       λ M. one_more p (early_in p S) L.i L.top _ (L.invariant.1 M) (c.finish_onward-top.ensures.0 ∙ ap (λ (x : ℕ). onward (summary p L.i) x L.top) (sym (finish_at c.args.sheet.now C S L.i (omega arith)))),
     )
 
-pub overflow_sub-result : goal.overflow_sub-result
-overflow_sub-result c = omega (arith, c.if-top-gt0.true)
-
 pub returns-then-top-gt0 : goal.returns-then-top-gt0
 returns-then-top-gt0 c =
     let C = c.args.contents in
@@ -43,9 +37,6 @@ returns-then-top-gt0 c =
     let e : L.i ≡ p.activities = omega (arith, activities_are c.args.sheet.now C) in
     let g = L.invariant.1 c.requires.2 ∙ ap (greatest_one p (early_in p S)) e in
     (finish_some p (early_in p S) L.top g c.if-top-gt0.true, omega (arith, L.invariant.0, c.if-top-gt0.true))
-
-pub origin_of-requires : goal.origin_of-requires
-origin_of-requires c = c.requires.0
 
 pub returns : goal.returns
 returns c =

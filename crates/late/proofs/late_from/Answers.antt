@@ -1,6 +1,5 @@
 -- `late::late_from` meets its contract. Each way out has its law.
 use mathlib.Core.Path.{sym, ◌∙◌}
-use native.Mathlib.Omega.{arith}
 use Rattle.order.specs.Plan.{plan_of}
 use Rattle.memory.specs.Seen.{state}
 use Rattle.dates.specs.Columns.{early_in, late_in}
@@ -8,12 +7,6 @@ use Rattle.number.specs.Exits.{handed_on}
 use Rattle.late.specs.PlaceLaws.{fitting_refused}
 use Rattle.late.specs.StandLaws.{early_at, summary_at, unfinished_placed, unfinished_held, unfinished_lowered}
 use Rattle.late.proofs.late_from.Goals as goal
-
-pub act-mark-requires : goal.act-mark-requires
-act-mark-requires c = (omega (arith, c.requires.0.activities, c.requires.1), omega arith)
-
-pub act-early-requires : goal.act-early-requires
-act-early-requires c = (omega (arith, c.requires.0.activities, c.requires.1), omega arith)
 
 pub returns : goal.returns
 returns c =

@@ -1,15 +1,11 @@
 -- `late::late_of` meets its contract.
 use mathlib.Core.Path.{sym, ap, ◌∙◌}
-use native.Mathlib.Omega.{arith}
 use Rattle.order.specs.Plan.{plan_of}
 use Rattle.calendar.specs.Hours.{worked}
 use Rattle.project.specs.declared.Activity.{Activity}
 use Rattle.calendars.specs.CalendarLaws.{in_plan_worked}
 use Rattle.late.specs.StandLaws.{left_at}
 use Rattle.late.proofs.late_of.Goals as goal
-
-pub act-left-requires : goal.act-left-requires
-act-left-requires c = (omega (arith, c.requires.0.activities, c.requires.1), omega arith)
 
 pub late_from-requires : goal.late_from-requires
 late_from-requires c =

@@ -7,9 +7,6 @@ use Rattle.number.specs.Exits.{handed_on}
 use Rattle.late.specs.StandLaws.{lowering_start, lowering_next, lowering_on, lowering_stop, lowering_end}
 use Rattle.late.proofs.links.lower.Goals as goal
 
-pub act-k-requires : goal.act-k-requires
-act-k-requires c = (omega (arith, c.requires.0.activities, c.requires.1), omega arith)
-
 pub loop-k-init : goal.loop-k-init
 loop-k-init c = λ R. lowering_start R _ _ _ c.requires.1 c.act-k.ensures.0
 
