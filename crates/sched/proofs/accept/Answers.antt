@@ -2,7 +2,7 @@
 use mathlib.Core.Path.{◌∙◌}
 use mir.Facts.{to_z-of_z}
 use mir.Syntax.{w64}
-use Rattle.memory.specs.State.{state_of}
+use Rattle.memory.specs.Seen.{state}
 use Rattle.order.specs.Plan.{plan_of}
 use Rattle.results.specs.View.{ran_in}
 use Rattle.sched.proofs.CallLaws.{accepted_as}
@@ -13,6 +13,6 @@ returns c =
     let x = c.args in
     let day = c.finish_day-day in
     let rows = c.write_rows in (
-      λ e other. accepted_as x.sheet.now x.contents _ (to_z-of_z {w = w64} (record { sfits = day.type_inv }) ∙ day.ensures (ran_in (plan_of x.sheet.now x.contents) (state_of x.contents.activities x.contents.links x.work.now) e other)) (rows.ensures e other),
-      c.clear.ensures,
+      λ e other. accepted_as x.sheet.now x.contents _ (to_z-of_z {w = w64} (record { sfits = day.type_inv }) ∙ day.ensures (ran_in (plan_of x.sheet.now x.contents) (state x.tables.now) e other)) (rows.ensures e other),
+      c.clear.ensures.0,
     )

@@ -5,7 +5,7 @@ use Rattle.std.proofs.Common.{rules}
 use Rattle.number.specs.Exits.{handed_on}
 use Rattle.order.specs.Plan.{plan_of}
 use Rattle.dates.specs.Standing.{Ready}
-use Rattle.sched.specs.CallLaws.{zeros}
+use Rattle.sched.specs.CallLaws.{zeros, ended_with}
 use Rattle.sched.proofs.CallLaws.{planned_checked, names_kept}
 use Rattle.sched.proofs.plan_at.Goals as goal
 
@@ -21,16 +21,17 @@ pub run_plan-requires : goal.run_plan-requires
 run_plan-requires c =
     let x = c.args in
     let h = c.in_ok-counts.ensures.0 in
-    (subst (Ready x.sheet.now x.contents x.calendars.now c.in_ok-counts.counts.kept) (sym (search rules)) h.ready, c.requires.2, c.requires.3, h.ignored, h.ends)
+    (h.ready, c.requires.2, c.requires.3, h.ignored, h.ends)
 
 pub returns : goal.returns
 returns c =
     let x = c.args in
     let h = c.in_ok-counts.ensures.0 in
-    c.run_plan.ensures (record { results = x.results.now; names = x.names.now; work = x.work.now })
+    ap (ended_with c.run_plan.result c.run_plan.new.results c.run_plan.new.names) (search rules)
+    ∙ c.run_plan.ensures (record { results = x.results.now; names = x.names.now; work = x.work.now })
     (record {
       results_is = refl;
       names_is = h.named;
       names_length = names_kept x.sheet.now x.contents x.names.now c.check_plan.new.names c.requires.4 h.named;
-      work_length = ap length (search rules) ∙ c.in_ok-counts.ensures.1.cells ∙ ap length c.of-tables.ensures.3;
+      work_length = c.in_ok-counts.ensures.1.cells ∙ ap length c.of-tables.ensures.3;
     })

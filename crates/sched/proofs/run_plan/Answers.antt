@@ -1,7 +1,7 @@
 -- `sched::run_plan` meets its contract.
 use mathlib.Core.Path.{subst, ◌∙◌}
 use native.Mathlib.Omega.{arith}
-use Rattle.memory.specs.State.{state_of}
+use Rattle.memory.specs.Seen.{state}
 use Rattle.order.specs.Plan.{plan_of}
 use Rattle.run.specs.Stages.{RunIn}
 use Rattle.dates.specs.KeptLaws.{ready_kept}
@@ -15,8 +15,8 @@ returns-in-Err c =
     let ran = c.run in
     let call = c.refuse in
     λ m L.
-    run_refuses m p L c.requires.0.fine call.result c.in-Err.error call.new.names ran.new.work call.new.work (subst (RunIn p (state_of x.contents.activities x.contents.links ran.new.work)) c.in-Err.is ran.ensures.0) call.ensures.0 call.ensures.1
-    ran.ensures.3 call.ensures.2
+    run_refuses m p L c.requires.0.fine call.result c.in-Err.error call.new.names ran.new.tables.cells.now call.new.tables.cells.now (subst (RunIn p (state ran.new.tables)) c.in-Err.is ran.ensures.0) call.ensures.0 call.ensures.1
+    ran.ensures.3.cells call.ensures.2
 
 pub show_plan-requires : goal.show_plan-requires
 show_plan-requires c =
@@ -29,7 +29,7 @@ show_plan-requires c =
       c.requires.2,
       c.requires.3,
       c.requires.4,
-      subst (RunIn p (state_of x.contents.activities x.contents.links ran.new.work)) c.in-Ok.is ran.ensures.0,
+      subst (RunIn p (state ran.new.tables)) c.in-Ok.is ran.ensures.0,
     )
 
 pub returns-in-Ok : goal.returns-in-Ok
@@ -37,4 +37,4 @@ returns-in-Ok c =
     let x = c.args in
     let p = plan_of x.sheet.now x.contents in
     let ran = c.run in
-    λ m L. c.show_plan.ensures m (record { results_is = L.results_is; names_is = L.names_is; names_length = L.names_length; work_length = ran.ensures.3 ∙ L.work_length })
+    λ m L. c.show_plan.ensures m (record { results_is = L.results_is; names_is = L.names_is; names_length = L.names_length; work_length = ran.ensures.3.cells ∙ L.work_length })

@@ -1,7 +1,7 @@
 -- `sched::show_plan` meets its contract.
 use mathlib.Core.Path.{refl, sym, ap, subst, ◌∙◌}
 use native.Mathlib.Omega.{arith}
-use Rattle.memory.specs.State.{state_of}
+use Rattle.memory.specs.Seen.{state}
 use Rattle.order.specs.Plan.{plan_of}
 use Rattle.passes.specs.Run.{Ran}
 use Rattle.dates.specs.Columns.{ended}
@@ -17,14 +17,14 @@ pub returns-in-Err : goal.returns-in-Err
 returns-in-Err c =
     let x = c.args in
     let p = plan_of x.sheet.now x.contents in
-    let S = state_of x.contents.activities x.contents.links x.work.now in
+    let S = state x.tables.now in
     let shown = c.results in
     let call = c.refuse in
     let other = c.requires.6.other in
-    let T = state_of x.contents.activities x.contents.links shown.new.work in
+    let T = state shown.new.tables in
     λ m L.
-    show_refuses m p L c.requires.0.fine (ran_in p S x.last other) c.requires.6.is call.result c.in-Err.e call.new.names shown.new.work call.new.work
-    (sym (shown.ensures.0 x.last other) ∙ ap (ended (shown_in p T)) c.in-Err.is) call.ensures.0 call.ensures.1 shown.ensures.2 call.ensures.2
+    show_refuses m p L c.requires.0.fine (ran_in p S x.last other) c.requires.6.is call.result c.in-Err.e call.new.names shown.new.tables.cells.now call.new.tables.cells.now
+    (sym (shown.ensures.0 x.last other) ∙ ap (ended (shown_in p T)) c.in-Err.is) call.ensures.0 call.ensures.1 shown.ensures.2.cells call.ensures.2
 
 pub accept-requires : goal.accept-requires
 accept-requires c =
@@ -40,13 +40,13 @@ pub returns-in-Ok : goal.returns-in-Ok
 returns-in-Ok c =
     let x = c.args in
     let p = plan_of x.sheet.now x.contents in
-    let S = state_of x.contents.activities x.contents.links x.work.now in
+    let S = state x.tables.now in
     let shown = c.results in
     let call = c.accept in
     let other = c.requires.6.other in
-    let T = state_of x.contents.activities x.contents.links shown.new.work in
+    let T = state shown.new.tables in
     let ran = ran_in p S x.last other in
     let f = shown_in p T in
     let A = subst (λ (q : Ran). AcceptedAs p q f x.ignored x.ends x.results.now call.new.results call.result) (ran_kept shown.ensures.1 p x.last other (omega arith)) (call.ensures.0 x.last other) in
     λ m L.
-    show_accepts m p L c.requires.0.fine ran c.requires.6.is f (sym (shown.ensures.0 x.last other) ∙ ap (ended f) c.in-Ok.is) A c.requires.4 c.requires.5 shown.new.work call.new.work shown.ensures.2 call.ensures.1
+    show_accepts m p L c.requires.0.fine ran c.requires.6.is f (sym (shown.ensures.0 x.last other) ∙ ap (ended f) c.in-Ok.is) A c.requires.4 c.requires.5 shown.new.tables.cells.now call.new.tables.cells.now shown.ensures.2.cells call.ensures.1
