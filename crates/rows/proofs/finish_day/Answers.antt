@@ -23,7 +23,7 @@ loop-i-init c =
     (omega (arith, c.origin_of-d.ensures.1), λ q. ap (λ (t : ℕ). t / 1440) c.origin_of-d.ensures.0 ∙ day_none p q S)
 
 pub act-requires : goal.act-requires
-act-requires c = (c.requires.1, omega arith, omega arith)
+act-requires c = (omega (arith, c.requires.1), omega arith)
 
 pub loop-i-preserved : goal.loop-i-preserved
 unfolding plan_of
