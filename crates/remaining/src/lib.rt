@@ -1,7 +1,7 @@
 // Before the forward pass: recorded dates are placed and the work left of each activity is found.
 #![tactic(auto)]
 
-ghost use Rattle.std.specs.Prelude.{◌≡◌, false, ◌^◌, ◌<◌, length, Ok};
+ghost use Rattle.std.specs.Prelude.{◌≡◌, false, ◌^◌, ◌<◌, Ok};
 ghost use Rattle.number.specs.Zed.{up};
 ghost use Rattle.sheet.specs.Known.{SheetRead};
 ghost use Rattle.memory.specs.Seen.{state, SameSlice};

@@ -1,7 +1,7 @@
 // What is shown of each activity.
 #![tactic(auto)]
 
-ghost use Rattle.std.specs.Prelude.{◌≡◌, Bool, ℕ, ◌+◌, ◌-◌, ◌^◌, ◌≤◌, ◌<◌, pos, ◌*ℤ◌, length, Ok};
+ghost use Rattle.std.specs.Prelude.{◌≡◌, Bool, ℕ, ◌+◌, ◌^◌, ◌≤◌, ◌<◌, pos, ◌*ℤ◌, Ok};
 ghost use Rattle.number.specs.Bit.{bit};
 ghost use Rattle.clock.specs.On.{worked_by};
 ghost use Rattle.memory.specs.Seen.{state, SameSlice};

@@ -5,7 +5,7 @@ use Rattle.number.specs.Bit.{bit}
 use Rattle.number.specs.Sign.{whole_days}
 use Rattle.date.specs.Days.{signed_minute}
 use Rattle.placing.specs.declared.Actual.{Actual}
-use Rattle.memory.specs.State.{State, Room}
+use Rattle.memory.specs.State.{State}
 use Rattle.memory.specs.declared.Tables.{Tables}
 use Rattle.memory.specs.Seen.{state}
 use Rattle.memory.specs.Fields.{is_summary, early_start, early_finish, work_left}
@@ -26,8 +26,8 @@ use Rattle.results.specs.View.{shown_at}
 
 -- the elements put one after the other, the first at `at + k`
 abbrev pub stored_from : List ℤ → ℕ → ℕ → List ℤ → List ℤ
-stored_from tables at k [] = tables
-stored_from tables at k (z ∷ tables'') = stored_from (set tables (at + k) z) at (suc k) tables''
+stored_from xs at k [] = xs
+stored_from xs at k (z ∷ zs) = stored_from (set xs (at + k) z) at (suc k) zs
 
 -- ---- the parts of a row
 abbrev pub day_fields : Shown → List ℤ
@@ -62,7 +62,8 @@ rows_in p S (suc n) = rows_in p S n ++ row_in p S n
 -- a sheet that was read, day lengths, each activity's calendar among them, and in the memory the summaries' marks and the recorded work
 pub record ToWrite (s : List ℕ) (c : Contents) (calendars : List PlanCalendar) (tables : Tables) : Type 0 where
   pub read : SheetRead s c
-  pub room : Room c.activities c.links tables
+  pub activities : tables.activities ≡ c.activities
+  pub links : tables.links ≡ c.links
   pub days : Lengths (plan_of s c) calendars
   pub named : (i : ℕ) → i < c.activities → calendar_of (plan_of s c) i < c.calendars
   pub marks : (i : ℕ) → i < c.activities → (state tables).act is_summary i ≡ bit (summary (plan_of s c) i)

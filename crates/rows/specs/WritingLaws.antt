@@ -13,7 +13,7 @@ use Rattle.number.specs.Bit.{bit}
 use Rattle.number.specs.BitLaws.{mark_flag}
 use Rattle.memory.specs.State.{State}
 use Rattle.memory.specs.declared.Tables.{Tables}
-use Rattle.memory.specs.Seen.{state, SameSlice}
+use Rattle.memory.specs.Seen.{state}
 use Rattle.memory.specs.Fields.{early_start, early_finish, work_left}
 use Rattle.sheet.specs.declared.Contents.{Contents}
 use Rattle.order.specs.Plan.{Plan, plan_of}
@@ -40,7 +40,8 @@ pub to_write : {s : List ℕ} {c : Contents} {calendars : List PlanCalendar} {t 
 unfolding plan_of
 to_write {s} {c} R L D = record {
   read = R.read;
-  room = R.room;
+  activities = R.activities;
+  links = R.links;
   days = L;
   named = λ i b. ((checked_fine (plan_of s c) R.fine).activities i b).calendar;
   marks = R.standing.marks;
@@ -48,15 +49,15 @@ to_write {s} {c} R L D = record {
 }
 
 -- ---- elements put one after the other
-stored_sets : (tables'' tables : Tables) (at k : ℕ) → stored_from tables at k tables'' ≡ sets tables (at + k) tables''
-stored_sets [] tables at k = refl
-stored_sets (z ∷ tables'') tables at k = let e : at + suc k ≡ suc (at + k) = omega arith in stored_sets tables'' (set tables (at + k) z) at (suc k) ∙ ap (λ (n : ℕ). sets (set tables (at + k) z) n tables'') e
+stored_sets : (zs xs : List ℤ) (at k : ℕ) → stored_from xs at k zs ≡ sets xs (at + k) zs
+stored_sets [] xs at k = refl
+stored_sets (z ∷ zs) xs at k = let e : at + suc k ≡ suc (at + k) = omega arith in stored_sets zs (set xs (at + k) z) at (suc k) ∙ ap (λ (n : ℕ). sets (set xs (at + k) z) n zs) e
 
-pub stored_is : (tables'' tables : Tables) (at : ℕ) → at + length tables'' ≤ length tables → stored_from tables at 0 tables'' ≡ take at tables ++ tables'' ++ drop (at + length tables'') tables
-stored_is tables'' tables at l = let e : at + 0 ≡ at = omega arith in stored_sets tables'' tables at 0 ∙ ap (λ (n : ℕ). sets tables n tables'') e ∙ sets-eq tables'' tables at l
+pub stored_is : (zs xs : List ℤ) (at : ℕ) → at + length zs ≤ length xs → stored_from xs at 0 zs ≡ take at xs ++ zs ++ drop (at + length zs) xs
+stored_is zs xs at l = let e : at + 0 ≡ at = omega arith in stored_sets zs xs at 0 ∙ ap (λ (n : ℕ). sets xs n zs) e ∙ sets-eq zs xs at l
 
-pub stored_length : (tables'' tables : Tables) (at k : ℕ) → length (stored_from tables at k tables'') ≡ length tables
-stored_length tables'' tables at k = ap length (stored_sets tables'' tables at k) ∙ length-sets tables (at + k) tables''
+pub stored_length : (zs xs : List ℤ) (at k : ℕ) → length (stored_from xs at k zs) ≡ length xs
+stored_length zs xs at k = ap length (stored_sets zs xs at k) ∙ length-sets xs (at + k) zs
 
 -- ---- the rows
 row_length : (p : Plan) (S : State) (i : ℕ) → length (row_in p S i) ≡ 15
@@ -68,28 +69,28 @@ unfolding rows_in
 rows_length p S zero = refl
 rows_length p S (suc n) = length-append (rows_in p S n) (row_in p S n) ∙ omega (arith, rows_length p S n, row_length p S n)
 
-pub rows_none : (p : Plan) (S : State) (tables : Tables) → tables ≡ rows_in p S 0 ++ drop (15 * 0) tables
+pub rows_none : (p : Plan) (S : State) (xs : List ℤ) → xs ≡ rows_in p S 0 ++ drop (15 * 0) xs
 unfolding rows_in
-rows_none p S tables = refl
+rows_none p S xs = refl
 
-module _ (p : Plan) (S : State) (tables tables' : Tables) (i : ℕ) (e : tables' ≡ rows_in p S i ++ drop (15 * i) tables) (l : 15 * (i + 1) ≤ length tables) where
-  pub rows_room : SameSlice tables tables'
-  rows_room = ap length e ∙ length-append (rows_in p S i) (drop (15 * i) tables) ∙ omega (arith, rows_length p S i, length-drop (15 * i) tables)
+module _ (p : Plan) (S : State) (xs ys : List ℤ) (i : ℕ) (e : ys ≡ rows_in p S i ++ drop (15 * i) xs) (l : 15 * (i + 1) ≤ length xs) where
+  pub rows_room : length ys ≡ length xs
+  rows_room = ap length e ∙ length-append (rows_in p S i) (drop (15 * i) xs) ∙ omega (arith, rows_length p S i, length-drop (15 * i) xs)
 
   -- one row more
-  pub rows_more : stored_from tables' (15 * i) 0 (row_in p S i) ≡ rows_in p S (i + 1) ++ drop (15 * (i + 1)) tables
+  pub rows_more : stored_from ys (15 * i) 0 (row_in p S i) ≡ rows_in p S (i + 1) ++ drop (15 * (i + 1)) xs
   unfolding rows_in
   rows_more =
-      let before : take (15 * i) tables' ≡ rows_in p S i = ap (take (15 * i)) e ∙ take_at (rows_in p S i) (drop (15 * i) tables) (15 * i) (rows_length p S i) in
+      let before : take (15 * i) ys ≡ rows_in p S i = ap (take (15 * i)) e ∙ take_at (rows_in p S i) (drop (15 * i) xs) (15 * i) (rows_length p S i) in
       let n : 15 * i + length (row_in p S i) ≡ length (rows_in p S i) + 15 = omega (arith, rows_length p S i, row_length p S i) in
       let m : 15 * i + 15 ≡ 15 * (i + 1) = omega arith in
-      let past : drop (15 * i + length (row_in p S i)) tables' ≡ drop (15 * (i + 1)) tables =
-      ap (λ (k : ℕ). drop k tables') n ∙ ap (drop (length (rows_in p S i) + 15)) e ∙ drop-append-add (rows_in p S i) (drop (15 * i) tables) 15 ∙ drop-drop 15 (15 * i) tables ∙ ap (λ (k : ℕ). drop k tables) m
+      let past : drop (15 * i + length (row_in p S i)) ys ≡ drop (15 * (i + 1)) xs =
+      ap (λ (k : ℕ). drop k ys) n ∙ ap (drop (length (rows_in p S i) + 15)) e ∙ drop-append-add (rows_in p S i) (drop (15 * i) xs) 15 ∙ drop-drop 15 (15 * i) xs ∙ ap (λ (k : ℕ). drop k xs) m
       in
       let one : rows_in p S (i + 1) ≡ rows_in p S i ++ row_in p S i = ap (rows_in p S) (add-one i) in
-      stored_is (row_in p S i) tables' (15 * i) (omega (arith, rows_room, row_length p S i))
+      stored_is (row_in p S i) ys (15 * i) (omega (arith, rows_room, row_length p S i))
       ∙ (λ z. before z ++ row_in p S i ++ past z)
-      ∙ ap (λ (tables'' : Tables). tables'' ++ drop (15 * (i + 1)) tables) (sym one)
+      ∙ ap (λ (zs : List ℤ). zs ++ drop (15 * (i + 1)) xs) (sym one)
 
 -- ---- the definition's rows
 module _ (p : Plan) (S : State) (e : ℕ) (other : ℕ → Bool) where

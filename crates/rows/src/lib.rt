@@ -178,7 +178,7 @@ pub fn write_rows(
 
 // The finish day: the greatest early finish day that is shown, and not before the start.
 pub fn finish_day(sheet: &[u8], contents: Contents, tables: &Tables) -> i64
-    requires { SheetRead sheet.now contents × (tables.now.activities ≡ contents.activities) × (tables.now.links ≡ contents.links) }
+    requires { SheetRead sheet.now contents × (tables.now.activities ≡ contents.activities) }
     ensures { (q : Ran) → result ≡ signed_day_of (finish_day (plan_of sheet.now contents) q (shown_in (plan_of sheet.now contents) (state tables.now)) contents.activities) }
 {
     let mut d = dates::origin_of(sheet, contents) / 1440;

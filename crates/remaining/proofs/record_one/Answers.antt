@@ -52,9 +52,6 @@ module _ (p : Plan) (i : ℕ) {a : Activity} (e : a ≡ p.activity i) (n : summa
   none-recorded : {x : Status} → x ≡ status_of a.actual_start a.actual_finish → x ≡ NotStarted → recorded p i ≡ Ok Unstarted
   none-recorded g h = recorded_none p i n (sym (λ z. status_of (e z).actual_start (e z).actual_finish) ∙ sym g ∙ h)
 
-pub act-mark-requires : goal.act-mark-requires
-act-mark-requires c = (omega (arith, c.requires.0.activities, c.requires.1), omega arith)
-
 pub keep-requires : goal.keep-requires
 keep-requires c =
     let x = c.args in

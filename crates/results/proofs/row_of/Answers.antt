@@ -17,12 +17,6 @@ activity_of-activity-requires c = let h = c.requires in (h.0.read, h.1)
 pub calendar_of-calendar-requires : goal.calendar_of-calendar-requires
 calendar_of-calendar-requires c = let h = c.requires in (h.0.read, h.0.located)
 
-pub recorded_at-actual-requires : goal.recorded_at-actual-requires
-recorded_at-actual-requires c = let h = c.requires in omega (arith, h.0.activities, h.1)
-
-pub times_at-t-requires : goal.times_at-t-requires
-times_at-t-requires c = let h = c.requires in omega (arith, h.0.activities, h.1)
-
 pub bounds-calendars-k : goal.bounds-calendars-k
 unfolding plan_of
 bounds-calendars-k c =

@@ -11,9 +11,6 @@ use Rattle.rollup.specs.Chained.{LinkedIn, KeysIn}
 use Rattle.rollup.specs.ChainedLaws.{chain_none, keys_kept}
 use Rattle.rollup.proofs.chain.Goals as goal
 
-pub fill_act-requires : goal.fill_act-requires
-fill_act-requires c = (omega (arith, c.requires.0, c.requires.1), omega (arith, c.args.tables.now.room))
-
 pub chain_down-requires : goal.chain_down-requires
 chain_down-requires c =
     let x = c.args in

@@ -11,9 +11,6 @@ use Rattle.rollup.specs.Chained.{LinkedIn}
 use Rattle.rollup.specs.ChainedLaws.{chain_skip, chain_more, chain_frame}
 use Rattle.rollup.proofs.chain_one.Goals as goal
 
-pub act-k-requires : goal.act-k-requires
-act-k-requires c = let h = c.requires in (h.0, omega (arith, h.1, h.2))
-
 pub returns-then-k-eq0 : goal.returns-then-k-eq0
 returns-then-k-eq0 c =
     let x = c.args in

@@ -20,9 +20,6 @@ returns-then-y-eq0 c =
 pub overflow_sub-y : goal.overflow_sub-y
 overflow_sub-y c = omega (arith, c.if-y-eq0.false)
 
-pub act-y-requires : goal.act-y-requires
-act-y-requires c = (omega (arith, c.if-y-eq0.false, c.loop-k.invariant.low), omega arith)
-
 pub loop-k-preserved : goal.loop-k-preserved
 loop-k-preserved c =
     let x = c.args in

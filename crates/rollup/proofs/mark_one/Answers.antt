@@ -13,9 +13,6 @@ returns-then-act-eq0 c =
     let S = state x.tables.now in
     (c.put_act.ensures.0 ∙ ap (put_act S depth_of x.i) (key_none S x.tables.now.activities x.i (sym c.act.ensures.0 ∙ c.if-act-eq0.true)), c.put_act.ensures.1)
 
-pub depth_of-d-requires : goal.depth_of-d-requires
-depth_of-d-requires c = let h = c.requires in h
-
 pub put_act-requires-2 : goal.put_act-requires-2
 put_act-requires-2 c = (c.requires.0, omega arith, omega (arith, c.depth_of-d.ensures.1, c.args.tables.now.room))
 

@@ -20,9 +20,6 @@ use Rattle.rollup.proofs.roll_depth.Goals as goal
 pub overflow_sub-d : goal.overflow_sub-d
 overflow_sub-d c = omega (arith, c.requires.2)
 
-pub act-k-requires : goal.act-k-requires
-act-k-requires c = let h = c.requires in (omega (arith, h.0.activities, h.2, h.3), omega arith)
-
 pub loop-k-init : goal.loop-k-init
 unfolding plan_of
 loop-k-init c =

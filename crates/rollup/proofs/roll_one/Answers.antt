@@ -16,9 +16,6 @@ use Rattle.rollup.specs.Roll.{child_sum}
 use Rattle.rollup.specs.RollingLaws.{one_none, one_done, one_refused}
 use Rattle.rollup.proofs.roll_one.Goals as goal
 
-pub act-first-requires : goal.act-first-requires
-act-first-requires c = let h = c.requires in (omega (arith, h.0.activities, h.2), omega arith)
-
 pub returns-then-first-contents : goal.returns-then-first-contents
 unfolding plan_of
 returns-then-first-contents c =

@@ -12,12 +12,6 @@ use Rattle.rollup.specs.Roll.{child_sum}
 use Rattle.rollup.specs.RollLaws.{Sums, sums_start, sums_turn, sums_end}
 use Rattle.rollup.proofs.sum_children.Goals as goal
 
-pub shown_at-x-requires : goal.shown_at-x-requires
-shown_at-x-requires c = c.requires.3
-
-pub act-k-requires : goal.act-k-requires
-act-k-requires c = (c.requires.3, omega arith)
-
 pub loop-k-init : goal.loop-k-init
 loop-k-init c =
     let x = c.args in
@@ -31,14 +25,8 @@ loop-k-init c =
     let U = subst (Stands key x.tables.now.activities (suc x.s) (n + 1)) (sym (c.act-k.ensures.0 ∙ ap (S.act next_child) h.2)) T in
     (sums_start F key x.tables.now.activities (suc x.s) n _ U _ (c.shown_at-x.ensures.0 ∙ ap (shown_at S) h.2 ∙ sym (to_at_lem x.tables.now.activities S n (omega (arith, h.2, h.3)))), c.shown_at-x.ensures.1)
 
-pub shown_at-requires : goal.shown_at-requires
-shown_at-requires c = omega arith
-
 pub join-x-requires : goal.join-x-requires
 join-x-requires c = (c.loop-k.invariant.1, c.shown_at.ensures.1)
-
-pub act-k-requires-in-loop-k : goal.act-k-requires-in-loop-k
-act-k-requires-in-loop-k c = (omega arith, omega arith)
 
 next-stands : (c : goal.After-act-k-in-loop-k) → Stands ((state c.args.tables.now).act parent) c.args.tables.now.activities ((state c.args.tables.now).act parent c.loop-k.k) (c.loop-k.k + 1) c.act-k-in-loop-k.result
 next-stands c =

@@ -22,9 +22,6 @@ loop-i-init c =
     let p = plan_of x.sheet.now x.contents in
     (omega (arith, c.origin_of-d.ensures.1), λ q. ap (λ (t : ℕ). t / 1440) c.origin_of-d.ensures.0 ∙ day_none p q S)
 
-pub act-requires : goal.act-requires
-act-requires c = (c.requires.1, omega arith, omega arith)
-
 pub loop-i-preserved : goal.loop-i-preserved
 unfolding plan_of
 loop-i-preserved c =

@@ -11,4 +11,4 @@ use Rattle.rows.proofs.finish_day.Given as goal
 abbrev pub invariant-loop-i : goal.invariant-loop-i
 invariant-loop-i l =
     (l.d < 2 ^ 63)
-    × ((q : Ran) → l.d ≡ finish_day (plan_of l.sheet l.contents) q (shown_in (plan_of l.sheet l.contents) (state l.tables)) l.i)
+    × ((q : Ran) → l.d ≡ finish_day (plan_of l.sheet l.fn.contents) q (shown_in (plan_of l.sheet l.fn.contents) (state l.tables)) l.i)
