@@ -3,6 +3,7 @@ use borrow.Author.Rules.{rules}
 use mathlib.Core.Path.{refl, ◌∙◌}
 use native.Mathlib.Omega.{arith}
 use Rattle.memory.specs.Seen.{state}
+use Rattle.memory.specs.SeenLaws.{same_then}
 use Rattle.topology.specs.FrameLaws.{frame_acts, frame_then}
 use Rattle.order.specs.Plan.{plan_of}
 use Rattle.dates.specs.KeptLaws.{ready_kept, recorded_kept}
@@ -40,5 +41,5 @@ returns c =
       early_goes p T₁ T first.result second.result first.ensures.0 c.in_ok-remaining.was second.ensures.0,
       λ d. recorded_kept second.ensures.1 p refl refl refl (first.ensures.1 c.in_ok-remaining.was),
       frame_then 12 20 0 0 (frame_acts 12 20 0 0 14 20 (omega arith) (omega arith) first.ensures.2) (frame_acts 12 20 0 0 12 15 (omega arith) (omega arith) second.ensures.1),
-      second.ensures.2 ∙ first.ensures.3,
+      same_then first.ensures.3 second.ensures.2,
     )

@@ -3,6 +3,7 @@ use borrow.Author.Rules.{rules}
 use mathlib.Core.Path.{refl, sym, ◌∙◌}
 use native.Mathlib.Omega.{arith}
 use Rattle.memory.specs.Seen.{state}
+use Rattle.memory.specs.SeenLaws.{same_then}
 use Rattle.order.specs.Plan.{plan_of}
 use Rattle.topology.specs.FrameLaws.{frame_acts, frame_then}
 use Rattle.dates.specs.KeptLaws.{ready_kept, recorded_kept}
@@ -41,5 +42,5 @@ returns c =
     let T = state second.new.tables in (
       floats_go (plan_of x.sheet.now x.contents) x.finish S T₁ T first.result a.0 b.1 c.in_ok-free_pass.was second.result b.0,
       frame_then 12 17 0 0 (frame_acts 12 17 0 0 12 16 (omega arith) (omega arith) a.1) (frame_acts 12 17 0 0 16 17 (omega arith) (omega arith) b.1),
-      b.2 ∙ a.2,
+      same_then a.2 b.2,
     )

@@ -3,6 +3,7 @@ use borrow.Author.Rules.{rules}
 use mathlib.Core.Path.{refl, sym, subst, ◌∙◌}
 use native.Mathlib.Omega.{arith}
 use Rattle.memory.specs.Seen.{state}
+use Rattle.memory.specs.SeenLaws.{same_then}
 use Rattle.topology.specs.FrameLaws.{frame_acts, frame_then}
 use Rattle.order.specs.Plan.{plan_of}
 use Rattle.dates.specs.Columns.{early_in}
@@ -42,7 +43,7 @@ returns-in_err-float_dates c = rw (handed_on _ _ c.from_residual-in_err-float_da
     let l = subst (LateIn p (early_in p S) T₁) c.in_ok-last.was first.ensures.0 in (
       run_floats p S c.requires.2 T₁ T c.in_ok-last.last first.ensures.1 second.ensures.1 l c.greatest_finish-finish.result c.greatest_finish-finish.ensures.0 second.result second.ensures.0 c.in_err-float_dates.field-0.0 c.in_err-float_dates.was,
       frame_then 10 17 0 0 (frame_acts 10 17 0 0 10 12 (omega arith) (omega arith) first.ensures.1) (frame_acts 10 17 0 0 12 17 (omega arith) (omega arith) second.ensures.1),
-      second.ensures.2 ∙ first.ensures.2,
+      same_then first.ensures.2 second.ensures.2,
     ))
 
 pub returns : goal.returns
@@ -57,5 +58,5 @@ returns c =
     let l = subst (LateIn p (early_in p S) T₁) c.in_ok-last.was first.ensures.0 in (
       run_whole p S c.requires.2 T₁ T c.in_ok-last.last first.ensures.1 second.ensures.1 l c.greatest_finish-finish.result c.greatest_finish-finish.ensures.0 second.result second.ensures.0 c.in_ok-float_dates.was,
       frame_then 10 17 0 0 (frame_acts 10 17 0 0 10 12 (omega arith) (omega arith) first.ensures.1) (frame_acts 10 17 0 0 12 17 (omega arith) (omega arith) second.ensures.1),
-      second.ensures.2 ∙ first.ensures.2,
+      same_then first.ensures.2 second.ensures.2,
     )

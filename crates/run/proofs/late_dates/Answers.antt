@@ -2,6 +2,7 @@
 use borrow.Author.Rules.{rules}
 use mathlib.Core.Path.{refl, sym, ◌∙◌}
 use Rattle.memory.specs.Seen.{state}
+use Rattle.memory.specs.SeenLaws.{same_refl}
 use Rattle.topology.specs.FrameLaws.{frame_refl}
 use Rattle.order.specs.Plan.{plan_of}
 use Rattle.dates.specs.Columns.{early_in}
@@ -15,7 +16,7 @@ returns-in_err-last c = rw (handed_on _ _ c.from_residual.ensures.1) (let x = c.
     let S = state x.tables.now in (
       late_ends p S S c.in_err-last.field-0.0 (sym (c.end_of.ensures.0 (early_in p S) c.requires.2) ∙ c.in_err-last.was),
       frame_refl 10 12 0 0 S,
-      refl,
+      same_refl _,
     ))
 
 pub backward_pass-requires : goal.backward_pass-requires

@@ -5,6 +5,7 @@ use borrow.Author.Rules.{rules}
 use mathlib.Core.Path.{◌≡◌, refl, subst, ◌∙◌}
 use native.Mathlib.Omega.{arith}
 use Rattle.memory.specs.Seen.{state}
+use Rattle.memory.specs.SeenLaws.{same_then}
 use Rattle.topology.specs.FrameLaws.{frame_acts, frame_then}
 use Rattle.order.specs.Plan.{plan_of}
 use Rattle.dates.specs.Columns.{early_in, ended}
@@ -45,5 +46,5 @@ returns c =
       second.ensures.0,
       λ e d. recorded_kept second.ensures.1 p refl refl refl (first.ensures.1 c.in_ok-early_dates.was),
       frame_then 10 20 0 0 (frame_acts 10 20 0 0 12 20 (omega arith) (omega arith) first.ensures.2) (frame_acts 10 20 0 0 10 17 (omega arith) (omega arith) second.ensures.1),
-      second.ensures.2 ∙ first.ensures.3,
+      same_then first.ensures.3 second.ensures.2,
     )
