@@ -1,13 +1,11 @@
 -- All checks: what the parts answer is what the call says.
-use Rattle.std.specs.Prelude.{refl, List, ℕ, length, Result, Ok, Err}
-use Rattle.std.proofs.Common.{sym, subst, arith}
+use Rattle.std.specs.Prelude.{List, ℕ, length, Result, Ok, Err}
+use Rattle.std.proofs.Common.{subst}
 use Rattle.memory.specs.declared.Tables.{Tables}
-use Rattle.memory.specs.SeenLaws.{given_back}
 use Rattle.sheet.specs.declared.Contents.{Contents}
 use Rattle.order.specs.Plan.{plan_of}
 use Rattle.order.specs.Checks.{Verdict, or_else, checked}
 use Rattle.ids.specs.Lent.{Lent}
-use Rattle.dates.specs.Standing.{Standing}
 use Rattle.calendars.specs.declared.plan_calendar.PlanCalendar.{PlanCalendar}
 use Rattle.calendars.specs.Calendars.{Places}
 use Rattle.order.specs.declared.PlanError.{PlanError}
@@ -23,10 +21,11 @@ module _ (s : List ℕ) (c : Contents) (calendars : List PlanCalendar) (names : 
     fine = h.fine;
     ready = record {
       read = lent.read;
-      room = omega (arith, lent.activities, lent.links, tables'.room);
+      activities = lent.activities;
+      links = lent.links;
       located = located;
       fine = h.fine;
-      standing = subst (Standing (plan_of s c) counts.kept) (sym (given_back tables' lent.activities lent.links refl)) h.standing;
+      standing = h.standing;
     };
     elsewhere = h.elsewhere;
     named = h.named;
