@@ -3,7 +3,7 @@
 
 ghost use Rattle.std.specs.Prelude.{◌≡◌, Bool, ◌&&◌, Result, Ok, Err, List, ℕ, ◌+◌, ◌*◌, ◌^◌, ◌≤◌, ◌<◌, max, leb, length, replicate};
 ghost use Rattle.memory.specs.State.{Room};
-ghost use Rattle.memory.specs.Seen.{state};
+ghost use Rattle.memory.specs.Seen.{state, SameSlice};
 ghost use Rattle.sheet.specs.Known.{SheetRead};
 ghost use Rattle.order.specs.Plan.{plan_of};
 ghost use Rattle.order.specs.Ties.{ignored_links, open_ends};
@@ -121,7 +121,7 @@ fn has_room(contents: Contents, results: usize, names: usize, work: usize) -> bo
 
 // Refuses without names: names and memory are cleared.
 fn refuse(names: &mut [u32], tables: &mut Tables, error: ClockError) -> Result<Accepted, Refusal>
-    ensures { (result ≡ Err (Clock error)) × (names.new ≡ replicate (length names.old) 0) × (tables.new.cells.now ≡ zeros tables.old.cells.now) }
+    ensures { (result ≡ Err (Clock error)) × (names.new ≡ replicate (length names.old) 0) × (tables.new.cells.now ≡ zeros tables.old.cells.now) × SameSlice tables.old tables.new }
 {
     cells::clear_u32(names);
     tables.clear();
@@ -139,7 +139,7 @@ fn accept(
     ends: u64,
 ) -> Accepted
     requires { ToWrite sheet.now contents calendars.now tables.old × (15 * contents.activities ≤ length results.old) }
-    ensures { ((e : ℕ) (other : ℕ → Bool) → AcceptedAs (plan_of sheet.now contents) (ran_in (plan_of sheet.now contents) (state tables.old) e other) (shown_in (plan_of sheet.now contents) (state tables.old)) ignored ends results.old results.new result) × (tables.new.cells.now ≡ zeros tables.old.cells.now) }
+    ensures { ((e : ℕ) (other : ℕ → Bool) → AcceptedAs (plan_of sheet.now contents) (ran_in (plan_of sheet.now contents) (state tables.old) e other) (shown_in (plan_of sheet.now contents) (state tables.old)) ignored ends results.old results.new result) × (tables.new.cells.now ≡ zeros tables.old.cells.now) × SameSlice tables.old tables.new }
 {
     let day = rows::finish_day(sheet, contents, tables);
     rows::write_rows(sheet, contents, calendars, tables, results);
@@ -166,7 +166,7 @@ fn show_plan(
     tables: &mut Tables,
 ) -> Result<Accepted, Refusal>
     requires { Ready sheet.now contents calendars.now t tables.old × Recorded (plan_of sheet.now contents) (state tables.old) × Lengths (plan_of sheet.now contents) calendars.now × (15 * contents.activities ≤ length results.old) × (ignored ≡ length (ignored_links (plan_of sheet.now contents))) × (ends ≡ open_ends (plan_of sheet.now contents)) × RanTo (plan_of sheet.now contents) (state tables.old) last }
-    ensures { (m : Lent) → LentAs m (plan_of sheet.now contents) results.old names.old tables.old.cells.now → ended_with result results.new names.new tables.new.cells.now ≡ planned m (plan_of sheet.now contents) }
+    ensures { ((m : Lent) → LentAs m (plan_of sheet.now contents) results.old names.old tables.old.cells.now → ended_with result results.new names.new tables.new.cells.now ≡ planned m (plan_of sheet.now contents)) × SameSlice tables.old tables.new }
 {
     // No `?`: names and memory are cleared before the refusal goes on.
     match rollup::results(sheet, contents, calendars, t, tables) {
@@ -188,7 +188,7 @@ fn run_plan(
     tables: &mut Tables,
 ) -> Result<Accepted, Refusal>
     requires { Ready sheet.now contents calendars.now t tables.old × Lengths (plan_of sheet.now contents) calendars.now × (15 * contents.activities ≤ length results.old) × (ignored ≡ length (ignored_links (plan_of sheet.now contents))) × (ends ≡ open_ends (plan_of sheet.now contents)) }
-    ensures { (m : Lent) → LentAs m (plan_of sheet.now contents) results.old names.old tables.old.cells.now → ended_with result results.new names.new tables.new.cells.now ≡ planned m (plan_of sheet.now contents) }
+    ensures { ((m : Lent) → LentAs m (plan_of sheet.now contents) results.old names.old tables.old.cells.now → ended_with result results.new names.new tables.new.cells.now ≡ planned m (plan_of sheet.now contents)) × SameSlice tables.old tables.new }
 {
     // No `?`: names and memory are cleared before the refusal goes on.
     match run::run(sheet, contents, calendars, t, tables) {

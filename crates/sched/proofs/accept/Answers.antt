@@ -15,4 +15,5 @@ returns c =
     let rows = c.write_rows in (
       λ e other. accepted_as x.sheet.now x.contents _ (to_z-of_z {w = w64} (record { sfits = day.type_inv }) ∙ day.ensures (ran_in (plan_of x.sheet.now x.contents) (state x.tables.now) e other)) (rows.ensures e other),
       c.clear.ensures.0,
+      c.clear.ensures.1,
     )

@@ -28,7 +28,7 @@ returns c =
     let x = c.args in
     let h = c.in_ok-counts.ensures.0 in
     ap (ended_with c.run_plan.result c.run_plan.new.results c.run_plan.new.names) (search rules)
-    ∙ c.run_plan.ensures (record { results = x.results.now; names = x.names.now; work = x.work.now })
+    ∙ c.run_plan.ensures.0 (record { results = x.results.now; names = x.names.now; work = x.work.now })
     (record {
       results_is = refl;
       names_is = h.named;

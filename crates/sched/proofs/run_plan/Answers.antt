@@ -2,6 +2,7 @@
 use mathlib.Core.Path.{subst, ◌∙◌}
 use native.Mathlib.Omega.{arith}
 use Rattle.memory.specs.Seen.{state}
+use Rattle.memory.specs.SeenLaws.{same_then}
 use Rattle.order.specs.Plan.{plan_of}
 use Rattle.run.specs.Stages.{RunIn}
 use Rattle.dates.specs.KeptLaws.{ready_kept}
@@ -13,10 +14,12 @@ returns-in-Err c =
     let x = c.args in
     let p = plan_of x.sheet.now x.contents in
     let ran = c.run in
-    let call = c.refuse in
-    λ m L.
-    run_refuses m p L c.requires.0.fine call.result c.in-Err.error call.new.names ran.new.tables.cells.now call.new.tables.cells.now (subst (RunIn p (state ran.new.tables)) c.in-Err.is ran.ensures.0) call.ensures.0 call.ensures.1
-    ran.ensures.3.cells call.ensures.2
+    let call = c.refuse in (
+      λ m L.
+          run_refuses m p L c.requires.0.fine call.result c.in-Err.error call.new.names ran.new.tables.cells.now call.new.tables.cells.now (subst (RunIn p (state ran.new.tables)) c.in-Err.is ran.ensures.0) call.ensures.0 call.ensures.1
+          ran.ensures.3.cells call.ensures.2,
+      same_then ran.ensures.3 call.ensures.3,
+    )
 
 pub show_plan-requires : goal.show_plan-requires
 show_plan-requires c =
@@ -37,4 +40,4 @@ returns-in-Ok c =
     let x = c.args in
     let p = plan_of x.sheet.now x.contents in
     let ran = c.run in
-    λ m L. c.show_plan.ensures m (record { results_is = L.results_is; names_is = L.names_is; names_length = L.names_length; work_length = ran.ensures.3.cells ∙ L.work_length })
+    (λ m L. c.show_plan.ensures.0 m (record { results_is = L.results_is; names_is = L.names_is; names_length = L.names_length; work_length = ran.ensures.3.cells ∙ L.work_length }), same_then ran.ensures.3 c.show_plan.ensures.1)
