@@ -172,6 +172,7 @@ impl<'a> Exceptions<'a> {
     }
 
     // The hours of day `d`, whose weekday's row is in hand, and the first record whose day is after `d`; so a walk back searches no day anew.
+    // It mirrors `hours_from`, as `first_back` does `first_after`: one function with the direction as an argument would be no plainer.
     pub fn hours_to(&self, row: [Period; 8], d: u64, to: usize) -> Hours
         requires { FirstOf self.now (d + 1) to }
         ensures { InHandOf row self.now d result × (result.n ≤ to) × FirstOf self.now d (to - result.n) }

@@ -70,6 +70,7 @@ impl<'a> Tables<'a> {
     }
 
     // Field `f` of link `k`: 0 where it is negative.
+    // A link's methods stand beside an activity's: one over a trait of the two tables was tried and is as long, and `get::<Link>(tables, k, f)` reads less plainly.
     pub fn link(&self, k: usize, f: usize) -> u64
         requires { (k < self.now.links) × (f < 16) }
         ensures { (result ≡ (state self.now).link f k) × (result < 2 ^ 63) }

@@ -152,6 +152,7 @@ pub fn finish_for_start(
 }
 
 // The same for a constraint's date, which a start must not pass.
+// It differs in one walk: a function over the walk would take that walk's contract as a parameter too, and be no plainer.
 pub fn finish_for_start_by(
     activity: Activity,
     calendar: &Calendar,
