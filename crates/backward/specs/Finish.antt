@@ -1,5 +1,5 @@
 -- The greatest early finish as a loop finds it.
-use Rattle.std.specs.Prelude.{◌≡◌, Bool, true, false, ℕ, zero, suc, ◌+◌, ◌<◌, max}
+use Rattle.std.specs.Prelude.{◌≡◌, Bool, true, false, ℕ, zero, suc, ◌+◌, ◌<◌, max, Option, None, Some}
 use Rattle.number.specs.Bit.{bit}
 use Rattle.memory.specs.State.{State}
 use Rattle.memory.specs.Fields.{is_summary}
@@ -10,6 +10,11 @@ use Rattle.passes.specs.Dates.{Early}
 -- the memory's marks of the summaries
 abbrev pub Marked : Plan → State → Type 0
 Marked p S = (i : ℕ) → i < p.activities → S.act is_summary i ≡ bit (summary p i)
+
+-- one more than the greatest, and 0 for none
+abbrev pub past : Option ℕ → ℕ
+past None = 0
+past (Some t) = t + 1
 
 -- one more than the greatest early finish so far, and 0 for none: on with activity i
 abbrev pub onward : Bool → ℕ → ℕ → ℕ

@@ -1,7 +1,7 @@
 -- The greatest early finish from the loop's number, and the end by the sheet.
 use Rattle.std.proofs.Math.Path.{◌≡◌, refl, ap}
 use Rattle.std.proofs.Common.{sym, ◌∙◌}
-use Rattle.std.specs.Prelude.{Bool, ◌&&◌, List, Ok, Option, Some, None}
+use Rattle.std.specs.Prelude.{Bool, ◌&&◌, List, Ok, Option, Some, None, unwrap_or, IfSome}
 use Rattle.std.proofs.Math.Bool.{true, false}
 use Prim.Native.Nat.{ℕ, zero, suc, ◌+◌, ◌-◌, ◌<◌, max}
 use native.Mathlib.Omega.{arith}
@@ -21,7 +21,7 @@ use Rattle.memory.specs.Fields.{early_start, early_finish}
 use Rattle.dates.specs.Columns.{early_in}
 use Rattle.dates.specs.ColumnLaws.{column_at}
 use Rattle.bounds.specs.ReadyLaws.{activities_are}
-use Rattle.backward.specs.Finish.{onward, greatest_one}
+use Rattle.backward.specs.Finish.{past, onward, greatest_one}
 
 -- ---- the early dates of one activity
 module _ (s : List ℕ) (c : Contents) (S : State) (i : ℕ) (b : i < c.activities) where
@@ -40,6 +40,14 @@ onward_summary b ef top e = rw e
 
 pub onward_met : (b : Bool) (ef top : ℕ) → b ≡ false → onward b ef top ≡ max top (ef + 1)
 onward_met b ef top e = rw e
+
+pub past_more : (top : Option ℕ) (ef : ℕ) → past (Some (max (unwrap_or top ef) ef)) ≡ max (past top) (ef + 1)
+past_more None ef = omega arith
+past_more (Some t) ef = omega arith
+
+pub below_more : (top : Option ℕ) (ef m : ℕ) → IfSome top (λ t. t < m) → ef < m → max (unwrap_or top ef) ef < m
+below_more None ef m h l = omega arith
+below_more (Some t) ef m h l = omega arith
 
 module _ (p : Plan) (d : Early) where
   pub one_none : 0 ≡ greatest_one p d 0
@@ -104,6 +112,11 @@ module _ (p : Plan) (d : Early) where
       by : (b : Bool) → all_summaries p p.activities ≡ b → g - 1 ≡ finish p d
       by true a = absurd (omega (arith, e, (says p.activities).none a))
       by false a = let m : g - 1 ≡ greatest_below p d p.activities = omega (arith, e, (says p.activities).some a) in m ∙ sym (finish_by_lem false a)
+
+  pub finish_top : (top : Option ℕ) (o m : ℕ) → past top ≡ greatest_one p d p.activities → IfSome top (λ t. t < m) → o ≡ origin p → o < m
+      → (unwrap_or top o ≡ finish p d) × (unwrap_or top o < m)
+  finish_top None o m e h q l = (finish_none 0 o e refl q, l)
+  finish_top (Some t) o m e h q l = (omega (arith, finish_some (t + 1) e (omega arith)), h)
 
 -- ---- the end, by the must-finish day of the sheet
 module _ (s : List ℕ) (c : Contents) (d : Early) where

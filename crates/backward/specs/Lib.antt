@@ -3,3 +3,4 @@ pub mod Finish
 pub mod Stored
 pub mod FinishLaws
 pub mod BackLaws
+pub mod Turn

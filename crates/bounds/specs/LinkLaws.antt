@@ -1,5 +1,5 @@
 -- A kept link's bound from what stands in the memory: the link itself, its predecessor's dates, and what is recorded of it.
-use Rattle.std.specs.Prelude.{◌≡◌, List, ℕ, ◌+◌, ◌^◌, ◌≤◌, ◌<◌, ℤ, Result, Ok}
+use Rattle.std.specs.Prelude.{◌≡◌, ℕ, ◌+◌, ◌^◌, ◌≤◌, ◌<◌, Result, Ok}
 use Rattle.worktime.specs.declared.ClockError.{ClockError}
 use Rattle.std.proofs.Common.{sym, ap, ap₂, ◌∙◌, arith}
 use Rattle.number.specs.Zed.{up, dn}
@@ -8,29 +8,28 @@ use Rattle.memory.specs.State.{State}
 use Rattle.memory.specs.declared.Tables.{Tables}
 use Rattle.memory.specs.Seen.{state}
 use Rattle.memory.specs.Fields.{early_start, early_finish}
-use Rattle.sheet.specs.declared.Contents.{Contents}
-use Rattle.order.specs.Plan.{Plan, plan_of}
+use Rattle.order.specs.Plan.{Plan, plan_in}
 use Rattle.order.specs.Ties as ties
 use Rattle.passes.specs.Plan.{origin, tie, recorded, begun}
 use Rattle.passes.specs.Dates.{Early}
 use Rattle.passes.specs.Forward.{forward_bound, link_bound}
-use Rattle.calendars.specs.declared.plan_calendar.PlanCalendar.{PlanCalendar}
 use Rattle.dates.specs.declared.Tie.{Tie}
 use Rattle.dates.specs.Columns.{early_in}
 use Rattle.dates.specs.ColumnLaws.{column_at}
 use Rattle.dates.specs.Standing.{as_tie, tie_in, actual_in, Ready, Recorded}
 use Rattle.bounds.specs.ReadyLaws.{activities_are, tie_from_below, tie_to_below, tie_lag_fits}
+use Rattle.calendars.specs.declared.plan_sheet.PlanSheet.{PlanSheet}
 
-module _ {s : List ℕ} {c : Contents} {calendars : List PlanCalendar} {t : ℕ} {tables : Tables} (R : Ready s c calendars t tables) (k : ℕ) (l : k < t) (τ : Tie)
+module _ {plan : PlanSheet} {tables : Tables} (R : Ready plan tables) (k : ℕ) (l : k < tables.kept) (τ : Tie)
     (e : as_tie τ ≡ tie_in (state tables) k) where
   -- the link in hand is the k-th kept one
-  pub tie_is : as_tie τ ≡ tie (plan_of s c) k
+  pub tie_is : as_tie τ ≡ tie (plan_in plan.sheet) k
   tie_is = e ∙ R.standing.tied k l
 
-  pub from_in : τ.from < c.activities
+  pub from_in : τ.from < plan.sheet.contents.activities
   from_in = omega (arith, ap (λ (x : ties.Tie). x.from) tie_is, tie_from_below R k l)
 
-  pub to_in : τ.to < c.activities
+  pub to_in : τ.to < plan.sheet.contents.activities
   to_in = omega (arith, ap (λ (x : ties.Tie). x.to) tie_is, tie_to_below R k l)
 
   pub lag_in : up τ.lag + dn τ.lag ≤ 144000000
@@ -45,15 +44,15 @@ module _ {s : List ℕ} {c : Contents} {calendars : List PlanCalendar} {t : ℕ}
   pub lead_fits : dn τ.lag < 2 ^ 63
   lead_fits = omega (arith, lag_in)
 
-  module _ (N : Recorded (plan_of s c) (state tables)) where
+  module _ (N : Recorded (plan_in plan.sheet) (state tables)) where
     abbrev p : Plan
-    p = plan_of s c
+    p = plan_in plan.sheet
 
     abbrev S : State
     S = state tables
 
-    within : τ.from < (plan_of s c).activities
-    within = omega (arith, from_in, activities_are s c)
+    within : τ.from < (plan_in plan.sheet).activities
+    within = omega (arith, from_in, activities_are plan.sheet.bytes.now plan.sheet.contents)
 
     pub link_bound_is : (a : Actual) (es₀ es ef : ℕ) (r : Result ℕ ClockError) → a ≡ actual_in S τ.from → es₀ ≡ S.act early_start τ.from
         → ((q : Plan) → es ≡ begun q (Ok a) es₀) → ef ≡ S.act early_finish τ.from → r ≡ forward_bound p (as_tie τ) es ef

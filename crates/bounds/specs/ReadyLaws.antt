@@ -1,15 +1,15 @@
 -- What the checks say of the kept links that the passes are lent: their ends are activities, and their lags fit.
 use Rattle.memory.specs.declared.Tables.{Tables}
-use Rattle.std.specs.Prelude.{◌≡◌, refl, List, ℕ, ◌+◌, ◌≤◌, ◌<◌, ℤ, length}
+use Rattle.std.specs.Prelude.{◌≡◌, refl, List, ℕ, ◌+◌, ◌≤◌, ◌<◌, length}
 use Rattle.std.proofs.Common.{arith}
 use Rattle.number.specs.Zed.{up, dn}
 use Rattle.sheet.specs.declared.Contents.{Contents}
-use Rattle.order.specs.Plan.{plan_of}
+use Rattle.order.specs.Plan.{plan_of, plan_in}
 use Rattle.order.specs.Ties.{kept_below}
 use Rattle.passes.specs.Plan.{tie}
-use Rattle.calendars.specs.declared.plan_calendar.PlanCalendar.{PlanCalendar}
 use Rattle.dates.specs.Standing.{Ready}
 use Rattle.dates.specs.FineLaws as fine
+use Rattle.calendars.specs.declared.plan_sheet.PlanSheet.{PlanSheet}
 
 pub activities_are : (s : List ℕ) (c : Contents) → (plan_of s c).activities ≡ c.activities
 unfolding plan_of
@@ -19,20 +19,20 @@ pub links_are : (s : List ℕ) (c : Contents) → (plan_of s c).links ≡ c.link
 unfolding plan_of
 links_are s c = refl
 
-module _ {s : List ℕ} {c : Contents} {calendars : List PlanCalendar} {t : ℕ} {tables : Tables} (R : Ready s c calendars t tables) where
+module _ {plan : PlanSheet} {tables : Tables} (R : Ready plan tables) where
   -- the number of link records that the kept ones are among
-  pub kept_within : t ≤ c.links
-  kept_within = omega (arith, R.standing.within, links_are s c)
+  pub kept_within : tables.kept ≤ plan.sheet.contents.links
+  kept_within = omega (arith, R.standing.within, links_are plan.sheet.bytes.now plan.sheet.contents)
 
-  module _ (k : ℕ) (l : k < t) where
-    counted : k < length (kept_below (plan_of s c) (plan_of s c).links)
+  module _ (k : ℕ) (l : k < tables.kept) where
+    counted : k < length (kept_below (plan_in plan.sheet) (plan_in plan.sheet).links)
     counted = omega (arith, R.standing.count)
 
-    pub tie_from_below : (tie (plan_of s c) k).from < c.activities
-    tie_from_below = omega (arith, fine.tie_from_below (plan_of s c) R.fine k counted, activities_are s c)
+    pub tie_from_below : (tie (plan_in plan.sheet) k).from < plan.sheet.contents.activities
+    tie_from_below = omega (arith, fine.tie_from_below (plan_in plan.sheet) R.fine k counted, activities_are plan.sheet.bytes.now plan.sheet.contents)
 
-    pub tie_to_below : (tie (plan_of s c) k).to < c.activities
-    tie_to_below = omega (arith, fine.tie_to_below (plan_of s c) R.fine k counted, activities_are s c)
+    pub tie_to_below : (tie (plan_in plan.sheet) k).to < plan.sheet.contents.activities
+    tie_to_below = omega (arith, fine.tie_to_below (plan_in plan.sheet) R.fine k counted, activities_are plan.sheet.bytes.now plan.sheet.contents)
 
-    pub tie_lag_fits : up (tie (plan_of s c) k).lag + dn (tie (plan_of s c) k).lag ≤ 144000000
-    tie_lag_fits = fine.tie_lag_below (plan_of s c) R.fine k counted
+    pub tie_lag_fits : up (tie (plan_in plan.sheet) k).lag + dn (tie (plan_in plan.sheet) k).lag ≤ 144000000
+    tie_lag_fits = fine.tie_lag_below (plan_in plan.sheet) R.fine k counted

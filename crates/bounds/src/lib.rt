@@ -5,20 +5,17 @@ ghost use Rattle.std.specs.Prelude.{◌≡◌, ℕ, ◌^◌, ◌<◌};
 ghost use Rattle.number.specs.Zed.{dn};
 ghost use Rattle.clock.specs.On.{worked_by};
 ghost use Rattle.memory.specs.Seen.{state};
-ghost use Rattle.sheet.specs.Known.{SheetRead};
-ghost use Rattle.order.specs.Plan.{Plan, plan_of};
+ghost use Rattle.order.specs.Plan.{Plan, plan_in};
 ghost use Rattle.passes.specs.Plan.{own};
 ghost use Rattle.passes.specs.Forward.{source_of, forward_bound, link_bound, start_for};
-ghost use Rattle.calendars.specs.Calendars.{Places};
 ghost use Rattle.dates.specs.Columns.{early_in};
 ghost use Rattle.dates.specs.Standing.{as_tie, Ready, Recorded};
 
 use calendar::Calendar;
-use calendars::PlanCalendar;
+use calendars::PlanSheet;
 use dates::Tie;
 use memory::Tables;
 use project::{Activity, RelationshipType};
-use sheet::Contents;
 use worktime::ClockError;
 
 // The end of the predecessor from which a link counts.
@@ -56,35 +53,21 @@ pub fn start_for(
 }
 
 // The bound that a link puts on its successor: its predecessor's start or finish, moved by the lag on the lag's calendar.
-pub fn forward_bound(
-    sheet: &[u8],
-    contents: Contents,
-    calendars: &[PlanCalendar],
-    tie: Tie,
-    es: u64,
-    ef: u64,
-) -> Result<u64, ClockError>
-    requires { SheetRead sheet.now contents × Places sheet.now contents calendars.now × (dn tie.lag < 2 ^ 63) }
-    ensures { result ≡ forward_bound (plan_of sheet.now contents) (as_tie tie) es ef }
+pub fn forward_bound(plan: &PlanSheet, tie: Tie, es: u64, ef: u64) -> Result<u64, ClockError>
+    requires { dn tie.lag < 2 ^ 63 }
+    ensures { result ≡ forward_bound (plan_in plan.now.sheet) (as_tie tie) es ef }
 {
     let kind = tie.kind;
     let source = source_of(kind, es, ef);
-    let t = dates::shifted(sheet, contents, calendars, tie.calendar, source, tie.lag)?;
-    let origin = dates::origin_of(sheet, contents);
+    let t = dates::shifted(plan, tie.calendar, source, tie.lag)?;
+    let origin = dates::origin_of(&plan.sheet);
     placing::bounded(origin, t)
 }
 
 // The bound of the kept link in row `k`: its predecessor's start as recorded once begun.
-pub fn link_bound(
-    sheet: &[u8],
-    contents: Contents,
-    calendars: &[PlanCalendar],
-    t: usize,
-    tables: &Tables,
-    k: usize,
-) -> Result<u64, ClockError>
-    requires { Ready sheet.now contents calendars.now t tables.now × Recorded (plan_of sheet.now contents) (state tables.now) × (k < t) }
-    ensures { result ≡ link_bound (plan_of sheet.now contents) (early_in (plan_of sheet.now contents) (state tables.now)) k }
+pub fn link_bound(plan: &PlanSheet, tables: &Tables, k: usize) -> Result<u64, ClockError>
+    requires { Ready plan.now tables.now × Recorded (plan_in plan.now.sheet) (state tables.now) × (k < tables.now.kept) }
+    ensures { result ≡ link_bound (plan_in plan.now.sheet) (early_in (plan_in plan.now.sheet) (state tables.now)) k }
 {
     let tie = dates::tie_at(tables, k);
     let from = tie.from;
@@ -92,5 +75,5 @@ pub fn link_bound(
     let early = tables.act(from, memory::fields::EARLY_START);
     let es = dates::begun_at(recorded, early);
     let ef = tables.act(from, memory::fields::EARLY_FINISH);
-    forward_bound(sheet, contents, calendars, tie, es, ef)
+    forward_bound(plan, tie, es, ef)
 }

@@ -145,7 +145,7 @@ impl<'a> Exceptions<'a> {
     }
 
     // The first record whose day is `d` or later, where `to` is the first whose day is after `d`.
-    // It mirrors `first_after`: one function with the direction as an argument would be no plainer.
+    // It mirrors `first_after`: the range, the test and the answer differ, so one function would take all three and be no plainer.
     fn first_back(&self, d: u64, to: usize) -> usize
         requires { FirstOf self.now (d + 1) to }
         ensures { FirstOf self.now d result }
@@ -172,7 +172,7 @@ impl<'a> Exceptions<'a> {
     }
 
     // The hours of day `d`, whose weekday's row is in hand, and the first record whose day is after `d`; so a walk back searches no day anew.
-    // It mirrors `hours_from`, as `first_back` does `first_after`: one function with the direction as an argument would be no plainer.
+    // It mirrors `hours_from`, as `first_back` does `first_after`: one function would take the search and both ends, and be no plainer.
     pub fn hours_to(&self, row: [Period; 8], d: u64, to: usize) -> Hours
         requires { FirstOf self.now (d + 1) to }
         ensures { InHandOf row self.now d result × (result.n ≤ to) × FirstOf self.now d (to - result.n) }

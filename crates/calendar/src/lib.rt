@@ -2,6 +2,7 @@
 #![tactic(auto)]
 
 ghost use Rattle.std.specs.Prelude.{◌≡◌, List, ℕ, ◌+◌, ◌-◌, ◌*◌, ◌^◌, min, max, ◌≤◌, ◌<◌, length, get_or};
+ghost use Rattle.number.specs.Bytes.{u16_at};
 ghost use Rattle.calendar.specs.Hours.{none, rank, select, next_in, works, Ordered};
 ghost use Rattle.calendar.specs.Records.{week_periods, week_period_at, pad, week_of, round_the_clock, weekly_hours, exception_day, exception_period, record_periods, periods_of, Within};
 ghost use Rattle.calendar.specs.Value.{hours_of};
@@ -32,15 +33,23 @@ pub struct Hours {
     pub n: usize,
 }
 
+// The period whose two numbers begin at a place.
+fn read_period(sheet: &[u8], at: usize) -> Period
+    requires { at + 4 ≤ length sheet.now }
+    ensures { (result.from ≡ u16_at sheet.now at) × (result.to ≡ u16_at sheet.now (at + 2)) }
+{
+    Period {
+        from: number::read_u16(sheet, at),
+        to: number::read_u16(sheet, at + 2),
+    }
+}
+
 // The period of W record `i`.
 pub fn week_period(sheet: &[u8], at: usize, i: usize) -> Period
     requires { at + 6 * i + 6 ≤ length sheet.now }
     ensures { result ≡ week_period_at sheet.now at i }
 {
-    Period {
-        from: number::read_u16(sheet, at + 6 * i + 2),
-        to: number::read_u16(sheet, at + 6 * i + 4),
-    }
+    read_period(sheet, at + 6 * i + 2)
 }
 
 // The week of the `n` W records from `at` on, a row for each weekday: each record goes to the end of its weekday's row.
@@ -91,10 +100,7 @@ pub fn exception_period(sheet: &[u8], at: usize, i: usize) -> Period
     requires { at + 9 * i + 9 ≤ length sheet.now }
     ensures { result ≡ exception_period sheet.now at i }
 {
-    Period {
-        from: number::read_u16(sheet, at + 9 * i + 5),
-        to: number::read_u16(sheet, at + 9 * i + 7),
-    }
+    read_period(sheet, at + 9 * i + 5)
 }
 
 // The hours of day `d`.
@@ -243,7 +249,7 @@ pub fn row_work(row: [Period; 8]) -> u16
 }
 
 // How many minutes of the day are worked before its minute `m`.
-#[tactic(auto, using(crate::specs::HoursLaws::rank_none, crate::specs::HoursLaws::rank_top), unfolding(crate::specs::Records::periods_of))]
+#[tactic(auto, using(crate::specs::HoursLaws::rank_top), unfolding(crate::specs::Records::periods_of))]
 pub fn day_rank(hours: Hours, sheet: &[u8], m: u64) -> u64
     requires { Within hours sheet.now × Ordered 0 (periods_of hours sheet.now) }
     ensures { (result ≡ rank (periods_of hours sheet.now) m) × (result ≤ 1440) }

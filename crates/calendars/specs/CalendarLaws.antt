@@ -1,6 +1,6 @@
 -- Each calendar of a sheet that was read is valid, and works the minutes that the plan says.
-use Rattle.std.specs.Prelude.{◌≡◌, List, ℕ, ◌+◌, ◌≤◌, ◌<◌, ltb, min, get_or}
-use Rattle.std.proofs.Common.{⊎_elim, arith, lt-ltb, le-ltb, sym, ap, subst, ◌∙◌}
+use Rattle.std.specs.Prelude.{◌≡◌, List, ℕ, ◌≤◌, ◌<◌, ltb, min, get_or}
+use Rattle.std.proofs.Common.{⊎_elim, arith, lt-ltb, le-ltb, sym, ap, subst, refl, ◌∙◌}
 use Rattle.number.specs.Order.{lt_or_le}
 use Rattle.worktime.specs.Reads.{on_true, on_false}
 use Rattle.calendar.specs.declared.Period.{Period}
@@ -10,13 +10,14 @@ use Rattle.calendar.specs.Records.{Valid, round_the_clock}
 use Rattle.clock.specs.On.{worked_on, worked_by}
 use Rattle.calendar.specs.ValidLaws.{clock_valid}
 use Rattle.sheet.specs.declared.Contents.{Contents}
+use Rattle.sheet.specs.declared.value.Sheet.{Sheet}
 use Rattle.sheet.specs.Known.{SheetRead}
 use Rattle.sheet.specs.Places.{week_at, calendar_at, exceptions_at, exception_count}
 use Rattle.project.specs.declared.Activity.{Activity}
 use Rattle.order.specs.Ties.{calendar_of}
-use Rattle.order.specs.Plan.{plan_of, week_of_calendar, exception_place, exception_number, hours_of_calendar}
+use Rattle.order.specs.Plan.{plan_of, plan_in, week_of_calendar, exception_place, exception_number, hours_of_calendar}
 use Rattle.calendars.specs.declared.plan_calendar.PlanCalendar.{PlanCalendar}
-use Rattle.calendars.specs.Calendars.{IsCalendar, InPlan, Places, no_row}
+use Rattle.calendars.specs.Calendars.{IsCalendar, InPlan, Own, Places, no_row}
 
 module _ (s : List ℕ) (c : Contents) where
   -- a calendar that the sheet names
@@ -79,11 +80,16 @@ in_row {s} {c} {calendars} P k =
     } in
     rw e f) (lt_or_le k c.calendars)
 
-module _ {s : List ℕ} {c : Contents} {k : ℕ} {calendar : Calendar} (C : InPlan s c k calendar) where
+module _ {sheet : Sheet} {k : ℕ} {calendar : Calendar} (C : InPlan sheet k calendar) where
   -- the same of a calendar as the clock takes it
-  pub in_plan_worked : worked_by calendar ≡ worked ((plan_of s c).hours k)
+  pub in_plan_worked : worked_by calendar ≡ worked ((plan_in sheet).hours k)
   in_plan_worked = rw C.sheet_is (calendar_worked C.is)
 
   -- the calendar of an activity in hand
-  pub in_plan_own : (i : ℕ) {activity : Activity} → activity ≡ (plan_of s c).activity i → k ≡ activity.calendar → InPlan s c (calendar_of (plan_of s c) i) calendar
-  in_plan_own i e f = subst (λ (j : ℕ). InPlan s c j calendar) (f ∙ ap (λ (x : Activity). x.calendar) e) C
+  pub in_plan_own : (i : ℕ) {activity : Activity} → activity ≡ (plan_in sheet).activity i → k ≡ activity.calendar → InPlan sheet (calendar_of (plan_in sheet) i) calendar
+  in_plan_own i e f = subst (λ (j : ℕ). InPlan sheet j calendar) (f ∙ ap (λ (x : Activity). x.calendar) e) C
+
+-- an activity that was read, and the calendar of the number that it gives
+pub own_is : {sheet : Sheet} {i : ℕ} {activity : Activity} {calendar : Calendar} → activity ≡ (plan_in sheet).activity i → InPlan sheet activity.calendar calendar
+    → Own sheet i activity calendar
+own_is {sheet} {i} e C = record { is = e; in_plan = in_plan_own C i e refl }

@@ -2,8 +2,11 @@
 use Rattle.std.specs.Prelude.{◌≡◌, Bool, true, false, List, [], ℕ, ◌+◌, ◌≤◌, ◌<◌, length, get_or}
 use Rattle.calendar.specs.declared.Period.{Period}
 use Rattle.calendar.specs.declared.value.Calendar.{Calendar}
+use Rattle.project.specs.declared.Activity.{Activity}
 use Rattle.sheet.specs.declared.Contents.{Contents}
-use Rattle.order.specs.Plan.{Plan, week_of_calendar, exception_place, exception_number}
+use Rattle.sheet.specs.declared.value.Sheet.{Sheet}
+use Rattle.order.specs.Plan.{Plan, plan_in, week_of_calendar, exception_place, exception_number}
+use Rattle.order.specs.Ties.{calendar_of}
 use Rattle.order.specs.Checks.{Verdict, refuse, fine}
 use Rattle.calendars.specs.declared.plan_calendar.PlanCalendar.{PlanCalendar}
 
@@ -14,9 +17,14 @@ pub record IsCalendar (s : List ℕ) (c : Contents) (k : ℕ) (week : List (List
   pub n_is : n ≡ exception_number s c k
 
 -- a calendar as the clock takes it is calendar k of the plan
-pub record InPlan (s : List ℕ) (c : Contents) (k : ℕ) (calendar : Calendar) : Type 0 where
-  pub is : IsCalendar s c k calendar.week.now calendar.exceptions.at calendar.exceptions.n
-  pub sheet_is : calendar.exceptions.sheet.now ≡ s
+pub record InPlan (sheet : Sheet) (k : ℕ) (calendar : Calendar) : Type 0 where
+  pub is : IsCalendar sheet.bytes.now sheet.contents k calendar.week.now calendar.exceptions.at calendar.exceptions.n
+  pub sheet_is : calendar.exceptions.sheet.now ≡ sheet.bytes.now
+
+-- an activity in hand is activity i of the plan, and a calendar in hand its OWN
+pub record Own (sheet : Sheet) (i : ℕ) (activity : Activity) (calendar : Calendar) : Type 0 where
+  pub is : activity ≡ (plan_in sheet).activity i
+  pub in_plan : InPlan sheet (calendar_of (plan_in sheet) i) calendar
 
 -- row 5 by whether all calendars have weekly hours
 abbrev pub hours_verdict : Bool → Verdict

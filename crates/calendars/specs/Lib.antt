@@ -1,6 +1,7 @@
 -- The plan's calendars as values, and the tables that are lent for them.
 pub mod Packed
 pub mod PackedLaws
+pub mod Props
 pub mod Calendars
 pub mod CalendarLaws
 pub mod Tables

@@ -1,19 +1,18 @@
 // The plan's calendars: a table of their weeks, where their E records stand and their day lengths, made once a call; and each as the clock takes it.
 #![tactic(auto)]
 
-ghost use Rattle.std.specs.Prelude.{◌≡◌, ◌≤◌};
+ghost use Rattle.std.specs.Prelude.{◌≡◌, ◌≤◌, pos, ◌*ℤ◌};
 ghost use Rattle.calendar.specs.Records.{round_the_clock};
-ghost use Rattle.sheet.specs.Known.{SheetRead};
-ghost use Rattle.order.specs.Plan.{plan_of};
-ghost use Rattle.order.specs.Checks.{first_of, judge_calendar};
-ghost use Rattle.calendars.specs.Calendars.{Places, Lengths, InPlan, hours_verdict};
+ghost use Rattle.order.specs.Plan.{plan_in};
+ghost use Rattle.calendars.specs.Calendars.{Places, Lengths};
 
-use calendar::Calendar;
-use sheet::Contents;
+use sheet::Sheet;
 
 mod plan_calendar;
+mod plan_sheet;
 
 pub use plan_calendar::PlanCalendar;
+pub use plan_sheet::PlanSheet;
 
 // The table has a row for each calendar that a sheet may have, and one for the round-the-clock calendar.
 const ROWS: usize = 16;
@@ -31,48 +30,28 @@ fn round_the_clock() -> PlanCalendar
 }
 
 // The table: the calendars of the sheet in their order, and then the round-the-clock one.
-pub fn locate(sheet: &[u8], contents: Contents) -> [PlanCalendar; ROWS]
-    requires { SheetRead sheet.now contents }
-    ensures { Places sheet.now contents result × Lengths (plan_of sheet.now contents) result }
+pub fn locate(sheet: &Sheet) -> [PlanCalendar; ROWS]
+    ensures { Places sheet.now.bytes.now sheet.now.contents result × Lengths (plan_in sheet.now) result }
 {
     let mut calendars = [round_the_clock(); ROWS];
     let mut at: usize = 21;
-    for k in 0..contents.calendars {
-        let place = sheet::calendar(sheet, at);
+    for k in 0..sheet.contents.calendars {
+        let place = sheet::calendar(sheet.bytes, at);
         calendars[k] = PlanCalendar {
-            week: calendar::read_week(sheet, at + 3, place.weeks),
+            week: calendar::read_week(sheet.bytes, at + 3, place.weeks),
             at: place.at,
             n: place.exceptions,
-            day_length: project::records::read_day_length(sheet, at),
+            day_length: project::records::read_day_length(sheet.bytes, at),
         };
         at = place.next;
     }
     calendars
 }
 
-// Calendar `k` as the clock takes it; every number from the sheet's calendars on names the round-the-clock one.
-pub fn calendar_of<'a>(
-    sheet: &'a [u8],
-    contents: Contents,
-    calendars: &'a [PlanCalendar],
-    k: usize,
-) -> Calendar<'a>
-    requires { SheetRead sheet.now contents × Places sheet.now contents calendars.now }
-    ensures { InPlan sheet.now contents k result }
+// So many days of `day_length` minutes.
+pub fn days_in_minutes(days: i32, day_length: u64) -> i64
+    requires { day_length ≤ 1440 }
+    ensures { result ≡ days *ℤ pos day_length }
 {
-    let row = &calendars[k.min(contents.calendars)];
-    Calendar::new(&row.week, sheet, row.at, row.n)
-}
-
-// Row 5 for all calendars: whether each has weekly hours.
-pub fn have_hours(sheet: &[u8], contents: Contents, calendars: &[PlanCalendar]) -> bool
-    requires { SheetRead sheet.now contents × Places sheet.now contents calendars.now }
-    ensures { hours_verdict result ≡ first_of (judge_calendar (plan_of sheet.now contents)) contents.calendars 0 }
-{
-    for k in 0..contents.calendars {
-        if !calendar::has_hours(calendars[k].week) {
-            return false;
-        }
-    }
-    true
+    i64::from(days) * day_length as i64
 }

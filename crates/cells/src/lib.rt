@@ -1,5 +1,5 @@
 // Lent memory: cells of a slice of i64, each read and written as a natural number or as itself.
-// The two ways are functions of their own, here and in `memory`: their contracts cite different definitions, and a type parameter for the way would have to be named at each call.
+// The two ways are functions of their own, here and in `memory`: their contracts cite different definitions, and a trait for the two would be longer than their one-line bodies.
 #![tactic(auto)]
 
 ghost use Rattle.std.specs.Prelude.{◌≡◌, ℕ, ◌+◌, ◌^◌, ◌≤◌, ◌<◌, pos, length, replicate};

@@ -3,15 +3,14 @@
 #![tactic(auto)]
 
 ghost use Rattle.std.specs.Prelude.{◌+◌, ◌*◌, ◌≤◌, max, length};
-ghost use Rattle.sheet.specs.Known.{SheetRead};
-ghost use Rattle.order.specs.Plan.{plan_of};
-ghost use Rattle.calendars.specs.Calendars.{Places, Lengths};
+ghost use Rattle.order.specs.Plan.{plan_in};
+ghost use Rattle.calendars.specs.Calendars.{Lengths};
 
-use calendars::PlanCalendar;
+use calendars::PlanSheet;
 use checks::PlanCounts;
 use memory::Tables;
 use order::PlanError;
-use sheet::Contents;
+use sheet::Sheet;
 use std::{fs, io};
 
 // Where the first 0 stands, or the end.
@@ -82,32 +81,33 @@ fn print_refused(rt: &impl Print, names: &[u32], work: &[i64], error: PlanError)
 // Checks a plan with lent names and memory, whatever they hold.
 fn check_lent(
     rt: &impl Print,
-    sheet: &[u8],
-    contents: Contents,
-    calendars: &[PlanCalendar],
+    plan: &PlanSheet,
     names: &mut [u32],
     work: &mut [i64],
 ) -> io::Result<()>
-    requires { SheetRead sheet.now contents × Places sheet.now contents calendars.now × Lengths (plan_of sheet.now contents) calendars.now × (max (contents.activities + 1) contents.links ≤ length names.old) × (64 * contents.activities + 16 * contents.links ≤ length work.old) }
+    requires { Lengths (plan_in plan.now.sheet) plan.now.calendars.now × (max (plan.now.sheet.contents.activities + 1) plan.now.sheet.contents.links ≤ length names.old) × (64 * plan.now.sheet.contents.activities + 16 * plan.now.sheet.contents.links ≤ length work.old) }
 {
-    let mut tables = Tables::of(work, contents.activities, contents.links);
-    match checks::check_plan(sheet, contents, calendars, names, &mut tables) {
+    let mut tables = Tables::of(
+        work,
+        plan.sheet.contents.activities,
+        plan.sheet.contents.links,
+    );
+    match checks::check_plan(plan, names, &mut tables) {
         Ok(counts) => print_fine(rt, names, counts),
         Err(error) => print_refused(rt, names, work, error),
     }
 }
 
 // Lends what `check_lent` needs: names and memory that are not zeros, for 64 activities and 128 links.
-fn check_read(rt: &impl Print, sheet: &[u8], contents: Contents) -> io::Result<()>
-    requires { SheetRead sheet.now contents }
-{
-    if contents.activities > 64 || contents.links > 128 {
+fn check_read(rt: &impl Print, sheet: &Sheet) -> io::Result<()> {
+    if sheet.contents.activities > 64 || sheet.contents.links > 128 {
         return print!(rt; " no room");
     }
-    let calendars = calendars::locate(sheet, contents);
+    let calendars = calendars::locate(sheet);
+    let plan = PlanSheet::new(*sheet, &calendars);
     let mut names = [7u32; 128];
     let mut work = [7i64; 6144];
-    check_lent(rt, sheet, contents, &calendars, &mut names, &mut work)
+    check_lent(rt, &plan, &mut names, &mut work)
 }
 
 // The line of a sheet.
@@ -115,7 +115,7 @@ fn answer(rt: &impl Print, index: u64, sheet: &[u8]) -> io::Result<()> {
     print!(rt; "{index}")?;
     match sheet::read(sheet) {
         Ok(contents) => {
-            check_read(rt, sheet, contents)?;
+            check_read(rt, &Sheet::new(sheet, contents))?;
         }
         Err(e) => {
             let number = e.number();
@@ -125,22 +125,18 @@ fn answer(rt: &impl Print, index: u64, sheet: &[u8]) -> io::Result<()> {
     println!(rt)
 }
 
-// The lines of all sheets of the file. A sheet stands after its length, so a `while` goes from one to the next: an iterator would be the same loop and its type.
+// The lines of all sheets of the file.
 fn answer_all(rt: &impl Print, file: &[u8]) -> io::Result<()> {
-    let mut at: usize = 0;
+    let mut rest = file;
     let mut index: u64 = 0;
-    while at < file.len() {
-        if file.len() - at < 2 {
+    // A sheet stands after its length, so each tells where the next begins: an iterator would be the same loop and its type.
+    while 2 <= rest.len() {
+        let end = 2 + number::read_u16(rest, 0) as usize;
+        if rest.len() < end {
             break;
         }
-        let from = at + 2;
-        let size = number::read_u16(file, at) as usize;
-        if file.len() - from < size {
-            break;
-        }
-        let end = from + size;
-        answer(rt, index, &file[from..end])?;
-        at = end;
+        answer(rt, index, &rest[2..end])?;
+        rest = &rest[end..];
         index += 1;
     }
     Ok(())

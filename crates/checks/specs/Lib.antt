@@ -14,3 +14,4 @@ pub mod StageLaws
 pub mod IdsSteps
 pub mod LinksSteps
 pub mod PlanSteps
+pub mod OpenCount

@@ -3,8 +3,7 @@ use Rattle.std.specs.Prelude.{◌≡◌, List, ◌++◌, ℕ, ◌-◌, pos, leng
 use Rattle.memory.specs.State.{State}
 use Rattle.memory.specs.Seen.{state}
 use Rattle.memory.specs.declared.Tables.{Tables}
-use Rattle.sheet.specs.declared.Contents.{Contents}
-use Rattle.order.specs.Plan.{Plan, plan_of}
+use Rattle.order.specs.Plan.{Plan, plan_in}
 use Rattle.order.specs.Ties.{ignored_links, open_ends}
 use Rattle.order.specs.Checks.{Verdict, or_else, judge_order, checked}
 use Rattle.order.specs.CheckLaws.{calendars_first, activities_first, parents_first, summaries_first, links_first}
@@ -15,11 +14,11 @@ use Rattle.order.specs.FineLaws.{ActivitiesFine, ParentsKnown}
 use Rattle.ids.specs.Index.{Indexed}
 use Rattle.ids.specs.Parented.{Parented}
 use Rattle.ids.specs.Answers.{Answered}
-use Rattle.calendars.specs.declared.plan_calendar.PlanCalendar.{PlanCalendar}
 use Rattle.dates.specs.Standing.{Standing, Ready}
 use Rattle.checks.specs.declared.PlanCounts.{PlanCounts}
 use Rattle.checks.specs.Names.{then_zeros}
 use Rattle.checks.specs.Elsewhere.{Elsewhere}
+use Rattle.calendars.specs.declared.plan_sheet.PlanSheet.{PlanSheet}
 
 -- ---- the verdicts of the parts
 module _ (p : Plan) where
@@ -52,6 +51,7 @@ module _ (p : Plan) (v : Verdict) (size room : ℕ) (names : List ℕ) (tables :
   pub record FineAs (c : PlanCounts) : Type 0 where
     pub fine : v.number ≡ 0
     pub standing : Standing p c.kept (state tables)
+    pub kept : tables.kept ≡ c.kept
     pub elsewhere : Elsewhere c.kept tables
     pub named : names ≡ ignored_links p ++ replicate (size - length (ignored_links p)) 0
     pub ignored : c.ignored ≡ length (ignored_links p)
@@ -68,19 +68,20 @@ module _ (p : Plan) (v : Verdict) (size room : ℕ) (names : List ℕ) (tables :
   Judged (Err e) = RefusedAs e
 
 -- ---- all of them: names and memory before and after
-module _ (s : List ℕ) (contents : Contents) (calendars : List PlanCalendar) (names : List ℕ) (tables : Tables) (names' : List ℕ) (tables' : Tables) where
+module _ (plan : PlanSheet) (names : List ℕ) (tables : Tables) (names' : List ℕ) (tables' : Tables) where
   pub record PlanFine (c : PlanCounts) : Type 0 where
-    pub fine : (checked (plan_of s contents)).number ≡ 0
-    pub ready : Ready s contents calendars c.kept tables'
+    pub fine : (checked (plan_in plan.sheet)).number ≡ 0
+    pub ready : Ready plan tables'
+    pub kept : tables'.kept ≡ c.kept
     pub elsewhere : Elsewhere c.kept tables'
-    pub named : names' ≡ then_zeros (ignored_links (plan_of s contents)) names
-    pub ignored : c.ignored ≡ length (ignored_links (plan_of s contents))
-    pub ends : c.open_ends ≡ open_ends (plan_of s contents)
+    pub named : names' ≡ then_zeros (ignored_links (plan_in plan.sheet)) names
+    pub ignored : c.ignored ≡ length (ignored_links (plan_in plan.sheet))
+    pub ends : c.open_ends ≡ open_ends (plan_in plan.sheet)
 
   pub record PlanRefused (e : PlanError) : Type 0 where
-    pub number_is : plan_number e ≡ (checked (plan_of s contents)).number
-    pub id_is : plan_id e ≡ (checked (plan_of s contents)).id
-    pub named : names' ≡ then_zeros (checked (plan_of s contents)).loop names
+    pub number_is : plan_number e ≡ (checked (plan_in plan.sheet)).number
+    pub id_is : plan_id e ≡ (checked (plan_in plan.sheet)).id
+    pub named : names' ≡ then_zeros (checked (plan_in plan.sheet)).loop names
     pub cleared : tables'.cells.now ≡ replicate (length tables.cells.now) (pos 0)
 
   abbrev pub PlanChecked : Result PlanCounts PlanError → Type 0

@@ -1,16 +1,15 @@
 -- Where a walk back ends: within an E record, on a day without one, or before the years that may be read.
-use Rattle.std.specs.Prelude.{◌≡◌, refl, Bool, true, List, [], ℕ, ◌+◌, ◌-◌, ◌*◌, ◌/◌, ◌%◌, ◌≤◌, ◌<◌, get_or, Ok, Err}
+use Rattle.std.specs.Prelude.{◌≡◌, refl, true, List, [], ℕ, ◌+◌, ◌-◌, ◌*◌, ◌%◌, ◌≤◌, ◌<◌, get_or, Ok, Err}
 use Rattle.worktime.specs.declared.ClockError.TheVariants.{TooLong}
-use Rattle.std.proofs.Common.{sym, ap, ◌∙◌, ⊎_elim, arith, mul-le-mul_right}
+use Rattle.std.proofs.Common.{sym, ⊎_elim, arith}
 use Rattle.number.specs.Order.{lt_or_le}
 use Rattle.date.specs.Years.{first_day}
 use Rattle.calendar.specs.declared.Period.{Period}
 use Rattle.calendar.specs.Hours.{select}
 use Rattle.calendar.specs.Records.{exception_day, exception_period, hours_on, Valid}
-use Rattle.calendar.specs.DayLaws.{hours_week}
 use Rattle.worktime.specs.Worked.{count}
 use Rattle.worktime.specs.Walks.{first_minute, end_minute, retreat}
-use Rattle.worktime.specs.Count.{count_mono, count_lt, count_le, reach, start_le}
+use Rattle.worktime.specs.Count.{count_mono}
 use Rattle.worktime.proofs.Shift.{retreat_at, retreat_none}
 use Rattle.clock.specs.On.{worked_on}
 use Rattle.clock.specs.Days.{hand_select}

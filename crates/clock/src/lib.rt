@@ -15,6 +15,8 @@ use worktime::ClockError;
 mod records;
 mod weeks;
 
+use weeks::WeekSums;
+
 const FIRST_DAY: u64 = 2143112061;
 
 const LAST_DAY: u64 = 2150416544;
@@ -141,8 +143,8 @@ fn advance_from(calendar: &Calendar, d: u64, from: usize, work: u64) -> Result<u
     requires { FirstOf calendar.now.exceptions d from × (first_day ≤ d) × (d < end_day) × (0 < work) × (work < 2 ^ 47) }
     ensures { result ≡ advance (worked_by calendar.now) (d * 1440) work }
 {
-    let sums = weeks::sums_of(*calendar.week);
-    let stand = records::ahead(sums, &calendar.exceptions, d, from, work);
+    let sums = WeekSums::of(calendar.week);
+    let stand = records::ahead(&sums, &calendar.exceptions, d, from, work);
     let j = stand.at;
     if j < calendar.exceptions.n {
         if stand.start < work {
@@ -154,17 +156,17 @@ fn advance_from(calendar: &Calendar, d: u64, from: usize, work: u64) -> Result<u
             return Ok(day * 1440 + period.from as u64 + (work - stand.start));
         }
     }
-    if sums[7] == 0 {
+    if sums.entries[7] == 0 {
         return Err(ClockError::TooLong);
     }
     let p = stand.over + (work - stand.passed) - 1;
-    let next = weeks::day_after(sums, p);
+    let next = sums.day_after(p);
     if LAST_DAY + 1 < next {
         return Err(ClockError::TooLong);
     }
     let k = (next % 7) as usize;
     let row = calendar.week[k];
-    let before = sums[7] * (next / 7) + sums[k];
+    let before = sums.entries[7] * (next / 7) + sums.entries[k];
     Ok((next - 1) * 1440 + calendar::row_select(row, p - before + 1))
 }
 
@@ -197,8 +199,8 @@ fn retreat_from(calendar: &Calendar, d: u64, from: usize, work: u64) -> Result<u
     requires { FirstOf calendar.now.exceptions d from × (first_day ≤ d) × (d < end_day) × (0 < work) × (work < 2 ^ 47) }
     ensures { result ≡ retreat (worked_by calendar.now) (d * 1440) work }
 {
-    let sums = weeks::sums_of(*calendar.week);
-    let stand = records::back(sums, &calendar.exceptions, d, from, work);
+    let sums = WeekSums::of(calendar.week);
+    let stand = records::back(&sums, &calendar.exceptions, d, from, work);
     let j = stand.at;
     if 0 < j {
         if stand.start < work {
@@ -216,13 +218,13 @@ fn retreat_from(calendar: &Calendar, d: u64, from: usize, work: u64) -> Result<u
         return Err(ClockError::TooLong);
     }
     let p = stand.over - rest;
-    let next = weeks::day_after(sums, p);
+    let next = sums.day_after(p);
     if next <= FIRST_DAY {
         return Err(ClockError::TooLong);
     }
     let k = (next % 7) as usize;
     let row = calendar.week[k];
-    let before = sums[7] * (next / 7) + sums[k];
+    let before = sums.entries[7] * (next / 7) + sums.entries[k];
     Ok((next - 1) * 1440 + calendar::row_select(row, p - before + 1) - 1)
 }
 
@@ -311,8 +313,8 @@ fn days_work(calendar: &Calendar, d: u64, e: u64, from: usize) -> Days
     requires { (d ≤ e) × (e < 4294967296) × FirstOf calendar.now.exceptions d from }
     ensures { (count (worked_by calendar.now) (d * 1440) + result.minutes ≡ count (worked_by calendar.now) (e * 1440)) × (result.minutes ≤ 6184752906240) × FirstOf calendar.now.exceptions e result.to }
 {
-    let sums = weeks::sums_of(*calendar.week);
-    let mut sum = weeks::regular_work(sums, d, e);
+    let sums = WeekSums::of(calendar.week);
+    let mut sum = sums.regular_work(d, e);
     let mut next = d;
     for j in from..calendar.exceptions.n {
         let day = calendar.exceptions.day(j);
@@ -323,7 +325,7 @@ fn days_work(calendar: &Calendar, d: u64, e: u64, from: usize) -> Days
             };
         }
         let k = ((day + 1) % 7) as usize;
-        let regular = sums[k + 1] - sums[k];
+        let regular = sums.entries[k + 1] - sums.entries[k];
         // The first record of a day takes out what the sum has of it by its weekday; for a further one that stays out.
         let out = if next <= day { 0 } else { regular };
         sum = sum + calendar.exceptions.work(j) + out - regular;

@@ -1,30 +1,27 @@
 -- What a pass leaves of what stands: under its frame the plan is ready, recorded work is recorded, and the dates of other fields are the same.
-use Rattle.std.specs.Prelude.{◌≡◌, true, List, ℕ, ◌≤◌, ℤ, length, Ok}
-use Rattle.std.proofs.Common.{◌∙◌, arith}
+use Rattle.std.specs.Prelude.{◌≡◌, true, ℕ, ◌≤◌, Ok}
+use Rattle.std.proofs.Common.{sym, subst, ◌∙◌}
 use Rattle.memory.specs.State.{State}
 use Rattle.memory.specs.declared.Tables.{Tables}
 use Rattle.memory.specs.Seen.{state, SameSlice}
 use Rattle.memory.specs.Fields.{late_start, late_finish, early_start, early_finish, work_left, free_float, recorded_as, recorded_start, recorded_finish}
 use Rattle.topology.specs.Frame.{outside, Frame}
-use Rattle.sheet.specs.declared.Contents.{Contents}
-use Rattle.order.specs.Plan.{Plan, plan_of}
+use Rattle.order.specs.Plan.{Plan, plan_in}
 use Rattle.passes.specs.Plan.{origin}
-use Rattle.calendars.specs.declared.plan_calendar.PlanCalendar.{PlanCalendar}
 use Rattle.dates.specs.Columns.{early_in, late_in, free_in}
 use Rattle.dates.specs.ColumnLaws.{column_same}
-use Rattle.dates.specs.Standing.{actual_of, Ready, Recorded}
+use Rattle.dates.specs.Standing.{actual_of, Standing, Ready, Recorded}
 use Rattle.dates.specs.StandingLaws.{standing_kept}
+use Rattle.calendars.specs.declared.plan_sheet.PlanSheet.{PlanSheet}
 
-pub ready_kept : {lo hi : ℕ} {s : List ℕ} {c : Contents} {calendars : List PlanCalendar} {t : ℕ} {tables tables' : Tables} → Ready s c calendars t tables
+pub ready_kept : {lo hi : ℕ} {plan : PlanSheet} {tables tables' : Tables} → Ready plan tables
     → Frame lo hi 0 0 (state tables) (state tables') → SameSlice tables tables' → 10 ≤ lo
-    → Ready s c calendars t tables'
-ready_kept {lo} {hi} {s} {c} R F e l = record {
-  read = R.read;
+    → Ready plan tables'
+ready_kept {lo} {hi} {plan} {tables} R F e l = record {
   activities = e.activities ∙ R.activities;
   links = e.links ∙ R.links;
-  located = R.located;
   fine = R.fine;
-  standing = standing_kept F (plan_of s c) l R.standing;
+  standing = standing_kept F (plan_in plan.sheet) l (subst (λ (n : ℕ). Standing (plan_in plan.sheet) n (state tables)) (sym e.kept) R.standing);
 }
 
 -- by the fields that are read; of literals each is `refl`

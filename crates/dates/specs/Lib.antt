@@ -9,3 +9,4 @@ pub mod ThroughLaws
 pub mod ReadLaws
 pub mod Bounds
 pub mod FineLaws
+pub mod StepLaws

@@ -1,5 +1,5 @@
 -- The order as the passes take it: place q of it and of its reverse holds an activity.
-use Rattle.std.specs.Prelude.{◌≡◌, ℕ, suc, ◌+◌, ◌-◌, ◌≤◌, ◌<◌, ℤ, length, get_or}
+use Rattle.std.specs.Prelude.{◌≡◌, ℕ, suc, ◌+◌, ◌-◌, ◌≤◌, ◌<◌, length, get_or}
 use Rattle.std.proofs.Common.{sym, ap, ◌∙◌, ⊎_elim, arith}
 use mathlib.Core.List.{List, [], ◌∷◌, reverse, reverse-cons}
 use Rattle.std.proofs.lemmas.List.{length-reverse, get_or_at}
@@ -9,12 +9,11 @@ use Rattle.memory.specs.State.{State}
 use Rattle.memory.specs.declared.Tables.{Tables}
 use Rattle.memory.specs.Seen.{state}
 use Rattle.memory.specs.Fields.{order_at}
-use Rattle.sheet.specs.declared.Contents.{Contents}
-use Rattle.order.specs.Plan.{Plan, plan_of}
+use Rattle.order.specs.Plan.{Plan, plan_of, plan_in}
 use Rattle.order.specs.Checks.{order, checked}
 use Rattle.order.proofs.LoopLaws.{fine_ordered}
-use Rattle.calendars.specs.declared.plan_calendar.PlanCalendar.{PlanCalendar}
 use Rattle.dates.specs.Standing.{Standing, Ready}
+use Rattle.calendars.specs.declared.plan_sheet.PlanSheet.{PlanSheet}
 
 -- ---- a list backward
 reverse_at : (xs : List ℕ) (q : ℕ) → q < length xs → get_or (reverse xs) q 0 ≡ get_or xs (length xs - (q + 1)) 0
@@ -48,28 +47,28 @@ module _ (p : Plan) (fine : (checked p).number ≡ 0) where
   back_below W q l = at_below W (p.activities - (q + 1)) (omega arith)
 
 -- ---- as it is lent
-module _ {s : List ℕ} {c : Contents} {calendars : List PlanCalendar} {t : ℕ} {xs : Tables} (R : Ready s c calendars t xs) where
-  pub order_length : length (order (plan_of s c)) ≡ c.activities
+module _ {plan : PlanSheet} {xs : Tables} (R : Ready plan xs) where
+  pub order_length : length (order (plan_in plan.sheet)) ≡ plan.sheet.contents.activities
   unfolding plan_of
-  order_length = (fine_ordered (plan_of s c) R.fine).all
+  order_length = (fine_ordered (plan_in plan.sheet) R.fine).all
 
-  pub backward_length : length (reverse (order (plan_of s c))) ≡ c.activities
+  pub backward_length : length (reverse (order (plan_in plan.sheet))) ≡ plan.sheet.contents.activities
   unfolding plan_of
-  backward_length = back_length (plan_of s c) R.fine
+  backward_length = back_length (plan_in plan.sheet) R.fine
 
-  module _ (q : ℕ) (l : q < c.activities) where
-    pub order_at_lem : (state xs).act order_at q ≡ get_or (order (plan_of s c)) q 0
+  module _ (q : ℕ) (l : q < plan.sheet.contents.activities) where
+    pub order_at_lem : (state xs).act order_at q ≡ get_or (order (plan_in plan.sheet)) q 0
     unfolding plan_of
     order_at_lem = R.standing.ordered q l
 
-    pub order_below : (state xs).act order_at q < c.activities
+    pub order_below : (state xs).act order_at q < plan.sheet.contents.activities
     unfolding plan_of
-    order_below = at_below (plan_of s c) R.fine R.standing q l
+    order_below = at_below (plan_in plan.sheet) R.fine R.standing q l
 
-    pub backward_at : (state xs).act order_at (c.activities - (q + 1)) ≡ get_or (reverse (order (plan_of s c))) q 0
+    pub backward_at : (state xs).act order_at (plan.sheet.contents.activities - (q + 1)) ≡ get_or (reverse (order (plan_in plan.sheet))) q 0
     unfolding plan_of
-    backward_at = back_at (plan_of s c) R.fine R.standing q l
+    backward_at = back_at (plan_in plan.sheet) R.fine R.standing q l
 
-    pub backward_below : (state xs).act order_at (c.activities - (q + 1)) < c.activities
+    pub backward_below : (state xs).act order_at (plan.sheet.contents.activities - (q + 1)) < plan.sheet.contents.activities
     unfolding plan_of
-    backward_below = back_below (plan_of s c) R.fine R.standing q l
+    backward_below = back_below (plan_in plan.sheet) R.fine R.standing q l

@@ -1,5 +1,5 @@
 -- What the checks leave in the lent memory for the passes: the kept links and their chains, the order, parents and summaries; and what is recorded of work.
-use Rattle.std.specs.Prelude.{◌≡◌, true, false, List, ℕ, ◌≤◌, ◌<◌, eqb, length, get_or, Ok}
+use Rattle.std.specs.Prelude.{◌≡◌, true, false, ℕ, ◌≤◌, ◌<◌, eqb, length, get_or, Ok}
 use Rattle.number.specs.Bit.{bit}
 use Rattle.project.specs.Records.{relationship_type_of}
 use Rattle.placing.specs.declared.Actual.{Actual}
@@ -9,17 +9,14 @@ use Rattle.memory.specs.declared.Tables.{Tables}
 use Rattle.memory.specs.Seen.{state}
 use Rattle.memory.specs.Fields.{parent, is_summary, order_at, recorded_as, recorded_start, recorded_finish, from_field, to_field, kind_field, lag_field, lag_calendar_field}
 use Rattle.topology.specs.Order.{ChainsIn, ChainsOut}
-use Rattle.sheet.specs.declared.Contents.{Contents}
-use Rattle.sheet.specs.Known.{SheetRead}
-use Rattle.order.specs.Plan.{Plan, plan_of}
+use Rattle.order.specs.Plan.{Plan, plan_in}
 use Rattle.order.specs.Ids.{parent_of, summary}
 use Rattle.order.specs.Ties as ties
 use Rattle.order.specs.Ties.{kept_below}
 use Rattle.order.specs.Checks.{order, checked}
 use Rattle.passes.specs.Plan.{tie, recorded}
-use Rattle.calendars.specs.declared.plan_calendar.PlanCalendar.{PlanCalendar}
-use Rattle.calendars.specs.Calendars.{Places}
 use Rattle.dates.specs.declared.Tie.{Tie}
+use Rattle.calendars.specs.declared.plan_sheet.PlanSheet.{PlanSheet}
 
 -- a link as code carries it
 abbrev pub as_tie : Tie → ties.Tie
@@ -55,13 +52,12 @@ pub record Standing (p : Plan) (t : ℕ) (S : State) : Type 0 where
   pub ordered : (q : ℕ) → q < p.activities → S.act order_at q ≡ get_or (order p) q 0
 
 -- what the passes are lent: a sheet that was read and whose plan the checks accept, its calendars' places, and memory as the checks leave it
-pub record Ready (s : List ℕ) (c : Contents) (calendars : List PlanCalendar) (t : ℕ) (tables : Tables) : Type 0 where
-  pub read : SheetRead s c
-  pub activities : tables.activities ≡ c.activities
-  pub links : tables.links ≡ c.links
-  pub located : Places s c calendars
-  pub fine : (checked (plan_of s c)).number ≡ 0
-  pub standing : Standing (plan_of s c) t (state tables)
+-- a clause, and no struct's field: it relates the tables, which are written, to the sheet
+pub record Ready (plan : PlanSheet) (tables : Tables) : Type 0 where
+  pub activities : tables.activities ≡ plan.sheet.contents.activities
+  pub links : tables.links ≡ plan.sheet.contents.links
+  pub fine : (checked (plan_in plan.sheet)).number ≡ 0
+  pub standing : Standing (plan_in plan.sheet) tables.kept (state tables)
 
 -- fields 17 to 19 of activities
 abbrev pub Recorded : Plan → State → Type 0

@@ -1,5 +1,5 @@
 -- What stands for the passes stays under their frames; the chains list the links of the definitions.
-use Rattle.std.specs.Prelude.{◌≡◌, refl, Bool, true, false, ℕ, ◌-◌, ◌≤◌, ◌<◌, length}
+use Rattle.std.specs.Prelude.{◌≡◌, refl, ℕ, ◌-◌, ◌≤◌, ◌<◌, length}
 use Rattle.std.proofs.Math.Path.{sym, ap}
 use Rattle.std.proofs.Common.{◌∙◌}
 use native.Mathlib.Omega.{arith}
@@ -17,7 +17,7 @@ use Rattle.network.specs.Links.{Link}
 use Rattle.project.specs.Records.{relationship_type_of}
 use Rattle.order.specs.TieLaws.{ends_length, ends_at}
 use Rattle.passes.specs.Plan.{ties_into, ties_out}
-use Rattle.dates.specs.Standing.{tie_in, actual_of, Standing}
+use Rattle.dates.specs.Standing.{tie_in, Standing}
 
 -- ---- under a frame of the dates' fields
 module _ {lo hi : ℕ} {S T : State} (F : Frame lo hi 0 0 S T) where

@@ -6,17 +6,17 @@ ghost use Rattle.number.specs.Zed.{dn};
 ghost use Rattle.calendar.specs.Hours.{worked};
 ghost use Rattle.worktime.specs.Walks.{shift};
 ghost use Rattle.memory.specs.Seen.{state};
-ghost use Rattle.sheet.specs.Known.{SheetRead};
-ghost use Rattle.order.specs.Plan.{Plan, plan_of};
+ghost use Rattle.order.specs.Plan.{Plan, plan_in};
 ghost use Rattle.passes.specs.Plan.{origin, floor, begun};
-ghost use Rattle.calendars.specs.Calendars.{Places};
 ghost use Rattle.dates.specs.Standing.{as_tie, tie_in, actual_in};
 
-use calendars::PlanCalendar;
+pub mod step;
+
+use calendars::PlanSheet;
 use memory::Tables;
 use placing::Actual;
 use project::{Activity, RelationshipType};
-use sheet::Contents;
+use sheet::Sheet;
 use worktime::ClockError;
 
 // A kept link: the activities at its ends, its type, and its lag in minutes of a calendar.
@@ -71,48 +71,39 @@ pub fn begun_at(actual: Actual, es: u64) -> u64
 }
 
 // Activity `i` of the sheet.
-pub fn activity_of(sheet: &[u8], contents: Contents, i: usize) -> Activity
-    requires { SheetRead sheet.now contents × (i < contents.activities) }
-    ensures { result ≡ (plan_of sheet.now contents).activity i }
+pub fn activity_of(sheet: &Sheet, i: usize) -> Activity
+    requires { i < sheet.now.contents.activities }
+    ensures { result ≡ (plan_in sheet.now).activity i }
 {
-    project::records::read_activity(sheet, contents.at + 45 * i)
+    project::records::read_activity(sheet.bytes, sheet.contents.at + 45 * i)
 }
 
 // The first minute of the project's start day.
-pub fn origin_of(sheet: &[u8], contents: Contents) -> u64
-    requires { SheetRead sheet.now contents }
-    ensures { (result ≡ origin (plan_of sheet.now contents)) × (result < 2 ^ 43) }
+pub fn origin_of(sheet: &Sheet) -> u64
+    ensures { (result ≡ origin (plan_in sheet.now)) × (result < 2 ^ 43) }
 {
-    project::fields::read_date(sheet, 1).midnight()
+    project::fields::read_date(sheet.bytes, 1).midnight()
 }
 
 // The later of the start and the data day.
-pub fn floor_of(sheet: &[u8], contents: Contents) -> u64
-    requires { SheetRead sheet.now contents }
-    ensures { (result ≡ floor (plan_of sheet.now contents)) × (result < 2 ^ 43) }
+pub fn floor_of(sheet: &Sheet) -> u64
+    ensures { (result ≡ floor (plan_in sheet.now)) × (result < 2 ^ 43) }
 {
-    let start = origin_of(sheet, contents);
-    match project::fields::read_optional_date(sheet, 5) {
+    let start = origin_of(sheet);
+    match project::fields::read_optional_date(sheet.bytes, 5) {
         Some(d) => start.max(d.midnight()),
         None => start,
     }
 }
 
 // `t` moved by a lag that counts on calendar `k`.
-pub fn shifted(
-    sheet: &[u8],
-    contents: Contents,
-    calendars: &[PlanCalendar],
-    k: usize,
-    t: u64,
-    lag: i64,
-) -> Result<u64, ClockError>
-    requires { SheetRead sheet.now contents × Places sheet.now contents calendars.now × (dn lag < 2 ^ 63) }
-    ensures { result ≡ shift (worked ((plan_of sheet.now contents).hours k)) t lag }
+pub fn shifted(plan: &PlanSheet, k: usize, t: u64, lag: i64) -> Result<u64, ClockError>
+    requires { dn lag < 2 ^ 63 }
+    ensures { result ≡ shift (worked ((plan_in plan.now.sheet).hours k)) t lag }
 {
     if lag == 0 {
         return Ok(t);
     }
-    let calendar = calendars::calendar_of(sheet, contents, calendars, k);
+    let calendar = plan.calendar(k);
     clock::shift(&calendar, t, lag)
 }

@@ -5,8 +5,7 @@
 ghost use Rattle.std.specs.Prelude.{◌≡◌, ℕ, ◌^◌, ◌<◌, max, Ok, Err, Some};
 ghost use Rattle.clock.specs.On.{worked_by};
 ghost use Rattle.placing.specs.Placing.{via};
-ghost use Rattle.sheet.specs.Known.{SheetRead};
-ghost use Rattle.order.specs.Plan.{Plan, plan_of};
+ghost use Rattle.order.specs.Plan.{Plan, plan_in};
 ghost use Rattle.order.specs.Ids.{summary};
 ghost use Rattle.passes.specs.Dates.{Early};
 ghost use Rattle.passes.specs.Forward.{counted, at_early, constrained, levelled, held, resumed, start_by, work_to, minutes_from, placed};
@@ -16,7 +15,7 @@ use calendar::Calendar;
 use date::Date;
 use placing::Actual;
 use project::{Activity, ActivityKind, Constraint, ProgressMode};
-use sheet::Contents;
+use sheet::Sheet;
 use worktime::ClockError;
 
 // What the pass reads of the project.
@@ -290,16 +289,15 @@ pub fn place(
 }
 
 // The times of the project.
-pub fn times_of(sheet: &[u8], contents: Contents) -> Times
-    requires { SheetRead sheet.now contents }
-    ensures { IsTimes (plan_of sheet.now contents) result × (result.origin < 2 ^ 43) × (result.floor < 2 ^ 43) }
+pub fn times_of(sheet: &Sheet) -> Times
+    ensures { IsTimes (plan_in sheet.now) result × (result.origin < 2 ^ 43) × (result.floor < 2 ^ 43) }
 {
-    let project = project::records::read_project(sheet, 0);
+    let project = project::records::read_project(sheet.bytes, 0);
     let data_date = project.data_date;
     let progress_mode = project.progress_mode;
     Times {
-        origin: dates::origin_of(sheet, contents),
-        floor: dates::floor_of(sheet, contents),
+        origin: dates::origin_of(sheet),
+        floor: dates::floor_of(sheet),
         data_date: data_date,
         progress_mode: progress_mode,
     }

@@ -15,14 +15,12 @@ use Rattle.memory.specs.State.{State}
 use Rattle.memory.specs.declared.Tables.{Tables}
 use Rattle.memory.specs.Seen.{state}
 use Rattle.memory.specs.Fields.{first_out, early_start, early_finish, from_field, next_out}
-use Rattle.sheet.specs.declared.Contents.{Contents}
-use Rattle.order.specs.Plan.{Plan, plan_of}
+use Rattle.order.specs.Plan.{Plan, plan_in}
 use Rattle.order.specs.Ties as ties
 use Rattle.passes.specs.Plan.{own, tie, ties_out, recorded, begun}
 use Rattle.passes.specs.Dates.{Early}
 use Rattle.passes.specs.Forward.{forward_bound}
 use Rattle.passes.specs.Floats.{target_of, measured, free_by}
-use Rattle.calendars.specs.declared.plan_calendar.PlanCalendar.{PlanCalendar}
 use Rattle.dates.specs.declared.Tie.{Tie}
 use Rattle.dates.specs.Columns.{early_in}
 use Rattle.dates.specs.Standing.{as_tie, tie_in, actual_in, Ready, Recorded}
@@ -32,6 +30,7 @@ use Rattle.bounds.specs.LinkLaws.{tie_is, to_in}
 use Rattle.floats.specs.Slack.{gap_by, gap_of, slack_step, least_slack, slack_of, From, free_of}
 use Rattle.floats.specs.SlackLaws.{measured_at, measured_refused}
 use Rattle.floats.specs.StoreLaws.{es_at, ef_at}
+use Rattle.calendars.specs.declared.plan_sheet.PlanSheet.{PlanSheet}
 
 -- the end that a link leads to, read by its field
 target_read : (p : Plan) (S : State) (kind : RelationshipType) (j : ℕ)
@@ -41,9 +40,9 @@ target_read p S StartToStart j = refl
 target_read p S FinishToFinish j = refl
 target_read p S StartToFinish j = refl
 
-module _ {s : List ℕ} {c : Contents} {calendars : List PlanCalendar} {t : ℕ} {tables : Tables} (R : Ready s c calendars t tables) where
+module _ {plan : PlanSheet} {tables : Tables} (R : Ready plan tables) where
   abbrev p : Plan
-  p = plan_of s c
+  p = plan_in plan.sheet
 
   abbrev S : State
   S = state tables
@@ -52,13 +51,13 @@ module _ {s : List ℕ} {c : Contents} {calendars : List PlanCalendar} {t : ℕ}
   d = early_in p S
 
   -- ---- one link: w is the minutes that count
-  module _ (k : ℕ) (l : k < t) (τ : Tie) (e : as_tie τ ≡ tie_in S k) (w : ℕ → Bool) (start finish : ℕ) where
+  module _ (k : ℕ) (l : k < tables.kept) (τ : Tie) (e : as_tie τ ≡ tie_in S k) (w : ℕ → Bool) (start finish : ℕ) where
     abbrev gap_to : Result ℤ ClockError
     gap_to = gap_by p w (tie p k) start finish (d.es (tie p k).to) (d.ef (tie p k).to)
 
     by_tie : gap_by p w (as_tie τ) start finish (S.act early_start τ.to) (S.act early_finish τ.to) ≡ gap_to
     by_tie =
-        let b : τ.to < p.activities = omega (arith, to_in R k l τ e, activities_are s c) in
+        let b : τ.to < p.activities = omega (arith, to_in R k l τ e, activities_are plan.sheet.bytes.now plan.sheet.contents) in
         sym (λ z. gap_by p w (as_tie τ) start finish (es_at p S τ.to b z) (ef_at p S τ.to b z))
         ∙ ap (λ (x : ties.Tie). gap_by p w x start finish (d.es x.to) (d.ef x.to)) (tie_is R k l τ e)
 
@@ -81,10 +80,10 @@ module _ {s : List ℕ} {c : Contents} {calendars : List PlanCalendar} {t : ℕ}
       → gap_by p w (tie p k) start finish (d.es (tie p k).to) (d.ef (tie p k).to) ≡ gap_of p d i k
   gap_own i k start finish w o F = λ z. gap_by p (o z) (tie p k) (F.start_is z) (F.finish_is z) (d.es (tie p k).to) (d.ef (tie p k).to)
 
-  pub from_is : Recorded p S → (i : ℕ) → i < c.activities → (actual : Actual) (es start ef : ℕ) → actual ≡ actual_in S i → es ≡ S.act early_start i
+  pub from_is : Recorded p S → (i : ℕ) → i < plan.sheet.contents.activities → (actual : Actual) (es start ef : ℕ) → actual ≡ actual_in S i → es ≡ S.act early_start i
       → ((r : Plan) → start ≡ begun r (Ok actual) es) → ef ≡ S.act early_finish i → From p d i start ef
   from_is N i l actual es start ef f g h m =
-      let b : i < p.activities = omega (arith, activities_are s c) in
+      let b : i < p.activities = omega (arith, activities_are plan.sheet.bytes.now plan.sheet.contents) in
       let x : Ok actual ≡ recorded p i = ap Ok f ∙ N i b in
       let y : es ≡ d.es i = g ∙ sym (es_at p S i b) in
       record { start_is = h p ∙ (λ z. begun p (x z) (y z)); finish_is = m ∙ sym (ef_at p S i b) }
@@ -92,34 +91,34 @@ module _ {s : List ℕ} {c : Contents} {calendars : List PlanCalendar} {t : ℕ}
   -- ---- the walk along the links out of i: link k is next, and `least` is the least so far
   module _ (i : ℕ) (slack : ℤ) where
     abbrev pub Slack : ℤ → ℕ → Type 0
-    Slack least k = Cursor (slack_step p d i) Ok (S.link from_field) t i slack least k
+    Slack least k = Cursor (slack_step p d i) Ok (S.link from_field) tables.kept i slack least k
 
-    pub slack_start : (k : ℕ) → i < c.activities → k ≡ S.act first_out i → Slack slack k
+    pub slack_start : (k : ℕ) → i < plan.sheet.contents.activities → k ≡ S.act first_out i → Slack slack k
     slack_start k b e =
-        cursor_start (slack_step p d i) Ok (S.link from_field) t i slack
-        (rw e (R.standing.chains_out.heads i (omega (arith, activities_are s c))))
+        cursor_start (slack_step p d i) Ok (S.link from_field) tables.kept i slack
+        (rw e (R.standing.chains_out.heads i (omega (arith, activities_are plan.sheet.bytes.now plan.sheet.contents))))
 
-    pub slack_later : (k m : ℕ) → k < t → m ≡ S.link next_out k → k < m
+    pub slack_later : (k m : ℕ) → k < tables.kept → m ≡ S.link next_out k → k < m
     slack_later k m b e = omega (arith, (R.standing.chains_out.nexts k (omega arith) b).low)
 
-    all : gather (slack_step p d i) Ok (after (S.link from_field) t i 0) slack ≡ least_slack p d i (ties_out p i) slack
+    all : gather (slack_step p d i) Ok (after (S.link from_field) tables.kept i 0) slack ≡ least_slack p d i (ties_out p i) slack
     all = ap (λ (ks : List ℕ). gather (slack_step p d i) Ok ks slack) (out_is p R.standing i)
 
     module _ {least : ℤ} {k : ℕ} (C : Slack least k) where
-      pub slack_turn : k < t → (g : ℤ) → gap_of p d i k ≡ Ok g → (m : ℕ) → m ≡ S.link next_out k → Slack (min_z least g) m
+      pub slack_turn : k < tables.kept → (g : ℤ) → gap_of p d i k ≡ Ok g → (m : ℕ) → m ≡ S.link next_out k → Slack (min_z least g) m
       slack_turn b g a m e =
-          cursor_turn (slack_step p d i) Ok (S.link from_field) t i slack C (min_z least g) b
+          cursor_turn (slack_step p d i) Ok (S.link from_field) tables.kept i slack C (min_z least g) b
           (rw e (R.standing.chains_out.nexts k (omega arith) b))
           (λ f. measured_at Err (gap_of p d i k) (λ z. f (min_z least z)) g a)
 
-      pub slack_stop : k < t → (j : ClockError) → gap_of p d i k ≡ Err j → Err j ≡ least_slack p d i (ties_out p i) slack
+      pub slack_stop : k < tables.kept → (j : ClockError) → gap_of p d i k ≡ Err j → Err j ≡ least_slack p d i (ties_out p i) slack
       slack_stop b j a =
-          cursor_stop (slack_step p d i) Ok (S.link from_field) t i slack C (Err j) b
+          cursor_stop (slack_step p d i) Ok (S.link from_field) tables.kept i slack C (Err j) b
           (λ f. measured_refused Err (gap_of p d i k) (λ z. f (min_z least z)) j a)
           ∙ all
 
-      pub slack_end : t ≤ k → Ok least ≡ least_slack p d i (ties_out p i) slack
-      slack_end b = cursor_end (slack_step p d i) Ok (S.link from_field) t i slack C b ∙ all
+      pub slack_end : tables.kept ≤ k → Ok least ≡ least_slack p d i (ties_out p i) slack
+      slack_end b = cursor_end (slack_step p d i) Ok (S.link from_field) tables.kept i slack C b ∙ all
 
   -- ---- the ways of the slack of i, and of its free float
   module _ (i finish ef : ℕ) (w : ℕ → Bool) (o : w ≡ own p i) (h : ef ≡ d.ef i) where

@@ -1,30 +1,25 @@
--- The activity that a step takes, and what the step leaves for the next.
+-- What the pass's step leaves for the next, and the pass from no free float on.
 use Rattle.std.specs.Prelude.{◌≡◌, refl, List, ℕ, Result}
 use Rattle.worktime.specs.declared.ClockError.{ClockError}
-use Rattle.std.proofs.Common.{sym, ap, subst, ◌∙◌}
+use Rattle.std.proofs.Common.{sym, ap, ◌∙◌}
 use Rattle.memory.specs.State.{State, fill_act}
 use Rattle.memory.specs.Fields as fields
 use Rattle.topology.specs.Frame.{Frame}
 use Rattle.sheet.specs.declared.Contents.{Contents}
-use Rattle.calendar.specs.declared.value.Calendar.{Calendar}
-use Rattle.project.specs.declared.Activity.{Activity}
 use Rattle.order.specs.Plan.{Plan, plan_of}
 use Rattle.passes.specs.Dates.{Late, Freed, through}
 use Rattle.passes.specs.Floats.{free_float}
-use Rattle.calendars.specs.Calendars.{InPlan}
 use Rattle.dates.specs.Columns.{early_in, late_in, ended}
 use Rattle.dates.specs.KeptLaws.{late_kept}
 use Rattle.bounds.specs.ReadyLaws.{activities_are}
-use Rattle.floats.specs.Slack.{freed_in, Own}
+use Rattle.floats.specs.Slack.{freed_in}
 use Rattle.floats.specs.StoreLaws.{free_cleared}
 
--- an activity that was read, and the calendar of the number that it gives
-pub own_is : {s : List ℕ} {c : Contents} {i : ℕ} {activity : Activity} {calendar : Calendar} → activity ≡ (plan_of s c).activity i
-    → InPlan s c activity.calendar calendar → Own s c i activity calendar
-own_is {s} {c} {i} {activity} {calendar} e C =
-    record { is = e; in_plan = subst (λ (k : ℕ). InPlan s c k calendar) (ap (λ (a : Activity). a.calendar) e) C }
+-- the step's turn, with the late dates as they were before the pass
+pub turn_kept : {S T : State} → Frame 12 16 0 0 S T → (p : Plan) (finish e : ℕ) → free_float p finish (late_in p T e) ≡ free_float p finish (late_in p S e)
+turn_kept F p finish e = ap (λ (l : Late). free_float p finish l) (late_kept F p refl refl e)
 
--- one step, with the late dates as they were before the pass
+-- and one step so
 pub step_kept : {S T : State} → Frame 12 16 0 0 S T → (p : Plan) (finish i : ℕ) (y : Freed) (r : Result Unit ClockError)
     → ((e : ℕ) → ended y r ≡ free_float p finish (late_in p T e) (freed_in p T) i)
     → (e : ℕ) → ended y r ≡ free_float p finish (late_in p S e) (freed_in p T) i

@@ -3,34 +3,25 @@ use Rattle.std.specs.Prelude.{◌≡◌, Bool, true, false, ◌&&◌, ◌||◌, 
 use Rattle.floats.specs.declared.Moved.{Moved}
 use Rattle.worktime.specs.declared.ClockError.{ClockError}
 use Rattle.number.specs.Sign.{min_z}
-use Rattle.calendar.specs.declared.value.Calendar.{Calendar}
 use Rattle.worktime.specs.Walks.{advance, retreat, between}
-use Rattle.project.specs.declared.Activity.{Activity}
 use Rattle.project.specs.declared.ActivityKind.{ActivityKind}
 use Rattle.project.specs.declared.Constraint.{Constraint}
 use Rattle.placing.specs.declared.Actual.{Actual}
 use Rattle.placing.specs.Placing.{via, place_start, finish_of}
 use Rattle.cells.specs.Chain.{gather}
-use Rattle.sheet.specs.declared.Contents.{Contents}
-use Rattle.order.specs.Plan.{Plan, plan_of}
-use Rattle.order.specs.Ties.{Tie, calendar_of}
+use Rattle.order.specs.Plan.{Plan}
+use Rattle.order.specs.Ties.{Tie}
 use Rattle.passes.specs.Plan.{own, tie, ties_out, recorded, begun}
 use Rattle.passes.specs.Dates.{Early, Freed}
 use Rattle.passes.specs.Forward.{forward_bound}
 use Rattle.passes.specs.Floats.{measured, is_late, target_of, not_begun, free_by}
 use Rattle.memory.specs.State.{State, put_act}
 use Rattle.memory.specs.Fields.{early_start, early_finish, free_float}
-use Rattle.calendars.specs.Calendars.{InPlan}
 use Rattle.dates.specs.Columns.{early_in, free_in}
 
 -- the early dates and free floats that stand in the memory
 abbrev pub freed_in : Plan → State → Freed
 freed_in p S = record { early = early_in p S; free = free_in p S }
-
--- activity i of the plan and its own calendar in hand
-pub record Own (s : List ℕ) (c : Contents) (i : ℕ) (activity : Activity) (calendar : Calendar) : Type 0 where
-  pub is : activity ≡ (plan_of s c).activity i
-  pub in_plan : InPlan s c (calendar_of (plan_of s c) i) calendar
 
 -- as late as possible in either constraint, and not begun
 module _ (p : Plan) (d : Early) where

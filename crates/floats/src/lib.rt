@@ -7,24 +7,26 @@ ghost use Rattle.clock.specs.On.{worked_by};
 ghost use Rattle.memory.specs.Seen.{state, SameSlice};
 ghost use Rattle.memory.specs.Fields.{is_summary, late_finish, early_start, early_finish};
 ghost use Rattle.topology.specs.Frame.{Frame};
-ghost use Rattle.order.specs.Plan.{Plan, plan_of};
+ghost use Rattle.order.specs.Plan.{Plan, plan_in};
 ghost use Rattle.order.specs.Ids.{summary};
 ghost use Rattle.order.specs.Ties.{calendar_of};
 ghost use Rattle.order.specs.Checks.{order};
 ghost use Rattle.passes.specs.Plan.{tie, ties_out, recorded};
-ghost use Rattle.passes.specs.Dates.{Early, through};
+ghost use Rattle.passes.specs.Dates.{Early, Freed, through};
 ghost use Rattle.passes.specs.Floats.{is_late, target_of, free_by, holds_late, held_move, freed, free_float};
-ghost use Rattle.calendars.specs.Calendars.{InPlan};
+ghost use Rattle.calendars.specs.Calendars.{InPlan, Own};
 ghost use Rattle.dates.specs.Columns.{early_in, late_in, free_in, ended};
 ghost use Rattle.dates.specs.Standing.{actual_in, Ready, Recorded};
-ghost use Rattle.floats.specs.Slack.{freed_in, Own, marked_late, start_moved, dates_moved, stored, gap_by, least_slack, slack_of, From, free_of};
+ghost use Rattle.floats.specs.PassLaws.{turn_kept};
+ghost use Rattle.floats.specs.Slack.{freed_in, marked_late, start_moved, dates_moved, stored, gap_by, least_slack, slack_of, From, free_of};
 
 use calendar::Calendar;
-use calendars::PlanCalendar;
+use calendars::PlanSheet;
+use dates::step::Step;
 use memory::Tables;
 use placing::Actual;
 use project::{Activity, Constraint, RelationshipType};
-use sheet::Contents;
+use sheet::Sheet;
 use worktime::ClockError;
 
 // Where a held late move puts an activity: its new start and finish.
@@ -118,21 +120,18 @@ fn target_field(kind: RelationshipType) -> usize
 
 // The minutes that the predecessor's OWN calendar works from the bound of the kept link in row `k` to where its successor is now.
 fn gap_at(
-    sheet: &[u8],
-    contents: Contents,
-    calendars: &[PlanCalendar],
-    t: usize,
+    plan: &PlanSheet,
     tables: &Tables,
     k: usize,
     start: u64,
     finish: u64,
     calendar: &Calendar,
 ) -> Result<i64, ClockError>
-    requires { Ready sheet.now contents calendars.now t tables.now × (k < t) }
-    ensures { result ≡ gap_by (plan_of sheet.now contents) (worked_by calendar.now) (tie (plan_of sheet.now contents) k) start finish ((early_in (plan_of sheet.now contents) (state tables.now)).es (tie (plan_of sheet.now contents) k).to) ((early_in (plan_of sheet.now contents) (state tables.now)).ef (tie (plan_of sheet.now contents) k).to) }
+    requires { Ready plan.now tables.now × (k < tables.now.kept) }
+    ensures { result ≡ gap_by (plan_in plan.now.sheet) (worked_by calendar.now) (tie (plan_in plan.now.sheet) k) start finish ((early_in (plan_in plan.now.sheet) (state tables.now)).es (tie (plan_in plan.now.sheet) k).to) ((early_in (plan_in plan.now.sheet) (state tables.now)).ef (tie (plan_in plan.now.sheet) k).to) }
 {
     let tie = dates::tie_at(tables, k);
-    let b = bounds::forward_bound(sheet, contents, calendars, tie, start, finish)?;
+    let b = bounds::forward_bound(plan, tie, start, finish)?;
     let kind = tie.kind;
     let field = target_field(kind);
     let target = tables.act(tie.to, field);
@@ -141,10 +140,7 @@ fn gap_at(
 
 // The least of `slack` and of what stands before each successor of activity `i`.
 fn least_slack(
-    sheet: &[u8],
-    contents: Contents,
-    calendars: &[PlanCalendar],
-    t: usize,
+    plan: &PlanSheet,
     tables: &Tables,
     i: usize,
     start: u64,
@@ -152,16 +148,14 @@ fn least_slack(
     calendar: &Calendar,
     slack: i64,
 ) -> Result<i64, ClockError>
-    requires { Ready sheet.now contents calendars.now t tables.now × (i < contents.activities) × InPlan sheet.now contents (calendar_of (plan_of sheet.now contents) i) calendar.now × From (plan_of sheet.now contents) (early_in (plan_of sheet.now contents) (state tables.now)) i start finish }
-    ensures { result ≡ least_slack (plan_of sheet.now contents) (early_in (plan_of sheet.now contents) (state tables.now)) i (ties_out (plan_of sheet.now contents) i) slack }
+    requires { Ready plan.now tables.now × (i < plan.now.sheet.contents.activities) × InPlan plan.now.sheet (calendar_of (plan_in plan.now.sheet) i) calendar.now × From (plan_in plan.now.sheet) (early_in (plan_in plan.now.sheet) (state tables.now)) i start finish }
+    ensures { result ≡ least_slack (plan_in plan.now.sheet) (early_in (plan_in plan.now.sheet) (state tables.now)) i (ties_out (plan_in plan.now.sheet) i) slack }
 {
     let mut least = slack;
     let mut k = tables.act(i, memory::fields::FIRST_OUT) as usize;
     // A `while`: the next link is read from the memory, so no range has the links.
-    while k < t {
-        let gap = gap_at(
-            sheet, contents, calendars, t, tables, k, start, finish, calendar,
-        )?;
+    while k < tables.kept {
+        let gap = gap_at(plan, tables, k, start, finish, calendar)?;
         least = number::sign::min(least, gap);
         k = tables.link(k, memory::fields::NEXT_OUT) as usize;
     }
@@ -170,43 +164,35 @@ fn least_slack(
 
 // The least of what stands before the greatest finish and before each successor of activity `i`.
 fn slack_of(
-    sheet: &[u8],
-    contents: Contents,
-    calendars: &[PlanCalendar],
-    t: usize,
+    plan: &PlanSheet,
     tables: &Tables,
     finish: u64,
     i: usize,
     calendar: &Calendar,
 ) -> Result<i64, ClockError>
-    requires { Ready sheet.now contents calendars.now t tables.now × Recorded (plan_of sheet.now contents) (state tables.now) × (i < contents.activities) × InPlan sheet.now contents (calendar_of (plan_of sheet.now contents) i) calendar.now }
-    ensures { result ≡ slack_of (plan_of sheet.now contents) (early_in (plan_of sheet.now contents) (state tables.now)) finish i }
+    requires { Ready plan.now tables.now × Recorded (plan_in plan.now.sheet) (state tables.now) × (i < plan.now.sheet.contents.activities) × InPlan plan.now.sheet (calendar_of (plan_in plan.now.sheet) i) calendar.now }
+    ensures { result ≡ slack_of (plan_in plan.now.sheet) (early_in (plan_in plan.now.sheet) (state tables.now)) finish i }
 {
     let recorded = dates::recorded_at(tables, i);
     let es = tables.act(i, memory::fields::EARLY_START);
     let start = dates::begun_at(recorded, es);
     let ef = tables.act(i, memory::fields::EARLY_FINISH);
     let slack = clock::between(calendar, ef, finish)?;
-    least_slack(
-        sheet, contents, calendars, t, tables, i, start, ef, calendar, slack,
-    )
+    least_slack(plan, tables, i, start, ef, calendar, slack)
 }
 
 // The free float of activity `i`, in minutes of its OWN calendar.
 fn free_of(
-    sheet: &[u8],
-    contents: Contents,
-    calendars: &[PlanCalendar],
-    t: usize,
+    plan: &PlanSheet,
     tables: &Tables,
     finish: u64,
     i: usize,
     calendar: &Calendar,
 ) -> Result<u64, ClockError>
-    requires { Ready sheet.now contents calendars.now t tables.now × Recorded (plan_of sheet.now contents) (state tables.now) × (i < contents.activities) × InPlan sheet.now contents (calendar_of (plan_of sheet.now contents) i) calendar.now }
-    ensures { (result ≡ free_of (plan_of sheet.now contents) (early_in (plan_of sheet.now contents) (state tables.now)) finish ((state tables.now).act late_finish i) i) × ((m : ℕ) → result ≡ Ok m → m < 2 ^ 63) }
+    requires { Ready plan.now tables.now × Recorded (plan_in plan.now.sheet) (state tables.now) × (i < plan.now.sheet.contents.activities) × InPlan plan.now.sheet (calendar_of (plan_in plan.now.sheet) i) calendar.now }
+    ensures { (result ≡ free_of (plan_in plan.now.sheet) (early_in (plan_in plan.now.sheet) (state tables.now)) finish ((state tables.now).act late_finish i) i) × ((m : ℕ) → result ≡ Ok m → m < 2 ^ 63) }
 {
-    let slack = slack_of(sheet, contents, calendars, t, tables, finish, i, calendar)?;
+    let slack = slack_of(plan, tables, finish, i, calendar)?;
     let ef = tables.act(i, memory::fields::EARLY_FINISH);
     let lf = tables.act(i, memory::fields::LATE_FINISH);
     let total = clock::between(calendar, ef, lf)?;
@@ -215,16 +201,9 @@ fn free_of(
 }
 
 // Whether activity `i` is moved by its free float: it is held late, and there is some.
-fn is_moved(
-    sheet: &[u8],
-    contents: Contents,
-    tables: &Tables,
-    i: usize,
-    activity: Activity,
-    free: u64,
-) -> bool
-    requires { (tables.now.activities ≡ contents.activities) × (i < contents.activities) × (activity ≡ (plan_of sheet.now contents).activity i) × ((state tables.now).act is_summary i ≡ bit (summary (plan_of sheet.now contents) i)) × (Ok (actual_in (state tables.now) i) ≡ recorded (plan_of sheet.now contents) i) }
-    ensures { result ≡ (holds_late (plan_of sheet.now contents) (early_in (plan_of sheet.now contents) (state tables.now)) i && ltb 0 free) }
+fn is_moved(sheet: &Sheet, tables: &Tables, i: usize, activity: Activity, free: u64) -> bool
+    requires { (tables.now.activities ≡ sheet.now.contents.activities) × (i < sheet.now.contents.activities) × (activity ≡ (plan_in sheet.now).activity i) × ((state tables.now).act is_summary i ≡ bit (summary (plan_in sheet.now) i)) × (Ok (actual_in (state tables.now) i) ≡ recorded (plan_in sheet.now) i) }
+    ensures { result ≡ (holds_late (plan_in sheet.now) (early_in (plan_in sheet.now) (state tables.now)) i && ltb 0 free) }
 {
     if free == 0 {
         return false;
@@ -250,16 +229,15 @@ fn store_move(tables: &mut Tables, i: usize, start: u64, finish: u64)
 
 // Moves activity `i`, which is held late, by its free float; its predecessors see the new dates.
 fn hold_late(
-    sheet: &[u8],
-    contents: Contents,
+    sheet: &Sheet,
     tables: &mut Tables,
     i: usize,
     activity: Activity,
     calendar: &Calendar,
     free: u64,
 ) -> Result<(), ClockError>
-    requires { (tables.old.activities ≡ contents.activities) × (i < contents.activities) × Own sheet.now contents i activity calendar.now }
-    ensures { (ended (freed_in (plan_of sheet.now contents) (state tables.new)) result ≡ held_move (plan_of sheet.now contents) (early_in (plan_of sheet.now contents) (state tables.old)) i free (free_in (plan_of sheet.now contents) (state tables.old))) × Frame 12 16 0 0 (state tables.old) (state tables.new) × SameSlice tables.old tables.new }
+    requires { (tables.old.activities ≡ sheet.now.contents.activities) × (i < sheet.now.contents.activities) × Own sheet.now i activity calendar.now }
+    ensures { (ended (freed_in (plan_in sheet.now) (state tables.new)) result ≡ held_move (plan_in sheet.now) (early_in (plan_in sheet.now) (state tables.old)) i free (free_in (plan_in sheet.now) (state tables.old))) × Frame 12 16 0 0 (state tables.old) (state tables.new) × SameSlice tables.old tables.new }
 {
     let es = tables.act(i, memory::fields::EARLY_START);
     let ef = tables.act(i, memory::fields::EARLY_FINISH);
@@ -271,75 +249,58 @@ fn hold_late(
 
 // Moves activity `i` by its free float where it is held late, or else stores it.
 fn use_float(
-    sheet: &[u8],
-    contents: Contents,
+    sheet: &Sheet,
     tables: &mut Tables,
     i: usize,
     activity: Activity,
     calendar: &Calendar,
     free: u64,
 ) -> Result<(), ClockError>
-    requires { (tables.old.activities ≡ contents.activities) × (i < contents.activities) × Own sheet.now contents i activity calendar.now × ((state tables.old).act is_summary i ≡ bit (summary (plan_of sheet.now contents) i)) × (Ok (actual_in (state tables.old) i) ≡ recorded (plan_of sheet.now contents) i) × (free < 2 ^ 63) }
-    ensures { (ended (freed_in (plan_of sheet.now contents) (state tables.new)) result ≡ freed (plan_of sheet.now contents) (early_in (plan_of sheet.now contents) (state tables.old)) i free (free_in (plan_of sheet.now contents) (state tables.old))) × Frame 12 16 0 0 (state tables.old) (state tables.new) × SameSlice tables.old tables.new }
+    requires { (tables.old.activities ≡ sheet.now.contents.activities) × (i < sheet.now.contents.activities) × Own sheet.now i activity calendar.now × ((state tables.old).act is_summary i ≡ bit (summary (plan_in sheet.now) i)) × (Ok (actual_in (state tables.old) i) ≡ recorded (plan_in sheet.now) i) × (free < 2 ^ 63) }
+    ensures { (ended (freed_in (plan_in sheet.now) (state tables.new)) result ≡ freed (plan_in sheet.now) (early_in (plan_in sheet.now) (state tables.old)) i free (free_in (plan_in sheet.now) (state tables.old))) × Frame 12 16 0 0 (state tables.old) (state tables.new) × SameSlice tables.old tables.new }
 {
-    if is_moved(sheet, contents, tables, i, activity, free) {
-        return hold_late(sheet, contents, tables, i, activity, calendar, free);
+    if is_moved(sheet, tables, i, activity, free) {
+        return hold_late(sheet, tables, i, activity, calendar, free);
     }
     tables.put_act(i, memory::fields::FREE_FLOAT, free);
     Ok(())
 }
 
-// The free float of activity `i`, and its move where it is held late.
-fn free_at(
-    sheet: &[u8],
-    contents: Contents,
-    calendars: &[PlanCalendar],
-    t: usize,
-    tables: &mut Tables,
+// The pass's step: an activity's free float, and its move where it is held late.
+#[derive(Drop)]
+struct FreeFloats {
     finish: u64,
-    i: usize,
-) -> Result<(), ClockError>
-    requires { Ready sheet.now contents calendars.now t tables.old × Recorded (plan_of sheet.now contents) (state tables.old) × (i < contents.activities) }
-    ensures { ((e : ℕ) → ended (freed_in (plan_of sheet.now contents) (state tables.new)) result ≡ free_float (plan_of sheet.now contents) finish (late_in (plan_of sheet.now contents) (state tables.old) e) (freed_in (plan_of sheet.now contents) (state tables.old)) i) × Frame 12 16 0 0 (state tables.old) (state tables.new) × SameSlice tables.old tables.new }
-{
-    let activity = dates::activity_of(sheet, contents, i);
-    let k = activity.calendar as usize;
-    let calendar = calendars::calendar_of(sheet, contents, calendars, k);
-    let free = free_of(sheet, contents, calendars, t, tables, finish, i, &calendar)?;
-    use_float(sheet, contents, tables, i, activity, &calendar, free)
 }
 
-// The free float of each activity, successors first.
-fn free_each(
-    sheet: &[u8],
-    contents: Contents,
-    calendars: &[PlanCalendar],
-    t: usize,
-    tables: &mut Tables,
-    finish: u64,
-) -> Result<(), ClockError>
-    requires { Ready sheet.now contents calendars.now t tables.old × Recorded (plan_of sheet.now contents) (state tables.old) }
-    ensures { ((e : ℕ) → ended (freed_in (plan_of sheet.now contents) (state tables.new)) result ≡ through (free_float (plan_of sheet.now contents) finish (late_in (plan_of sheet.now contents) (state tables.old) e)) (reverse (order (plan_of sheet.now contents))) (freed_in (plan_of sheet.now contents) (state tables.old))) × Frame 12 16 0 0 (state tables.old) (state tables.new) × SameSlice tables.old tables.new }
-{
-    for q in (0..contents.activities).rev() {
-        let i = tables.act(q, memory::fields::ORDER_AT) as usize;
-        free_at(sheet, contents, calendars, t, tables, finish, i)?;
+impl Step for FreeFloats {
+    ghost Dates = { Freed };
+
+    ghost Past = { ℕ };
+
+    ghost seen = { λ s p S _. freed_in p S };
+
+    ghost turn = { λ s p S e. free_float p s.finish (late_in p S e) };
+
+    ghost low = { 12 };
+
+    ghost high = { 16 };
+
+    ghost turn_kept = { λ s p S T F. turn_kept F p s.finish };
+
+    fn take(&self, plan: &PlanSheet, tables: &mut Tables, i: usize) -> Result<(), ClockError> {
+        let activity = dates::activity_of(&plan.sheet, i);
+        let k = activity.calendar as usize;
+        let calendar = plan.calendar(k);
+        let free = free_of(plan, tables, self.finish, i, &calendar)?;
+        use_float(&plan.sheet, tables, i, activity, &calendar, free)
     }
-    Ok(())
 }
 
 // The free floats and held late moves; `finish` is the greatest early finish before them.
-pub fn free_pass(
-    sheet: &[u8],
-    contents: Contents,
-    calendars: &[PlanCalendar],
-    t: usize,
-    tables: &mut Tables,
-    finish: u64,
-) -> Result<(), ClockError>
-    requires { Ready sheet.now contents calendars.now t tables.old × Recorded (plan_of sheet.now contents) (state tables.old) }
-    ensures { ((e : ℕ) → ended (freed_in (plan_of sheet.now contents) (state tables.new)) result ≡ through (free_float (plan_of sheet.now contents) finish (late_in (plan_of sheet.now contents) (state tables.old) e)) (reverse (order (plan_of sheet.now contents))) (record { early = early_in (plan_of sheet.now contents) (state tables.old); free = λ i. 0 })) × Frame 12 16 0 0 (state tables.old) (state tables.new) × SameSlice tables.old tables.new }
+pub fn free_pass(plan: &PlanSheet, tables: &mut Tables, finish: u64) -> Result<(), ClockError>
+    requires { Ready plan.now tables.old × Recorded (plan_in plan.now.sheet) (state tables.old) }
+    ensures { ((e : ℕ) → ended (freed_in (plan_in plan.now.sheet) (state tables.new)) result ≡ through (free_float (plan_in plan.now.sheet) finish (late_in (plan_in plan.now.sheet) (state tables.old) e)) (reverse (order (plan_in plan.now.sheet))) (record { early = early_in (plan_in plan.now.sheet) (state tables.old); free = λ i. 0 })) × Frame 12 16 0 0 (state tables.old) (state tables.new) × SameSlice tables.old tables.new }
 {
     tables.fill_act(memory::fields::FREE_FLOAT, 0);
-    free_each(sheet, contents, calendars, t, tables, finish)
+    dates::step::back(&FreeFloats { finish }, plan, tables)
 }

@@ -8,11 +8,10 @@ ghost use Rattle.memory.specs.State.{put_act};
 ghost use Rattle.memory.specs.Seen.{state, SameSlice};
 ghost use Rattle.memory.specs.Fields.{early_start, early_finish, work_left};
 ghost use Rattle.topology.specs.Frame.{Frame};
-ghost use Rattle.order.specs.Plan.{plan_of};
+ghost use Rattle.order.specs.Plan.{plan_in};
 ghost use Rattle.order.specs.Ties.{calendar_of};
-ghost use Rattle.order.specs.Checks.{order};
 ghost use Rattle.passes.specs.Plan.{ties_into};
-ghost use Rattle.passes.specs.Dates.{through};
+ghost use Rattle.passes.specs.Dates.{Early};
 ghost use Rattle.passes.specs.Forward.{link_start, raised, forward};
 ghost use Rattle.passes.specs.Run.{forward_pass};
 ghost use Rattle.calendars.specs.Calendars.{InPlan};
@@ -22,30 +21,27 @@ ghost use Rattle.early.specs.InHand.{InHand, placed_as, Fits};
 ghost use Rattle.forward.specs.Linked.{after_links, Settled};
 
 use calendar::Calendar;
-use calendars::PlanCalendar;
+use calendars::PlanSheet;
+use dates::step::Step;
 use early::Placement;
 use memory::Tables;
 use placing::Actual;
 use project::Activity;
-use sheet::Contents;
 use worktime::ClockError;
 
 // The start that the kept link in row `k` leaves its successor, whose dates are found.
 fn link_start(
-    sheet: &[u8],
-    contents: Contents,
-    calendars: &[PlanCalendar],
-    t: usize,
+    plan: &PlanSheet,
     tables: &Tables,
     k: usize,
     activity: Activity,
     calendar: &Calendar,
     left: u64,
 ) -> Result<u64, ClockError>
-    requires { Ready sheet.now contents calendars.now t tables.now × Recorded (plan_of sheet.now contents) (state tables.now) × (k < t) }
-    ensures { (i : ℕ) → InHand (plan_of sheet.now contents) (early_in (plan_of sheet.now contents) (state tables.now)) i activity (worked_by calendar.now) left → result ≡ link_start (plan_of sheet.now contents) (early_in (plan_of sheet.now contents) (state tables.now)) i k }
+    requires { Ready plan.now tables.now × Recorded (plan_in plan.now.sheet) (state tables.now) × (k < tables.now.kept) }
+    ensures { (i : ℕ) → InHand (plan_in plan.now.sheet) (early_in (plan_in plan.now.sheet) (state tables.now)) i activity (worked_by calendar.now) left → result ≡ link_start (plan_in plan.now.sheet) (early_in (plan_in plan.now.sheet) (state tables.now)) i k }
 {
-    let b = bounds::link_bound(sheet, contents, calendars, t, tables, k)?;
+    let b = bounds::link_bound(plan, tables, k)?;
     let tie = dates::tie_at(tables, k);
     let kind = tie.kind;
     bounds::start_for(activity, calendar, left, kind, b)
@@ -53,10 +49,7 @@ fn link_start(
 
 // `start`, raised by that start.
 fn raised_by(
-    sheet: &[u8],
-    contents: Contents,
-    calendars: &[PlanCalendar],
-    t: usize,
+    plan: &PlanSheet,
     tables: &Tables,
     k: usize,
     activity: Activity,
@@ -64,21 +57,16 @@ fn raised_by(
     left: u64,
     start: u64,
 ) -> Result<u64, ClockError>
-    requires { Ready sheet.now contents calendars.now t tables.now × Recorded (plan_of sheet.now contents) (state tables.now) × (k < t) }
-    ensures { (i : ℕ) → InHand (plan_of sheet.now contents) (early_in (plan_of sheet.now contents) (state tables.now)) i activity (worked_by calendar.now) left → result ≡ via Err (link_start (plan_of sheet.now contents) (early_in (plan_of sheet.now contents) (state tables.now)) i k) (λ s. Ok (max start s)) }
+    requires { Ready plan.now tables.now × Recorded (plan_in plan.now.sheet) (state tables.now) × (k < tables.now.kept) }
+    ensures { (i : ℕ) → InHand (plan_in plan.now.sheet) (early_in (plan_in plan.now.sheet) (state tables.now)) i activity (worked_by calendar.now) left → result ≡ via Err (link_start (plan_in plan.now.sheet) (early_in (plan_in plan.now.sheet) (state tables.now)) i k) (λ s. Ok (max start s)) }
 {
-    let s = link_start(
-        sheet, contents, calendars, t, tables, k, activity, calendar, left,
-    )?;
+    let s = link_start(plan, tables, k, activity, calendar, left)?;
     Ok(start.max(s))
 }
 
 // `floor`, raised by each kept link into activity `i`, in rising order.
 fn raise(
-    sheet: &[u8],
-    contents: Contents,
-    calendars: &[PlanCalendar],
-    t: usize,
+    plan: &PlanSheet,
     tables: &Tables,
     i: usize,
     activity: Activity,
@@ -86,16 +74,14 @@ fn raise(
     left: u64,
     floor: u64,
 ) -> Result<u64, ClockError>
-    requires { Ready sheet.now contents calendars.now t tables.now × Recorded (plan_of sheet.now contents) (state tables.now) × (i < contents.activities) × InHand (plan_of sheet.now contents) (early_in (plan_of sheet.now contents) (state tables.now)) i activity (worked_by calendar.now) left }
-    ensures { result ≡ raised (plan_of sheet.now contents) (early_in (plan_of sheet.now contents) (state tables.now)) i (ties_into (plan_of sheet.now contents) i) floor }
+    requires { Ready plan.now tables.now × Recorded (plan_in plan.now.sheet) (state tables.now) × (i < plan.now.sheet.contents.activities) × InHand (plan_in plan.now.sheet) (early_in (plan_in plan.now.sheet) (state tables.now)) i activity (worked_by calendar.now) left }
+    ensures { result ≡ raised (plan_in plan.now.sheet) (early_in (plan_in plan.now.sheet) (state tables.now)) i (ties_into (plan_in plan.now.sheet) i) floor }
 {
     let mut start = floor;
     let mut k = tables.act(i, memory::fields::FIRST_IN) as usize;
     // A `while`: the next link is read from the memory, so no range has the links.
-    while k < t {
-        let s = raised_by(
-            sheet, contents, calendars, t, tables, k, activity, calendar, left, start,
-        )?;
+    while k < tables.kept {
+        let s = raised_by(plan, tables, k, activity, calendar, left, start)?;
         start = s;
         k = tables.link(k, memory::fields::NEXT_INTO) as usize;
     }
@@ -104,56 +90,37 @@ fn raise(
 
 // The early dates of activity `i`, whose own calendar is in hand: completed work apart.
 fn early_with(
-    sheet: &[u8],
-    contents: Contents,
-    calendars: &[PlanCalendar],
-    t: usize,
+    plan: &PlanSheet,
     tables: &Tables,
     i: usize,
     recorded: Actual,
     activity: Activity,
     calendar: &Calendar,
 ) -> Result<Placement, ClockError>
-    requires { Ready sheet.now contents calendars.now t tables.now × Recorded (plan_of sheet.now contents) (state tables.now) × (i < contents.activities) × (activity ≡ (plan_of sheet.now contents).activity i) × InPlan sheet.now contents (calendar_of (plan_of sheet.now contents) i) calendar.now }
-    ensures { (placed_as (plan_of sheet.now contents) (early_in (plan_of sheet.now contents) (state tables.now)) i result ≡ after_links (plan_of sheet.now contents) (early_in (plan_of sheet.now contents) (state tables.now)) i recorded) × Fits result }
+    requires { Ready plan.now tables.now × Recorded (plan_in plan.now.sheet) (state tables.now) × (i < plan.now.sheet.contents.activities) × (activity ≡ (plan_in plan.now.sheet).activity i) × InPlan plan.now.sheet (calendar_of (plan_in plan.now.sheet) i) calendar.now }
+    ensures { (placed_as (plan_in plan.now.sheet) (early_in (plan_in plan.now.sheet) (state tables.now)) i result ≡ after_links (plan_in plan.now.sheet) (early_in (plan_in plan.now.sheet) (state tables.now)) i recorded) × Fits result }
 {
     let left = tables.act(i, memory::fields::WORK_LEFT);
     let mark = tables.act(i, memory::fields::IS_SUMMARY);
-    let times = early::times_of(sheet, contents);
-    let start = raise(
-        sheet,
-        contents,
-        calendars,
-        t,
-        tables,
-        i,
-        activity,
-        calendar,
-        left,
-        times.floor,
-    )?;
+    let times = early::times_of(&plan.sheet);
+    let start = raise(plan, tables, i, activity, calendar, left, times.floor)?;
     early::place(activity, calendar, left, times, 0 < mark, recorded, start)
 }
 
 // The early dates of activity `i`: completed work apart.
 fn early_of(
-    sheet: &[u8],
-    contents: Contents,
-    calendars: &[PlanCalendar],
-    t: usize,
+    plan: &PlanSheet,
     tables: &Tables,
     i: usize,
     recorded: Actual,
 ) -> Result<Placement, ClockError>
-    requires { Ready sheet.now contents calendars.now t tables.now × Recorded (plan_of sheet.now contents) (state tables.now) × (i < contents.activities) }
-    ensures { (placed_as (plan_of sheet.now contents) (early_in (plan_of sheet.now contents) (state tables.now)) i result ≡ after_links (plan_of sheet.now contents) (early_in (plan_of sheet.now contents) (state tables.now)) i recorded) × Fits result }
+    requires { Ready plan.now tables.now × Recorded (plan_in plan.now.sheet) (state tables.now) × (i < plan.now.sheet.contents.activities) }
+    ensures { (placed_as (plan_in plan.now.sheet) (early_in (plan_in plan.now.sheet) (state tables.now)) i result ≡ after_links (plan_in plan.now.sheet) (early_in (plan_in plan.now.sheet) (state tables.now)) i recorded) × Fits result }
 {
-    let activity = dates::activity_of(sheet, contents, i);
+    let activity = dates::activity_of(&plan.sheet, i);
     let k = activity.calendar as usize;
-    let calendar = calendars::calendar_of(sheet, contents, calendars, k);
-    early_with(
-        sheet, contents, calendars, t, tables, i, recorded, activity, &calendar,
-    )
+    let calendar = plan.calendar(k);
+    early_with(plan, tables, i, recorded, activity, &calendar)
 }
 
 // Stores an activity's early dates and its minutes of work left.
@@ -180,59 +147,44 @@ fn settle(
     Ok(())
 }
 
-// The early dates of activity `i`: completed work stays where it happened.
-fn forward_one(
-    sheet: &[u8],
-    contents: Contents,
-    calendars: &[PlanCalendar],
-    t: usize,
-    tables: &mut Tables,
-    i: usize,
-) -> Result<(), ClockError>
-    requires { Ready sheet.now contents calendars.now t tables.old × Recorded (plan_of sheet.now contents) (state tables.old) × (i < contents.activities) }
-    ensures { (ended (early_in (plan_of sheet.now contents) (state tables.new)) result ≡ forward (plan_of sheet.now contents) (early_in (plan_of sheet.now contents) (state tables.old)) i) × Frame 12 15 0 0 (state tables.old) (state tables.new) × SameSlice tables.old tables.new }
-{
-    let recorded = dates::recorded_at(tables, i);
-    let Actual::Completed(s, f) = recorded else {
-        let placement = early_of(sheet, contents, calendars, t, tables, i, recorded);
-        return settle(tables, i, placement);
-    };
-    let left = tables.act(i, memory::fields::WORK_LEFT);
-    store(tables, i, s, f, left);
-    Ok(())
-}
+// The pass's step: completed work stays where it happened.
+#[derive(Drop)]
+struct Forward;
 
-// The activities in the order.
-fn forward_all(
-    sheet: &[u8],
-    contents: Contents,
-    calendars: &[PlanCalendar],
-    t: usize,
-    tables: &mut Tables,
-) -> Result<(), ClockError>
-    requires { Ready sheet.now contents calendars.now t tables.old × Recorded (plan_of sheet.now contents) (state tables.old) }
-    ensures { (ended (early_in (plan_of sheet.now contents) (state tables.new)) result ≡ through (forward (plan_of sheet.now contents)) (order (plan_of sheet.now contents)) (early_in (plan_of sheet.now contents) (state tables.old))) × Frame 12 15 0 0 (state tables.old) (state tables.new) × SameSlice tables.old tables.new }
-{
-    for q in 0..contents.activities {
-        let i = tables.act(q, memory::fields::ORDER_AT) as usize;
-        forward_one(sheet, contents, calendars, t, tables, i)?;
+impl Step for Forward {
+    ghost use Rattle.std.specs.Prelude.{refl};
+
+    ghost Dates = { Early };
+
+    ghost seen = { λ s p S _. early_in p S };
+
+    ghost turn = { λ s p _ _. forward p };
+
+    ghost low = { 12 };
+
+    ghost high = { 15 };
+
+    ghost turn_kept = { λ _ _ _ _ _ _. refl };
+
+    fn take(&self, plan: &PlanSheet, tables: &mut Tables, i: usize) -> Result<(), ClockError> {
+        let recorded = dates::recorded_at(tables, i);
+        let Actual::Completed(s, f) = recorded else {
+            let placement = early_of(plan, tables, i, recorded);
+            return settle(tables, i, placement);
+        };
+        let left = tables.act(i, memory::fields::WORK_LEFT);
+        store(tables, i, s, f, left);
+        Ok(())
     }
-    Ok(())
 }
 
 // The early dates of all activities, from the work left before the passes.
-pub fn forward_pass(
-    sheet: &[u8],
-    contents: Contents,
-    calendars: &[PlanCalendar],
-    t: usize,
-    tables: &mut Tables,
-) -> Result<(), ClockError>
-    requires { Ready sheet.now contents calendars.now t tables.old × Recorded (plan_of sheet.now contents) (state tables.old) }
-    ensures { (ended (early_in (plan_of sheet.now contents) (state tables.new)) result ≡ forward_pass (plan_of sheet.now contents) (left_in (plan_of sheet.now contents) (state tables.old))) × Frame 12 15 0 0 (state tables.old) (state tables.new) × SameSlice tables.old tables.new }
+pub fn forward_pass(plan: &PlanSheet, tables: &mut Tables) -> Result<(), ClockError>
+    requires { Ready plan.now tables.old × Recorded (plan_in plan.now.sheet) (state tables.old) }
+    ensures { (ended (early_in (plan_in plan.now.sheet) (state tables.new)) result ≡ forward_pass (plan_in plan.now.sheet) (left_in (plan_in plan.now.sheet) (state tables.old))) × Frame 12 15 0 0 (state tables.old) (state tables.new) × SameSlice tables.old tables.new }
 {
-    let origin = dates::origin_of(sheet, contents);
+    let origin = dates::origin_of(&plan.sheet);
     tables.fill_act(memory::fields::EARLY_START, origin);
     tables.fill_act(memory::fields::EARLY_FINISH, origin);
-    forward_all(sheet, contents, calendars, t, tables)
+    dates::step::onward(&Forward, plan, tables)
 }

@@ -1,14 +1,12 @@
--- What the calls of this crate are lent: a sheet that was read and tables of its plan's sizes.
-use Rattle.std.specs.Prelude.{◌≡◌, List, ℕ}
+-- What the calls of this crate are lent: a sheet that was read and tables of its plan's sizes. It stays a clause: it relates the tables, which are written, to the sheet.
+use Rattle.std.specs.Prelude.{◌≡◌, ℕ}
 use Rattle.memory.specs.State.{State}
 use Rattle.memory.specs.declared.Tables.{Tables}
-use Rattle.sheet.specs.declared.Contents.{Contents}
-use Rattle.sheet.specs.Known.{SheetRead}
+use Rattle.sheet.specs.declared.value.Sheet.{Sheet}
 
-pub record Lent (s : List ℕ) (c : Contents) (t : Tables) : Type 0 where
-  pub read : SheetRead s c
-  pub activities : t.activities ≡ c.activities
-  pub links : t.links ≡ c.links
+pub record Lent (sheet : Sheet) (t : Tables) : Type 0 where
+  pub activities : t.activities ≡ sheet.contents.activities
+  pub links : t.links ≡ sheet.contents.links
 
 -- T is S but for the fields of activities that F names
 pub record KeptBut (F : ℕ → Type 0) (S T : State) : Type 0 where

@@ -1,15 +1,19 @@
 -- Tables in one slice are lent for one plan; and what is kept of the memory where fields of activities are put.
-use Rattle.std.specs.Prelude.{◌≡◌, refl, List, ℕ, pos}
+use Rattle.std.specs.Prelude.{◌≡◌, refl, ℕ, pos}
 use Rattle.std.proofs.Common.{subst, sym, ◌∙◌}
 use Rattle.memory.specs.State.{State, put_act, fill_act}
-use Rattle.memory.specs.Seen.{SameSlice}
+use Rattle.memory.specs.Seen.{SameLent, SameSlice}
+use Rattle.memory.specs.SeenLaws.{same_lent}
 use Rattle.memory.specs.declared.Tables.{Tables}
 use Rattle.memory.specs.StateLaws.{act_field, act_z_field, fill_act_field, fill_act_z_field}
-use Rattle.sheet.specs.declared.Contents.{Contents}
 use Rattle.ids.specs.Lent.{Lent, KeptBut}
+use Rattle.sheet.specs.declared.value.Sheet.{Sheet}
 
-pub still_lent : {s : List ℕ} {c : Contents} {t u : Tables} → Lent s c t → SameSlice t u → Lent s c u
-still_lent h m = record { read = h.read; activities = m.activities ∙ h.activities; links = m.links ∙ h.links }
+pub lent_left : {sheet : Sheet} {t u : Tables} → Lent sheet t → SameLent t u → Lent sheet u
+lent_left h m = record { activities = m.activities ∙ h.activities; links = m.links ∙ h.links }
+
+pub still_lent : {sheet : Sheet} {t u : Tables} → Lent sheet t → SameSlice t u → Lent sheet u
+still_lent h m = lent_left h (same_lent m)
 
 module _ (F : ℕ → Type 0) where
   pub kept_refl : (S : State) → KeptBut F S S

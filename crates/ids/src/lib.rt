@@ -2,7 +2,7 @@
 #![tactic(auto)]
 
 ghost use Rattle.std.specs.Prelude.{◌≡◌, ◌&&◌, ℕ, ◌+◌, ◌≤◌, ◌<◌, unwrap_or, IfSome, IfOk};
-ghost use Rattle.order.specs.Plan.{plan_of};
+ghost use Rattle.order.specs.Plan.{plan_in};
 ghost use Rattle.order.specs.IdLaws.{DistinctIds};
 ghost use Rattle.order.specs.Checks.{first_of, judge_activity, judge_parent, judge_summary};
 ghost use Rattle.order.specs.FineLaws.{ParentsKnown};
@@ -20,7 +20,7 @@ ghost use Rattle.ids.specs.Summaries.{SummaryAnswered};
 
 use memory::Tables;
 use order::PlanError;
-use sheet::Contents;
+use sheet::Sheet;
 
 pub mod activity_fields;
 
@@ -40,17 +40,11 @@ struct Vacancy {
 
 // The one of the first `n` activities that has the id, or where one that has it comes in.
 // The way down takes a bit of the id's quotient at each activity that it meets. Ids have 32 bits, and distinct ids of one tree have distinct quotients: no sheet makes it meet more than 33.
-fn seek(
-    sheet: &[u8],
-    contents: Contents,
-    tables: &Tables,
-    n: usize,
-    id: u64,
-) -> Result<usize, Vacancy>
-    requires { Lent sheet.now contents tables.now × (n ≤ contents.activities) × (0 < contents.activities) × Indexed (plan_of sheet.now contents) (state tables.now) n }
-    ensures { Searched (plan_of sheet.now contents) (state tables.now) n id result }
+fn seek(sheet: &Sheet, tables: &Tables, n: usize, id: u64) -> Result<usize, Vacancy>
+    requires { Lent sheet.now tables.now × (n ≤ sheet.now.contents.activities) × (0 < sheet.now.contents.activities) × Indexed (plan_in sheet.now) (state tables.now) n }
+    ensures { Searched (plan_in sheet.now) (state tables.now) n id result }
 {
-    let a = contents.activities;
+    let a = sheet.contents.activities;
     let tree = id as usize % a;
     let first = tables.act(tree, memory::fields::ROOT) as usize;
     if first == 0 {
@@ -63,7 +57,7 @@ fn seek(
     let mut rest = id / a as u64;
     // The next one stands in the memory, so no range or slice has them.
     loop {
-        if activity_fields::id_of(sheet, contents, j) == id {
+        if activity_fields::id_of(sheet, j) == id {
             return Ok(j);
         }
         let side = rest as usize % 2;
@@ -77,54 +71,44 @@ fn seek(
 }
 
 // The last of the first `n` activities that has the id.
-pub fn find(sheet: &[u8], contents: Contents, tables: &Tables, n: usize, id: u64) -> Option<usize>
-    requires { Lent sheet.now contents tables.now × (n ≤ contents.activities) × Indexed (plan_of sheet.now contents) (state tables.now) n }
-    ensures { (unwrap_or result contents.activities ≡ found_in (plan_of sheet.now contents) n id) × IfSome result (λ j. j < contents.activities) }
+pub fn find(sheet: &Sheet, tables: &Tables, n: usize, id: u64) -> Option<usize>
+    requires { Lent sheet.now tables.now × (n ≤ sheet.now.contents.activities) × Indexed (plan_in sheet.now) (state tables.now) n }
+    ensures { (unwrap_or result sheet.now.contents.activities ≡ found_in (plan_in sheet.now) n id) × IfSome result (λ j. j < sheet.now.contents.activities) }
 {
     if n == 0 {
         return None;
     }
-    seek(sheet, contents, tables, n, id).ok()
+    seek(sheet, tables, n, id).ok()
 }
 
 // Rows 6 to 9 for activity `i`, where the index has those before it: where they are fine, where it comes in.
-fn judge_activity(
-    sheet: &[u8],
-    contents: Contents,
-    tables: &Tables,
-    i: usize,
-) -> Result<Vacancy, PlanError>
-    requires { Lent sheet.now contents tables.now × (i < contents.activities) × Indexed (plan_of sheet.now contents) (state tables.now) i }
-    ensures { Answered result (judge_activity (plan_of sheet.now contents) i) × IfOk result (λ v. PlaceFor (plan_of sheet.now contents) (state tables.now) i (id_of (plan_of sheet.now contents) i) v.parent v.side) }
+fn judge_activity(sheet: &Sheet, tables: &Tables, i: usize) -> Result<Vacancy, PlanError>
+    requires { Lent sheet.now tables.now × (i < sheet.now.contents.activities) × Indexed (plan_in sheet.now) (state tables.now) i }
+    ensures { Answered result (judge_activity (plan_in sheet.now) i) × IfOk result (λ v. PlaceFor (plan_in sheet.now) (state tables.now) i (id_of (plan_in sheet.now) i) v.parent v.side) }
 {
-    let id = activity_fields::id_of(sheet, contents, i);
-    let Err(vacancy) = seek(sheet, contents, tables, i, id) else {
+    let id = activity_fields::id_of(sheet, i);
+    let Err(vacancy) = seek(sheet, tables, i, id) else {
         return Err(PlanError::SameId(id));
     };
-    let minutes = activity_fields::minutes_of(sheet, contents, i);
+    let minutes = activity_fields::minutes_of(sheet, i);
     if minutes < 0 {
         return Err(PlanError::NegativeMinutes(id));
     }
     if minutes > 48_000_000 {
         return Err(PlanError::TooLong);
     }
-    if activity_fields::calendar_of(sheet, contents, i) >= contents.calendars as u64 {
+    if activity_fields::calendar_of(sheet, i) >= sheet.contents.calendars as u64 {
         return Err(PlanError::UnknownCalendar(id));
     }
     Ok(vacancy)
 }
 
 // Rows 6 to 9 for activity `i`, which comes into the index where it is fine.
-fn index_one(
-    sheet: &[u8],
-    contents: Contents,
-    tables: &mut Tables,
-    i: usize,
-) -> Result<(), PlanError>
-    requires { Lent sheet.now contents tables.old × (i < contents.activities) × Indexed (plan_of sheet.now contents) (state tables.old) i }
-    ensures { Answered result (judge_activity (plan_of sheet.now contents) i) × IndexedBy (plan_of sheet.now contents) (i + 1) (state tables.old) (state tables.new) result × SameSlice tables.old tables.new }
+fn index_one(sheet: &Sheet, tables: &mut Tables, i: usize) -> Result<(), PlanError>
+    requires { Lent sheet.now tables.old × (i < sheet.now.contents.activities) × Indexed (plan_in sheet.now) (state tables.old) i }
+    ensures { Answered result (judge_activity (plan_in sheet.now) i) × IndexedBy (plan_in sheet.now) (i + 1) (state tables.old) (state tables.new) result × SameSlice tables.old tables.new }
 {
-    let vacancy = judge_activity(sheet, contents, tables, i)?;
+    let vacancy = judge_activity(sheet, tables, i)?;
     tables.put_act(i, memory::fields::LOW_CHILD, 0);
     tables.put_act(i, memory::fields::HIGH_CHILD, 0);
     tables.put_act(vacancy.parent, vacancy.side, i as u64 + 1);
@@ -133,35 +117,30 @@ fn index_one(
 
 // Rows 6 to 9 for all activities: where they are fine, the memory has the index of their ids.
 // This pass, `parents` and `summaries` are a `for` and a `?` each: one function over the step would be as long, and say less.
-pub fn index_all(sheet: &[u8], contents: Contents, tables: &mut Tables) -> Result<(), PlanError>
-    requires { Lent sheet.now contents tables.old }
-    ensures { Answered result (first_of (judge_activity (plan_of sheet.now contents)) contents.activities 0) × IndexedBy (plan_of sheet.now contents) contents.activities (state tables.old) (state tables.new) result × SameSlice tables.old tables.new }
+pub fn index_all(sheet: &Sheet, tables: &mut Tables) -> Result<(), PlanError>
+    requires { Lent sheet.now tables.old }
+    ensures { Answered result (first_of (judge_activity (plan_in sheet.now)) sheet.now.contents.activities 0) × IndexedBy (plan_in sheet.now) sheet.now.contents.activities (state tables.old) (state tables.new) result × SameSlice tables.old tables.new }
 {
     tables.fill_act(memory::fields::ROOT, 0);
-    for i in 0..contents.activities {
-        index_one(sheet, contents, tables, i)?;
+    for i in 0..sheet.contents.activities {
+        index_one(sheet, tables, i)?;
     }
     Ok(())
 }
 
 // Row 10 for activity `i`: its parent is looked for, kept, and marked as a summary.
-fn parent_one(
-    sheet: &[u8],
-    contents: Contents,
-    tables: &mut Tables,
-    i: usize,
-) -> Result<(), PlanError>
-    requires { Lent sheet.now contents tables.old × (i < contents.activities) × DistinctIds (plan_of sheet.now contents) × Indexed (plan_of sheet.now contents) (state tables.old) contents.activities × Parented (plan_of sheet.now contents) (state tables.old) i }
-    ensures { Answered result (judge_parent (plan_of sheet.now contents) i) × ParentedBy (plan_of sheet.now contents) (i + 1) (state tables.old) (state tables.new) result × SameSlice tables.old tables.new }
+fn parent_one(sheet: &Sheet, tables: &mut Tables, i: usize) -> Result<(), PlanError>
+    requires { Lent sheet.now tables.old × (i < sheet.now.contents.activities) × DistinctIds (plan_in sheet.now) × Indexed (plan_in sheet.now) (state tables.old) sheet.now.contents.activities × Parented (plan_in sheet.now) (state tables.old) i }
+    ensures { Answered result (judge_parent (plan_in sheet.now) i) × ParentedBy (plan_in sheet.now) (i + 1) (state tables.old) (state tables.new) result × SameSlice tables.old tables.new }
 {
-    let a = contents.activities;
-    let id = activity_fields::parent_of(sheet, contents, i);
+    let a = sheet.contents.activities;
+    let id = activity_fields::parent_of(sheet, i);
     if id == 0 {
         tables.put_act(i, memory::fields::PARENT, 0);
         return Ok(());
     }
-    let Some(j) = find(sheet, contents, tables, a, id) else {
-        return Err(PlanError::UnknownParent(activity_fields::id_of(sheet, contents, i)));
+    let Some(j) = find(sheet, tables, a, id) else {
+        return Err(PlanError::UnknownParent(activity_fields::id_of(sheet, i)));
     };
     tables.put_act(i, memory::fields::PARENT, j as u64 + 1);
     tables.put_act(j, memory::fields::IS_SUMMARY, 1);
@@ -169,73 +148,67 @@ fn parent_one(
 }
 
 // Row 10 for all activities: where they are fine, the memory has their parents and marks the summaries.
-pub fn parents(sheet: &[u8], contents: Contents, tables: &mut Tables) -> Result<(), PlanError>
-    requires { Lent sheet.now contents tables.old × DistinctIds (plan_of sheet.now contents) × Indexed (plan_of sheet.now contents) (state tables.old) contents.activities }
-    ensures { Answered result (first_of (judge_parent (plan_of sheet.now contents)) contents.activities 0) × ParentedBy (plan_of sheet.now contents) contents.activities (state tables.old) (state tables.new) result × SameSlice tables.old tables.new }
+pub fn parents(sheet: &Sheet, tables: &mut Tables) -> Result<(), PlanError>
+    requires { Lent sheet.now tables.old × DistinctIds (plan_in sheet.now) × Indexed (plan_in sheet.now) (state tables.old) sheet.now.contents.activities }
+    ensures { Answered result (first_of (judge_parent (plan_in sheet.now)) sheet.now.contents.activities 0) × ParentedBy (plan_in sheet.now) sheet.now.contents.activities (state tables.old) (state tables.new) result × SameSlice tables.old tables.new }
 {
     tables.fill_act(memory::fields::IS_SUMMARY, 0);
-    for i in 0..contents.activities {
-        parent_one(sheet, contents, tables, i)?;
+    for i in 0..sheet.contents.activities {
+        parent_one(sheet, tables, i)?;
     }
     Ok(())
 }
 
-// How many steps lead upward from activity `i` to itself: 0 where it lies on no loop of parents.
-pub fn parent_loop_steps(tables: &Tables, i: usize) -> usize
+// How many steps lead upward from activity `i` to itself, where it lies on a loop of parents.
+pub fn parent_loop_steps(tables: &Tables, i: usize) -> Option<usize>
     requires { (i < tables.now.activities) × ((j : ℕ) → j < tables.now.activities → (state tables.now).act parent j ≤ tables.now.activities) }
-    ensures { (result ≡ loop_steps ((state tables.now).act parent) tables.now.activities i) × (result ≤ tables.now.activities) }
+    ensures { (unwrap_or result 0 ≡ loop_steps ((state tables.now).act parent) tables.now.activities i) × IfSome result (λ k. (0 < k) × (k ≤ tables.now.activities)) }
 {
     let mut up = tables.act(i, memory::fields::PARENT) as usize;
     for k in 1..tables.activities + 1 {
         if up == 0 {
-            return 0;
+            return None;
         }
         if up == i + 1 {
-            return k;
+            return Some(k);
         }
         up = tables.act(up - 1, memory::fields::PARENT) as usize;
     }
-    0
+    None
 }
 
 // Whether activity `i` is a milestone and a parent.
-fn is_milestone_parent(sheet: &[u8], contents: Contents, tables: &Tables, i: usize) -> bool
-    requires { Lent sheet.now contents tables.now × (i < contents.activities) × Parented (plan_of sheet.now contents) (state tables.now) contents.activities }
-    ensures { result ≡ (summary (plan_of sheet.now contents) i && is_milestone ((plan_of sheet.now contents).activity i).kind) }
+fn is_milestone_parent(sheet: &Sheet, tables: &Tables, i: usize) -> bool
+    requires { Lent sheet.now tables.now × (i < sheet.now.contents.activities) × Parented (plan_in sheet.now) (state tables.now) sheet.now.contents.activities }
+    ensures { result ≡ (summary (plan_in sheet.now) i && is_milestone ((plan_in sheet.now).activity i).kind) }
 {
     if tables.act(i, memory::fields::IS_SUMMARY) == 0 {
         return false;
     }
-    project::is_milestone(activity_fields::kind_of(sheet, contents, i))
+    project::is_milestone(activity_fields::kind_of(sheet, i))
 }
 
 // Rows 11 and 12 for activity `i`.
-fn summary_one(
-    sheet: &[u8],
-    contents: Contents,
-    tables: &Tables,
-    i: usize,
-) -> Result<(), SummaryError>
-    requires { Lent sheet.now contents tables.now × (i < contents.activities) × ParentsKnown (plan_of sheet.now contents) × Parented (plan_of sheet.now contents) (state tables.now) contents.activities }
-    ensures { SummaryAnswered (plan_of sheet.now contents) result (judge_summary (plan_of sheet.now contents) i) }
+fn summary_one(sheet: &Sheet, tables: &Tables, i: usize) -> Result<(), SummaryError>
+    requires { Lent sheet.now tables.now × (i < sheet.now.contents.activities) × ParentsKnown (plan_in sheet.now) × Parented (plan_in sheet.now) (state tables.now) sheet.now.contents.activities }
+    ensures { SummaryAnswered (plan_in sheet.now) result (judge_summary (plan_in sheet.now) i) }
 {
-    if is_milestone_parent(sheet, contents, tables, i) {
-        return Err(SummaryError::Milestone(activity_fields::id_of(sheet, contents, i)));
+    if is_milestone_parent(sheet, tables, i) {
+        return Err(SummaryError::Milestone(activity_fields::id_of(sheet, i)));
     }
-    let steps = parent_loop_steps(tables, i);
-    if steps > 0 {
-        return Err(SummaryError::Loop { first: i, steps });
+    match parent_loop_steps(tables, i) {
+        Some(steps) => Err(SummaryError::Loop { first: i, steps }),
+        None => Ok(()),
     }
-    Ok(())
 }
 
 // Rows 11 and 12 for all activities.
-pub fn summaries(sheet: &[u8], contents: Contents, tables: &Tables) -> Result<(), SummaryError>
-    requires { Lent sheet.now contents tables.now × ParentsKnown (plan_of sheet.now contents) × Parented (plan_of sheet.now contents) (state tables.now) contents.activities }
-    ensures { SummaryAnswered (plan_of sheet.now contents) result (first_of (judge_summary (plan_of sheet.now contents)) contents.activities 0) }
+pub fn summaries(sheet: &Sheet, tables: &Tables) -> Result<(), SummaryError>
+    requires { Lent sheet.now tables.now × ParentsKnown (plan_in sheet.now) × Parented (plan_in sheet.now) (state tables.now) sheet.now.contents.activities }
+    ensures { SummaryAnswered (plan_in sheet.now) result (first_of (judge_summary (plan_in sheet.now)) sheet.now.contents.activities 0) }
 {
-    for i in 0..contents.activities {
-        summary_one(sheet, contents, tables, i)?;
+    for i in 0..sheet.contents.activities {
+        summary_one(sheet, tables, i)?;
     }
     Ok(())
 }

@@ -82,18 +82,13 @@ fn week_after(sheet: &[u8], at: usize, i: usize) -> bool
 }
 
 // How many of the first `n` W records have weekday `k`.
-#[tactic(auto, using(crate::specs::StepLaws::count_none, crate::specs::StepLaws::count_take, crate::specs::StepLaws::count_skip))]
 fn weekday_count(sheet: &[u8], at: usize, k: u64, n: usize) -> usize
     requires { at + 6 * n ≤ length sheet.now }
     ensures { result ≡ length (week_periods sheet.now at k n) }
 {
-    let mut count: usize = 0;
-    for i in 0..n {
-        if number::byte(sheet, at + 6 * i + 1) == k {
-            count += 1;
-        }
-    }
-    count
+    (0..n)
+        .filter(|i| number::byte(sheet, at + 6 * *i + 1) == k)
+        .count()
 }
 
 pub fn judge_week(sheet: &[u8], at: usize, i: usize) -> Result<(), SheetError>

@@ -9,15 +9,13 @@ use Rattle.memory.specs.State.{State}
 use Rattle.memory.specs.declared.Tables.{Tables}
 use Rattle.memory.specs.Seen.{state}
 use Rattle.memory.specs.Fields.{late_start, late_finish, early_finish, work_left, is_summary, from_field, first_out, next_out}
-use Rattle.sheet.specs.declared.Contents.{Contents}
 use Rattle.placing.proofs.PlacingLaws.{via_at, via_refused}
-use Rattle.order.specs.Plan.{Plan, plan_of}
+use Rattle.order.specs.Plan.{Plan, plan_in}
 use Rattle.order.specs.Ids.{summary}
 use Rattle.order.specs.Ties as ties
 use Rattle.passes.specs.Plan.{own, tie, ties_out, origin}
 use Rattle.passes.specs.Dates.{Early, Late, refused}
 use Rattle.passes.specs.Backward.{over_lag, link_finish, lowered, held_late, placed_late}
-use Rattle.calendars.specs.declared.plan_calendar.PlanCalendar.{PlanCalendar}
 use Rattle.dates.specs.declared.Tie.{Tie}
 use Rattle.dates.specs.Columns.{early_in, late_in}
 use Rattle.dates.specs.ColumnLaws.{column_at}
@@ -27,6 +25,7 @@ use Rattle.bounds.specs.ReadyLaws.{activities_are}
 use Rattle.bounds.specs.LinkLaws.{tie_is, to_in}
 use Rattle.late.specs.Times.{times_of, target_of, finish_by, lowering, unfinished_late}
 use Rattle.late.specs.LinkLaws.{lowered_gather}
+use Rattle.calendars.specs.declared.plan_sheet.PlanSheet.{PlanSheet}
 
 -- ---- the ways to the late dates of an activity that is not completed
 module _ (p : Plan) (d : Early) (l : Late) (i last : ℕ) where
@@ -39,28 +38,28 @@ module _ (p : Plan) (d : Early) (l : Late) (i last : ℕ) where
   pub unfinished_placed : (f g : ℕ) → lowered p d l i (ties_out p i) last ≡ Ok f → held_late p d l i f ≡ Ok g → unfinished_late p d l i last ≡ placed_late p d l i g
   unfinished_placed f g e h = via_at refused _ _ f e ∙ via_at refused _ _ g h
 
-module _ {s : List ℕ} {c : Contents} {calendars : List PlanCalendar} {t : ℕ} {tables : Tables} (R : Ready s c calendars t tables) where
+module _ {plan : PlanSheet} {tables : Tables} (R : Ready plan tables) where
   abbrev p : Plan
-  p = plan_of s c
+  p = plan_in plan.sheet
 
   abbrev S : State
   S = state tables
 
-  pub early_at : (i : ℕ) → i < c.activities → (early_in p S).ef i ≡ S.act early_finish i
-  early_at i b = column_at p.activities (λ j. origin p) early_finish S i (omega (arith, activities_are s c))
+  pub early_at : (i : ℕ) → i < plan.sheet.contents.activities → (early_in p S).ef i ≡ S.act early_finish i
+  early_at i b = column_at p.activities (λ j. origin p) early_finish S i (omega (arith, activities_are plan.sheet.bytes.now plan.sheet.contents))
 
-  pub left_at : (i : ℕ) → i < c.activities → (early_in p S).left i ≡ S.act work_left i
-  left_at i b = column_at p.activities (λ j. 0) work_left S i (omega (arith, activities_are s c))
+  pub left_at : (i : ℕ) → i < plan.sheet.contents.activities → (early_in p S).left i ≡ S.act work_left i
+  left_at i b = column_at p.activities (λ j. 0) work_left S i (omega (arith, activities_are plan.sheet.bytes.now plan.sheet.contents))
 
-  pub summary_at : (i m : ℕ) → i < c.activities → m ≡ S.act is_summary i → eqb m 1 ≡ summary p i
-  summary_at i m b e = mark_is (summary p i) (e ∙ R.standing.marks i (omega (arith, activities_are s c)))
+  pub summary_at : (i m : ℕ) → i < plan.sheet.contents.activities → m ≡ S.act is_summary i → eqb m 1 ≡ summary p i
+  summary_at i m b e = mark_is (summary p i) (e ∙ R.standing.marks i (omega (arith, activities_are plan.sheet.bytes.now plan.sheet.contents)))
 
   -- ---- a link in hand is the k-th kept one
-  module _ (k : ℕ) (l : k < t) (τ : Tie) (e : as_tie τ ≡ tie_in S k) where
+  module _ (k : ℕ) (l : k < tables.kept) (τ : Tie) (e : as_tie τ ≡ tie_in S k) where
     pub times_are : (last : ℕ) → times_of (own p (tie p k).to) ((late_in p S last).ls (tie p k).to) ((late_in p S last).lf (tie p k).to)
         ≡ times_of (own p τ.to) (S.act late_start τ.to) (S.act late_finish τ.to)
     times_are last =
-        let b : τ.to < p.activities = omega (arith, to_in R k l τ e, activities_are s c) in
+        let b : τ.to < p.activities = omega (arith, to_in R k l τ e, activities_are plan.sheet.bytes.now plan.sheet.contents) in
         ap (λ (x : ties.Tie). times_of (own p x.to) ((late_in p S last).ls x.to) ((late_in p S last).lf x.to)) (sym (tie_is R k l τ e))
         ∙ (λ z. times_of (own p τ.to) (column_at p.activities (λ i. last) late_start S τ.to b z) (column_at p.activities (λ i. last) late_finish S τ.to b z))
 
@@ -74,31 +73,31 @@ module _ {s : List ℕ} {c : Contents} {calendars : List PlanCalendar} {t : ℕ}
   module _ (i last : ℕ) where
     -- link k is next, and `latest` is what those before it leave
     abbrev pub Lowering : ℕ → ℕ → Type 0
-    Lowering latest k = Cursor (lowering (link_finish p (early_in p S) (late_in p S last) i)) Ok (S.link from_field) t i last latest k
+    Lowering latest k = Cursor (lowering (link_finish p (early_in p S) (late_in p S last) i)) Ok (S.link from_field) tables.kept i last latest k
 
-    pub lowering_start : (k : ℕ) → i < c.activities → k ≡ S.act first_out i → Lowering last k
+    pub lowering_start : (k : ℕ) → i < plan.sheet.contents.activities → k ≡ S.act first_out i → Lowering last k
     lowering_start k b e =
-        let a : i < p.activities = omega (arith, activities_are s c) in
+        let a : i < p.activities = omega (arith, activities_are plan.sheet.bytes.now plan.sheet.contents) in
         rw e (cursor_start _ _ _ _ _ _ (R.standing.chains_out.heads i a))
 
-    whole : gather (lowering (link_finish p (early_in p S) (late_in p S last) i)) Ok (after (S.link from_field) t i 0) last
+    whole : gather (lowering (link_finish p (early_in p S) (late_in p S last) i)) Ok (after (S.link from_field) tables.kept i 0) last
         ≡ lowered p (early_in p S) (late_in p S last) i (ties_out p i) last
     whole =
         ap (λ (ks : List ℕ). gather (lowering (link_finish p (early_in p S) (late_in p S last) i)) Ok ks last) (out_is p R.standing i)
         ∙ sym (lowered_gather p (early_in p S) (late_in p S last) i (ties_out p i) last)
 
     module _ {latest k : ℕ} (C : Lowering latest k) where
-      pub lowering_next : (f k' least : ℕ) → k < t → link_finish p (early_in p S) (late_in p S last) i k ≡ Ok f → least ≡ min latest f
+      pub lowering_next : (f k' least : ℕ) → k < tables.kept → link_finish p (early_in p S) (late_in p S last) i k ≡ Ok f → least ≡ min latest f
           → k' ≡ S.link next_out k → Lowering least k'
       lowering_next f k' least b e m n =
           rw (m, n) (cursor_turn _ _ _ _ _ _ C (min latest f) b (R.standing.chains_out.nexts k (omega arith) b) (λ go. via_at Err _ _ f e))
 
-      pub lowering_on : (k' : ℕ) → k < t → k' ≡ S.link next_out k → k < k'
+      pub lowering_on : (k' : ℕ) → k < tables.kept → k' ≡ S.link next_out k → k < k'
       lowering_on k' b n = omega (arith, n, (R.standing.chains_out.nexts k (omega arith) b).low)
 
-      pub lowering_stop : (r : ClockError) → k < t → link_finish p (early_in p S) (late_in p S last) i k ≡ Err r
+      pub lowering_stop : (r : ClockError) → k < tables.kept → link_finish p (early_in p S) (late_in p S last) i k ≡ Err r
           → Err r ≡ lowered p (early_in p S) (late_in p S last) i (ties_out p i) last
       lowering_stop r b e = cursor_stop _ _ _ _ _ _ C (Err r) b (λ go. via_refused Err _ _ r e) ∙ whole
 
-      pub lowering_end : t ≤ k → Ok latest ≡ lowered p (early_in p S) (late_in p S last) i (ties_out p i) last
+      pub lowering_end : tables.kept ≤ k → Ok latest ≡ lowered p (early_in p S) (late_in p S last) i (ties_out p i) last
       lowering_end b = cursor_end _ _ _ _ _ _ C b ∙ whole

@@ -4,7 +4,7 @@
 ghost use Rattle.std.specs.Prelude.{◌≡◌, ℕ, ◌^◌, ◌<◌, Ok};
 ghost use Rattle.clock.specs.On.{worked_by};
 ghost use Rattle.memory.specs.Seen.{state};
-ghost use Rattle.order.specs.Plan.{Plan, plan_of};
+ghost use Rattle.order.specs.Plan.{Plan, plan_in};
 ghost use Rattle.passes.specs.Plan.{recorded};
 ghost use Rattle.passes.specs.Dates.{Early, Late};
 ghost use Rattle.passes.specs.Backward.{lifted, placed_late};
@@ -14,11 +14,10 @@ ghost use Rattle.dates.specs.Standing.{Ready};
 ghost use Rattle.late.specs.Times.{dated, unfinished_late, Fitting};
 
 use calendar::Calendar;
-use calendars::PlanCalendar;
+use calendars::PlanSheet;
 use memory::Tables;
 use placing::Actual;
 use project::Activity;
-use sheet::Contents;
 use worktime::ClockError;
 
 pub mod limits;
@@ -89,10 +88,7 @@ fn place_late(
 
 // The late dates that the links out of activity `i` and its constraints leave it.
 fn late_from(
-    sheet: &[u8],
-    contents: Contents,
-    calendars: &[PlanCalendar],
-    t: usize,
+    plan: &PlanSheet,
     tables: &Tables,
     calendar: &Calendar,
     unfinished: Unfinished,
@@ -100,43 +96,36 @@ fn late_from(
     actual: Actual,
     last: u64,
 ) -> Result<LateDates, ClockError>
-    requires { Ready sheet.now contents calendars.now t tables.now × (i < contents.activities) × IsUnfinished (plan_of sheet.now contents) (early_in (plan_of sheet.now contents) (state tables.now)) i (worked_by calendar.now) unfinished × (unfinished.origin < 2 ^ 43) × (Ok actual ≡ recorded (plan_of sheet.now contents) i) }
-    ensures { (dated (plan_of sheet.now contents) (early_in (plan_of sheet.now contents) (state tables.now)) (late_in (plan_of sheet.now contents) (state tables.now) last) i result ≡ unfinished_late (plan_of sheet.now contents) (early_in (plan_of sheet.now contents) (state tables.now)) (late_in (plan_of sheet.now contents) (state tables.now) last) i last) × Fitting result }
+    requires { Ready plan.now tables.now × (i < plan.now.sheet.contents.activities) × IsUnfinished (plan_in plan.now.sheet) (early_in (plan_in plan.now.sheet) (state tables.now)) i (worked_by calendar.now) unfinished × (unfinished.origin < 2 ^ 43) × (Ok actual ≡ recorded (plan_in plan.now.sheet) i) }
+    ensures { (dated (plan_in plan.now.sheet) (early_in (plan_in plan.now.sheet) (state tables.now)) (late_in (plan_in plan.now.sheet) (state tables.now) last) i result ≡ unfinished_late (plan_in plan.now.sheet) (early_in (plan_in plan.now.sheet) (state tables.now)) (late_in (plan_in plan.now.sheet) (state tables.now) last) i last) × Fitting result }
 {
     let mark = tables.act(i, memory::fields::IS_SUMMARY);
     let early = tables.act(i, memory::fields::EARLY_FINISH);
-    let f = links::lower(
-        sheet, contents, calendars, t, tables, calendar, unfinished, i, last,
-    )?;
+    let f = links::lower(plan, tables, calendar, unfinished, i, last)?;
     let g = limits::hold_late(calendar, unfinished, mark == 1, actual, f)?;
     place_late(calendar, unfinished, early, g)
 }
 
 // The late dates of activity `i`, of which `actual` is recorded and which is not completed; `last` is the end.
 pub fn late_of(
-    sheet: &[u8],
-    contents: Contents,
-    calendars: &[PlanCalendar],
-    t: usize,
+    plan: &PlanSheet,
     tables: &Tables,
     i: usize,
     actual: Actual,
     last: u64,
 ) -> Result<LateDates, ClockError>
-    requires { Ready sheet.now contents calendars.now t tables.now × (i < contents.activities) × (Ok actual ≡ recorded (plan_of sheet.now contents) i) }
-    ensures { (dated (plan_of sheet.now contents) (early_in (plan_of sheet.now contents) (state tables.now)) (late_in (plan_of sheet.now contents) (state tables.now) last) i result ≡ unfinished_late (plan_of sheet.now contents) (early_in (plan_of sheet.now contents) (state tables.now)) (late_in (plan_of sheet.now contents) (state tables.now) last) i last) × Fitting result }
+    requires { Ready plan.now tables.now × (i < plan.now.sheet.contents.activities) × (Ok actual ≡ recorded (plan_in plan.now.sheet) i) }
+    ensures { (dated (plan_in plan.now.sheet) (early_in (plan_in plan.now.sheet) (state tables.now)) (late_in (plan_in plan.now.sheet) (state tables.now) last) i result ≡ unfinished_late (plan_in plan.now.sheet) (early_in (plan_in plan.now.sheet) (state tables.now)) (late_in (plan_in plan.now.sheet) (state tables.now) last) i last) × Fitting result }
 {
-    let activity = dates::activity_of(sheet, contents, i);
+    let activity = dates::activity_of(&plan.sheet, i);
     let k = activity.calendar as usize;
-    let calendar = calendars::calendar_of(sheet, contents, calendars, k);
+    let calendar = plan.calendar(k);
     let left = tables.act(i, memory::fields::WORK_LEFT);
-    let origin = dates::origin_of(sheet, contents);
+    let origin = dates::origin_of(&plan.sheet);
     let unfinished = Unfinished {
         activity: activity,
         left: left,
         origin: origin,
     };
-    late_from(
-        sheet, contents, calendars, t, tables, &calendar, unfinished, i, actual, last,
-    )
+    late_from(plan, tables, &calendar, unfinished, i, actual, last)
 }

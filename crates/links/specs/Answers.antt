@@ -3,8 +3,7 @@ use Rattle.std.specs.Prelude.{◌≡◌, ◌⊎◌, true, false, List, ◌++◌,
 use Rattle.memory.specs.State.{State}
 use Rattle.memory.specs.declared.Tables.{Tables}
 use Rattle.memory.specs.Seen.{state}
-use Rattle.sheet.specs.declared.Contents.{Contents}
-use Rattle.order.specs.Plan.{Plan, plan_of}
+use Rattle.order.specs.Plan.{Plan, plan_in}
 use Rattle.order.specs.IdLaws.{DistinctIds}
 use Rattle.order.specs.FineLaws.{ActivitiesFine}
 use Rattle.order.specs.Ties.{ignored, tie_of, kept_below, ignored_below}
@@ -18,15 +17,16 @@ use Rattle.calendars.specs.declared.plan_calendar.PlanCalendar.{PlanCalendar}
 use Rattle.calendars.specs.Calendars.{Lengths}
 use Rattle.links.specs.declared.LinkCounts.{LinkCounts}
 use Rattle.links.specs.Stored.{tie_in, Stored}
+use Rattle.sheet.specs.declared.value.Sheet.{Sheet}
 
 -- what a link's checks are lent: rows 6 to 12 are fine, and the memory has the index of ids, parents and summaries
-pub record Judging (s : List ℕ) (c : Contents) (calendars : List PlanCalendar) (t : Tables) : Type 0 where
-  pub lent : Lent s c t
-  pub distinct : DistinctIds (plan_of s c)
-  pub indexed : Indexed (plan_of s c) (state t) c.activities
-  pub parented : Parented (plan_of s c) (state t) c.activities
-  pub activities : ActivitiesFine (plan_of s c)
-  pub lengths_are : Lengths (plan_of s c) calendars
+pub record Judging (sheet : Sheet) (calendars : List PlanCalendar) (t : Tables) : Type 0 where
+  pub lent : Lent sheet t
+  pub distinct : DistinctIds (plan_in sheet)
+  pub indexed : Indexed (plan_in sheet) (state t) sheet.contents.activities
+  pub parented : Parented (plan_in sheet) (state t) sheet.contents.activities
+  pub activities : ActivitiesFine (plan_in sheet)
+  pub lengths_are : Lengths (plan_in sheet) calendars
 
 -- T has the activities of S
 pub record ActsKept (S T : State) : Type 0 where

@@ -10,9 +10,8 @@ use Rattle.memory.specs.State.{State}
 use Rattle.memory.specs.declared.Tables.{Tables}
 use Rattle.memory.specs.Seen.{state, SameSlice}
 use Rattle.memory.specs.Fields.{from_field, to_field, kind_field, lag_field, lag_calendar_field}
-use Rattle.sheet.specs.declared.Contents.{Contents}
 use Rattle.calendars.specs.declared.plan_calendar.PlanCalendar.{PlanCalendar}
-use Rattle.order.specs.Plan.{Plan, plan_of}
+use Rattle.order.specs.Plan.{Plan, plan_in}
 use Rattle.order.specs.Ties.{tie_of, kept_below, ignored_below}
 use Rattle.order.specs.TieLaws.{kept_none, ignored_none, kept_ignored, ignored_ignored, kept_kept, ignored_kept, kept_and_ignored}
 use Rattle.order.specs.Checks.{Verdict, fine, first_of, judge_link}
@@ -25,6 +24,7 @@ use Rattle.ids.specs.LentLaws.{still_lent}
 use Rattle.links.specs.declared.LinkCounts.{LinkCounts}
 use Rattle.links.specs.Stored.{tie_in}
 use Rattle.links.specs.Answers.{Judging, ActsKept, LinkIgnored, LinkKept, LinkedOne, LinksIn, LinkedAll}
+use Rattle.sheet.specs.declared.value.Sheet.{Sheet}
 
 -- ---- where the activities' fields stay
 pub acts_then : {S T U : State} → ActsKept S T → ActsKept T U → ActsKept S U
@@ -37,13 +37,13 @@ module _ (p : Plan) {S T : State} (K : ActsKept S T) (n : ℕ) where
   pub parented_kept : Parented p S n → Parented p T n
   parented_kept P = record { parents = rw K.acts P.parents; marks = rw K.acts P.marks }
 
-pub judging_kept : {s : List ℕ} {c : Contents} {calendars : List PlanCalendar} {t u : Tables} → Judging s c calendars t → ActsKept (state t) (state u) → SameSlice t u
-    → Judging s c calendars u
-judging_kept {s} {c} J K e = record {
+pub judging_kept : {sheet : Sheet} {calendars : List PlanCalendar} {t u : Tables} → Judging sheet calendars t → ActsKept (state t) (state u) → SameSlice t u
+    → Judging sheet calendars u
+judging_kept {sheet} J K e = record {
   lent = still_lent J.lent e;
   distinct = J.distinct;
-  indexed = indexed_kept (plan_of s c) K c.activities J.indexed;
-  parented = parented_kept (plan_of s c) K c.activities J.parented;
+  indexed = indexed_kept (plan_in sheet) K sheet.contents.activities J.indexed;
+  parented = parented_kept (plan_in sheet) K sheet.contents.activities J.parented;
   activities = J.activities;
   lengths_are = J.lengths_are;
 }

@@ -4,8 +4,7 @@
 ghost use Rattle.std.specs.Prelude.{◌≡◌, false, ◌^◌, ◌≤◌, ◌<◌, length};
 ghost use Rattle.memory.specs.Seen.{state, SameSlice};
 ghost use Rattle.project.specs.Records.{relationship_type_of};
-ghost use Rattle.sheet.specs.Known.{SheetRead};
-ghost use Rattle.order.specs.Plan.{plan_of};
+ghost use Rattle.order.specs.Plan.{plan_in};
 ghost use Rattle.order.specs.IdLaws.{DistinctIds};
 ghost use Rattle.order.specs.FineLaws.{ActivitiesFine};
 ghost use Rattle.order.specs.Ties.{tie_calendar, tie_too_long, tie_of};
@@ -20,7 +19,7 @@ ghost use Rattle.links.specs.Answers.{Judging, LinkedOne, LinkedAll, ActsKept};
 use calendars::PlanCalendar;
 use memory::Tables;
 use order::PlanError;
-use sheet::Contents;
+use sheet::Sheet;
 
 // How many links are kept and how many are ignored.
 #[derive(Clone, Copy)]
@@ -30,28 +29,30 @@ pub struct LinkCounts {
 }
 
 // The code of the type of link `k`.
-fn kind_code(sheet: &[u8], contents: Contents, k: usize) -> u64
-    requires { SheetRead sheet.now contents × (k < contents.links) }
-    ensures { (relationship_type_of result ≡ ((plan_of sheet.now contents).link k).kind) × (result < 256) }
+fn kind_code(sheet: &Sheet, k: usize) -> u64
+    requires { k < sheet.now.contents.links }
+    ensures { (relationship_type_of result ≡ ((plan_in sheet.now).link k).kind) × (result < 256) }
 {
-    number::byte(sheet, contents.at + 45 * contents.activities + 16 * k + 9)
+    number::byte(
+        sheet.bytes,
+        sheet.contents.at + 45 * sheet.contents.activities + 16 * k + 9,
+    )
 }
 
 // The lag of link `k` in minutes, where it is not too long; `calendar` is the lag's.
 fn tie_lag(
-    sheet: &[u8],
-    contents: Contents,
+    sheet: &Sheet,
     calendars: &[PlanCalendar],
     k: usize,
     from: usize,
     to: usize,
     calendar: u64,
 ) -> i64
-    requires { SheetRead sheet.now contents × (k < contents.links) × ActivitiesFine (plan_of sheet.now contents) × Lengths (plan_of sheet.now contents) calendars.now × Between (plan_of sheet.now contents) k from to × (tie_too_long (plan_of sheet.now contents) k ≡ false) × (calendar ≡ tie_calendar (plan_of sheet.now contents) k) × (calendar ≤ contents.calendars) }
-    ensures { result ≡ (tie_of (plan_of sheet.now contents) k).lag }
+    requires { (k < sheet.now.contents.links) × ActivitiesFine (plan_in sheet.now) × Lengths (plan_in sheet.now) calendars.now × Between (plan_in sheet.now) k from to × (tie_too_long (plan_in sheet.now) k ≡ false) × (calendar ≡ tie_calendar (plan_in sheet.now) k) × (calendar ≤ sheet.now.contents.calendars) }
+    ensures { result ≡ (tie_of (plan_in sheet.now) k).lag }
 {
-    let lag = ties::link_fields::lag_of(sheet, contents, k);
-    let minutes = ids::activity_fields::minutes_of(sheet, contents, from);
+    let lag = ties::link_fields::lag_of(sheet, k);
+    let minutes = ids::activity_fields::minutes_of(sheet, from);
     ties::lags::lag_minutes(lag, calendars[calendar as usize].day_length, minutes as i64)
 }
 
@@ -77,8 +78,7 @@ fn put_tie(
 
 // Puts link `k`, which is kept, into row `t` of the link table.
 fn store_tie(
-    sheet: &[u8],
-    contents: Contents,
+    sheet: &Sheet,
     calendars: &[PlanCalendar],
     tables: &mut Tables,
     k: usize,
@@ -86,45 +86,35 @@ fn store_tie(
     to: usize,
     t: usize,
 )
-    requires { Lent sheet.now contents tables.old × (k < contents.links) × ActivitiesFine (plan_of sheet.now contents) × Lengths (plan_of sheet.now contents) calendars.now × Between (plan_of sheet.now contents) k from to × (tie_too_long (plan_of sheet.now contents) k ≡ false) × (t < contents.links) }
-    ensures { Stored (plan_of sheet.now contents) k t (state tables.old) (state tables.new) × SameSlice tables.old tables.new }
+    requires { Lent sheet.now tables.old × (k < sheet.now.contents.links) × ActivitiesFine (plan_in sheet.now) × Lengths (plan_in sheet.now) calendars.now × Between (plan_in sheet.now) k from to × (tie_too_long (plan_in sheet.now) k ≡ false) × (t < sheet.now.contents.links) }
+    ensures { Stored (plan_in sheet.now) k t (state tables.old) (state tables.new) × SameSlice tables.old tables.new }
 {
-    let kind = kind_code(sheet, contents, k);
-    let calendar = ties::tie_calendar(sheet, contents, k, from, to);
-    let lag = tie_lag(sheet, contents, calendars, k, from, to, calendar);
+    let kind = kind_code(sheet, k);
+    let calendar = ties::tie_calendar(sheet, k, from, to);
+    let lag = tie_lag(sheet, calendars, k, from, to, calendar);
     put_tie(tables, t, from, to, kind, lag, calendar);
 }
 
 // Judges link `k`, after the links that `counts` has: a kept link is stored in its row, an ignored one is named.
 fn link_one(
-    sheet: &[u8],
-    contents: Contents,
+    sheet: &Sheet,
     calendars: &[PlanCalendar],
     names: &mut [u32],
     tables: &mut Tables,
     k: usize,
     counts: LinkCounts,
 ) -> Result<LinkCounts, PlanError>
-    requires { Judging sheet.now contents calendars.now tables.old × (k < contents.links) × (counts.kept < contents.links) × (counts.ignored < length names.old) }
-    ensures { LinkedOne (plan_of sheet.now contents) k counts (state tables.old) (state tables.new) names.old names.new result × SameSlice tables.old tables.new × (length names.new ≡ length names.old) }
+    requires { Judging sheet.now calendars.now tables.old × (k < sheet.now.contents.links) × (counts.kept < sheet.now.contents.links) × (counts.ignored < length names.old) }
+    ensures { LinkedOne (plan_in sheet.now) k counts (state tables.old) (state tables.new) names.old names.new result × SameSlice tables.old tables.new × (length names.new ≡ length names.old) }
 {
-    let Some(ends) = ties::link_check(sheet, contents, tables, calendars, k)? else {
+    let Some(ends) = ties::link_check(sheet, tables, calendars, k)? else {
         names[counts.ignored] = k as u32;
         return Ok(LinkCounts {
             ignored: counts.ignored + 1,
             ..counts
         });
     };
-    store_tie(
-        sheet,
-        contents,
-        calendars,
-        tables,
-        k,
-        ends.from,
-        ends.to,
-        counts.kept,
-    );
+    store_tie(sheet, calendars, tables, k, ends.from, ends.to, counts.kept);
     Ok(LinkCounts {
         kept: counts.kept + 1,
         ..counts
@@ -133,21 +123,20 @@ fn link_one(
 
 // Judges all links: where none is refused, the kept ones stand in the first rows of the link table, and names begins with the ignored ones' positions.
 pub fn link_all(
-    sheet: &[u8],
-    contents: Contents,
+    sheet: &Sheet,
     calendars: &[PlanCalendar],
     names: &mut [u32],
     tables: &mut Tables,
 ) -> Result<LinkCounts, PlanError>
-    requires { Lent sheet.now contents tables.old × DistinctIds (plan_of sheet.now contents) × Indexed (plan_of sheet.now contents) (state tables.old) contents.activities × Parented (plan_of sheet.now contents) (state tables.old) contents.activities × ActivitiesFine (plan_of sheet.now contents) × Lengths (plan_of sheet.now contents) calendars.now × (contents.links ≤ length names.old) }
-    ensures { LinkedAll (plan_of sheet.now contents) (state tables.new) names.old names.new result × ActsKept (state tables.old) (state tables.new) × SameSlice tables.old tables.new × (length names.new ≡ length names.old) }
+    requires { Lent sheet.now tables.old × DistinctIds (plan_in sheet.now) × Indexed (plan_in sheet.now) (state tables.old) sheet.now.contents.activities × Parented (plan_in sheet.now) (state tables.old) sheet.now.contents.activities × ActivitiesFine (plan_in sheet.now) × Lengths (plan_in sheet.now) calendars.now × (sheet.now.contents.links ≤ length names.old) }
+    ensures { LinkedAll (plan_in sheet.now) (state tables.new) names.old names.new result × ActsKept (state tables.old) (state tables.new) × SameSlice tables.old tables.new × (length names.new ≡ length names.old) }
 {
     let mut counts = LinkCounts {
         kept: 0,
         ignored: 0,
     };
-    for k in 0..contents.links {
-        counts = link_one(sheet, contents, calendars, names, tables, k, counts)?;
+    for k in 0..sheet.contents.links {
+        counts = link_one(sheet, calendars, names, tables, k, counts)?;
     }
     Ok(counts)
 }

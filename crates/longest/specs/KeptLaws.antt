@@ -1,19 +1,26 @@
 -- What the longest path is lent stays while its marks are put.
-use Rattle.std.specs.Prelude.{refl, List, ℕ}
-use Rattle.std.proofs.Common.{arith}
+use Rattle.std.specs.Prelude.{◌≡◌, refl, ℕ}
+use Rattle.std.proofs.Common.{ap, arith}
+use Rattle.memory.specs.State.{State}
 use Rattle.memory.specs.declared.Tables.{Tables}
 use Rattle.memory.specs.Seen.{state, SameSlice}
 use Rattle.topology.specs.Frame.{Frame}
-use Rattle.sheet.specs.declared.Contents.{Contents}
-use Rattle.order.specs.Plan.{plan_of}
-use Rattle.calendars.specs.declared.plan_calendar.PlanCalendar.{PlanCalendar}
-use Rattle.dates.specs.KeptLaws.{ready_kept, recorded_kept}
+use Rattle.order.specs.Plan.{Plan, plan_in}
+use Rattle.calendars.specs.declared.plan_sheet.PlanSheet.{PlanSheet}
+use Rattle.dates.specs.KeptLaws.{ready_kept, recorded_kept, early_kept}
+use Rattle.passes.specs.Dates.{Early}
+use Rattle.passes.specs.Floats.{on_path}
+use Rattle.dates.specs.Columns.{early_in}
 use Rattle.longest.specs.Path.{Lent}
 
-pub lent_kept : {s : List ℕ} {c : Contents} {calendars : List PlanCalendar} {t : ℕ} {tables : Tables} → Lent s c calendars t tables
+pub lent_kept : {plan : PlanSheet} {tables : Tables} → Lent plan tables
     → (tables' : Tables) → Frame 16 17 0 0 (state tables) (state tables') → SameSlice tables tables'
-    → Lent s c calendars t tables'
-lent_kept {s} {c} L tables' F e = record {
+    → Lent plan tables'
+lent_kept {plan} L tables' F e = record {
   ready = ready_kept L.ready F e (omega arith);
-  recorded = recorded_kept F (plan_of s c) refl refl refl L.recorded;
+  recorded = recorded_kept F (plan_in plan.sheet) refl refl refl L.recorded;
 }
+
+-- the step's turn reads no mark but by what is seen
+pub turn_kept : {S T : State} → Frame 16 17 0 0 S T → (p : Plan) → on_path p (early_in p T) ≡ on_path p (early_in p S)
+turn_kept F p = ap (λ (d : Early). on_path p d) (early_kept F p refl refl refl)

@@ -1,7 +1,7 @@
 -- An activity in hand, its own calendar, and what is read of its dates and of a link into it, as the definitions have them.
-use Rattle.std.specs.Prelude.{◌≡◌, List, ℕ, ◌<◌, Result, Ok}
+use Rattle.std.specs.Prelude.{◌≡◌, ℕ, ◌<◌, Result, Ok}
 use Rattle.worktime.specs.declared.ClockError.{ClockError}
-use Rattle.std.proofs.Common.{sym, ap, ap₂, subst, ◌∙◌, arith}
+use Rattle.std.proofs.Common.{sym, ap, ap₂, ◌∙◌, arith}
 use Rattle.calendar.specs.declared.value.Calendar.{Calendar}
 use Rattle.clock.specs.On.{worked_by}
 use Rattle.project.specs.declared.Activity.{Activity}
@@ -13,47 +13,42 @@ use Rattle.memory.specs.State.{State}
 use Rattle.memory.specs.declared.Tables.{Tables}
 use Rattle.memory.specs.Seen.{state}
 use Rattle.memory.specs.Fields.{early_start, work_left, from_field, kind_field}
-use Rattle.sheet.specs.declared.Contents.{Contents}
-use Rattle.order.specs.Plan.{Plan, plan_of}
+use Rattle.order.specs.Plan.{Plan, plan_in}
 use Rattle.order.specs.Ties as ties
 use Rattle.passes.specs.Plan.{origin, own, tie, kind_of, recorded}
 use Rattle.passes.specs.Forward.{start_for}
 use Rattle.passes.specs.Floats.{is_completed}
-use Rattle.calendars.specs.declared.plan_calendar.PlanCalendar.{PlanCalendar}
-use Rattle.calendars.specs.Calendars.{InPlan}
+use Rattle.calendars.specs.Calendars.{Own}
 use Rattle.calendars.specs.CalendarLaws.{in_plan_worked}
 use Rattle.dates.specs.Columns.{early_in}
 use Rattle.dates.specs.ColumnLaws.{column_at}
 use Rattle.dates.specs.Standing.{actual_in}
 use Rattle.bounds.specs.ReadyLaws.{activities_are, kept_within, tie_from_below}
-use Rattle.longest.specs.Path.{Lent, Own}
+use Rattle.longest.specs.Path.{Lent}
+use Rattle.sheet.specs.declared.value.Sheet.{Sheet}
+use Rattle.calendars.specs.declared.plan_sheet.PlanSheet.{PlanSheet}
 
-pub own_made : {s : List ℕ} {c : Contents} {i : ℕ} {activity : Activity} {calendar : Calendar} → activity ≡ (plan_of s c).activity i
-    → InPlan s c activity.calendar calendar → Own s c i activity calendar
-own_made {s} {c} {i} {activity} {calendar} e C =
-    record { is = e; in_plan = subst (λ (k : ℕ). InPlan s c k calendar) (ap (λ (x : Activity). x.calendar) e) C }
-
-module _ {s : List ℕ} {c : Contents} {i : ℕ} {activity : Activity} {calendar : Calendar} (O : Own s c i activity calendar) where
-  pub own_worked : own (plan_of s c) i ≡ worked_by calendar
+module _ {sheet : Sheet} {i : ℕ} {activity : Activity} {calendar : Calendar} (O : Own sheet i activity calendar) where
+  pub own_worked : own (plan_in sheet) i ≡ worked_by calendar
   own_worked = sym (in_plan_worked O.in_plan)
 
-  own_kind : kind_of (plan_of s c) i ≡ activity.kind
+  own_kind : kind_of (plan_in sheet) i ≡ activity.kind
   own_kind = sym (ap (λ (x : Activity). x.kind) O.is)
 
-  pub own_place : (u : ℕ) (r : Result ℕ ClockError) → r ≡ place_start (worked_by calendar) activity.kind u → r ≡ place_start (own (plan_of s c) i) (kind_of (plan_of s c) i) u
+  pub own_place : (u : ℕ) (r : Result ℕ ClockError) → r ≡ place_start (worked_by calendar) activity.kind u → r ≡ place_start (own (plan_in sheet) i) (kind_of (plan_in sheet) i) u
   own_place u r e = e ∙ (λ z. place_start (sym own_worked z) (sym own_kind z) u)
 
-module _ {s : List ℕ} {c : Contents} {calendars : List PlanCalendar} {t : ℕ} {tables : Tables} (L : Lent s c calendars t tables) where
+module _ {plan : PlanSheet} {tables : Tables} (L : Lent plan tables) where
   abbrev p : Plan
-  p = plan_of s c
+  p = plan_in plan.sheet
 
   abbrev S : State
   S = state tables
 
   -- ---- dates of activity i
-  module _ (i : ℕ) (l : i < c.activities) where
-    inside : i < (plan_of s c).activities
-    inside = omega (arith, activities_are s c)
+  module _ (i : ℕ) (l : i < plan.sheet.contents.activities) where
+    inside : i < (plan_in plan.sheet).activities
+    inside = omega (arith, activities_are plan.sheet.bytes.now plan.sheet.contents)
 
     pub start_read : (v : ℕ) → v ≡ S.act early_start i → v ≡ (early_in p S).es i
     start_read v e = e ∙ sym (column_at p.activities (λ j. origin p) early_start S i inside)
@@ -62,8 +57,8 @@ module _ {s : List ℕ} {c : Contents} {calendars : List PlanCalendar} {t : ℕ}
     left_read v e = e ∙ sym (column_at p.activities (λ j. 0) work_left S i inside)
 
   -- ---- link k
-  module _ (k : ℕ) (l : k < t) where
-    pub link_in : k < c.links
+  module _ (k : ℕ) (l : k < tables.kept) where
+    pub link_in : k < plan.sheet.contents.links
     link_in = omega (arith, kept_within L.ready)
 
     pub kind_read : (v : ℕ) (r : RelationshipType) → v ≡ S.link kind_field k → r ≡ relationship_type_of v → r ≡ (tie p k).kind
@@ -72,16 +67,16 @@ module _ {s : List ℕ} {c : Contents} {calendars : List PlanCalendar} {t : ℕ}
     pub from_read : (v : ℕ) → v ≡ S.link from_field k → v ≡ (tie p k).from
     from_read v e = e ∙ ap (λ (x : ties.Tie). x.from) (L.ready.standing.tied k l)
 
-    pub from_inside : (v : ℕ) → v ≡ S.link from_field k → v < c.activities
+    pub from_inside : (v : ℕ) → v ≡ S.link from_field k → v < plan.sheet.contents.activities
     from_inside v e = omega (arith, from_read v e, tie_from_below L.ready k l)
 
     -- whether its predecessor is completed
     pub completed_read : (v : ℕ) (a : Actual) → v ≡ S.link from_field k → a ≡ actual_in S v → is_completed p (recorded p (tie p k).from) ≡ is_completed p (Ok a)
     completed_read v a e f =
         ap (λ (j : ℕ). is_completed p (recorded p j)) (sym (from_read v e))
-        ∙ ap (is_completed p) (sym (ap Ok f ∙ L.recorded v (omega (arith, from_inside v e, activities_are s c))))
+        ∙ ap (is_completed p) (sym (ap Ok f ∙ L.recorded v (omega (arith, from_inside v e, activities_are plan.sheet.bytes.now plan.sheet.contents))))
 
     -- the start that its bound b leaves activity i
-    pub start_left : (i : ℕ) → i < c.activities → (v u b : ℕ) (r : RelationshipType) (w : Result ℕ ClockError) → v ≡ S.act work_left i → u ≡ S.link kind_field k → r ≡ relationship_type_of u → w ≡ start_for p i v r b
+    pub start_left : (i : ℕ) → i < plan.sheet.contents.activities → (v u b : ℕ) (r : RelationshipType) (w : Result ℕ ClockError) → v ≡ S.act work_left i → u ≡ S.link kind_field k → r ≡ relationship_type_of u → w ≡ start_for p i v r b
         → w ≡ start_for p i ((early_in p S).left i) (tie p k).kind b
     start_left i m v u b r w e f g h = h ∙ ap₂ (λ (x : ℕ) (y : RelationshipType). start_for p i x y b) (left_read i m v e) (kind_read u r f g)

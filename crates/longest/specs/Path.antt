@@ -1,31 +1,21 @@
 -- The longest path as code takes it: where a link's bound places its successor, and one link's turn in the walk along the links into an activity.
-use Rattle.std.specs.Prelude.{◌≡◌, Bool, true, false, List, ℕ, Result, Ok, Err}
+use Rattle.std.specs.Prelude.{Bool, true, false, ℕ, Result, Ok, Err}
 use Rattle.worktime.specs.declared.ClockError.{ClockError}
-use Rattle.calendar.specs.declared.value.Calendar.{Calendar}
-use Rattle.project.specs.declared.Activity.{Activity}
 use Rattle.placing.specs.Placing.{via, place_start}
 use Rattle.memory.specs.declared.Tables.{Tables}
 use Rattle.memory.specs.Seen.{state}
-use Rattle.sheet.specs.declared.Contents.{Contents}
-use Rattle.order.specs.Plan.{Plan, plan_of}
-use Rattle.order.specs.Ties.{calendar_of}
+use Rattle.order.specs.Plan.{Plan, plan_in}
 use Rattle.passes.specs.Plan.{own, tie, kind_of}
 use Rattle.passes.specs.Dates.{Early, Pass, refused, put}
 use Rattle.passes.specs.Forward.{link_bound, start_for}
 use Rattle.passes.specs.Floats.{drives}
-use Rattle.calendars.specs.declared.plan_calendar.PlanCalendar.{PlanCalendar}
-use Rattle.calendars.specs.Calendars.{InPlan}
 use Rattle.dates.specs.Standing.{Ready, Recorded}
+use Rattle.calendars.specs.declared.plan_sheet.PlanSheet.{PlanSheet}
 
 -- what the passes are lent, with what is recorded of work
-pub record Lent (s : List ℕ) (c : Contents) (calendars : List PlanCalendar) (t : ℕ) (tables : Tables) : Type 0 where
-  pub ready : Ready s c calendars t tables
-  pub recorded : Recorded (plan_of s c) (state tables)
-
--- activity i in hand, with its own calendar
-pub record Own (s : List ℕ) (c : Contents) (i : ℕ) (activity : Activity) (calendar : Calendar) : Type 0 where
-  pub is : activity ≡ (plan_of s c).activity i
-  pub in_plan : InPlan s c (calendar_of (plan_of s c) i) calendar
+pub record Lent (plan : PlanSheet) (tables : Tables) : Type 0 where
+  pub ready : Ready plan tables
+  pub recorded : Recorded (plan_in plan.sheet) (state tables)
 
 -- what follows the answer whether a link sets the start of its successor
 abbrev pub driven : Result Bool ClockError → (Bool → Pass (ℕ → Bool)) → Pass (ℕ → Bool)

@@ -1,25 +1,26 @@
 // The longest path: from the activities that finish the project back along the links that set a start.
 #![tactic(auto)]
 
-ghost use Rattle.std.specs.Prelude.{◌≡◌, Bool, reverse, ℕ, ◌<◌, Ok};
+ghost use Rattle.std.specs.Prelude.{◌≡◌, Bool, ℕ, ◌<◌, Ok};
 ghost use Rattle.memory.specs.Seen.{state, SameSlice};
 ghost use Rattle.topology.specs.Frame.{Frame};
-ghost use Rattle.order.specs.Plan.{Plan, plan_of};
-ghost use Rattle.order.specs.Checks.{order};
-ghost use Rattle.passes.specs.Dates.{Pass, after, through};
+ghost use Rattle.order.specs.Plan.{Plan, plan_in};
+ghost use Rattle.passes.specs.Dates.{Pass, after};
 ghost use Rattle.passes.specs.Floats.{is_completed, last_ones, drives, marked, on_path};
 ghost use Rattle.passes.specs.Plan.{ties_into};
 ghost use Rattle.passes.specs.Run.{path_pass};
 ghost use Rattle.dates.specs.Columns.{early_in, path_in, ended};
+ghost use Rattle.calendars.specs.Calendars.{Own};
 ghost use Rattle.dates.specs.Standing.{Standing, Ready, Recorded};
-ghost use Rattle.longest.specs.Path.{Lent, Own, driven, bound_start, marks};
+ghost use Rattle.longest.specs.KeptLaws.{turn_kept};
+ghost use Rattle.longest.specs.Path.{Lent, driven, bound_start, marks};
 
 use calendar::Calendar;
-use calendars::PlanCalendar;
+use calendars::PlanSheet;
+use dates::step::Step;
 use memory::Tables;
 use placing::Actual;
 use project::{Activity, RelationshipType};
-use sheet::Contents;
 use worktime::ClockError;
 
 // Whether work is completed.
@@ -60,20 +61,17 @@ fn mark_last(tables: &mut Tables, finish: u64)
 
 // Where the bound of link `k` places activity `i`, on its own calendar.
 fn bound_start(
-    sheet: &[u8],
-    contents: Contents,
-    calendars: &[PlanCalendar],
-    t: usize,
+    plan: &PlanSheet,
     tables: &Tables,
     activity: Activity,
     calendar: &Calendar,
     i: usize,
     k: usize,
 ) -> Result<u64, ClockError>
-    requires { Lent sheet.now contents calendars.now t tables.now × Own sheet.now contents i activity calendar.now × (i < contents.activities) × (k < t) }
-    ensures { result ≡ bound_start (plan_of sheet.now contents) (early_in (plan_of sheet.now contents) (state tables.now)) i k }
+    requires { Lent plan.now tables.now × Own plan.now.sheet i activity calendar.now × (i < plan.now.sheet.contents.activities) × (k < tables.now.kept) }
+    ensures { result ≡ bound_start (plan_in plan.now.sheet) (early_in (plan_in plan.now.sheet) (state tables.now)) i k }
 {
-    let b = bounds::link_bound(sheet, contents, calendars, t, tables, k)?;
+    let b = bounds::link_bound(plan, tables, k)?;
     let left = tables.act(i, memory::fields::WORK_LEFT);
     let code = tables.link(k, memory::fields::KIND);
     let kind = RelationshipType::from(code);
@@ -83,22 +81,17 @@ fn bound_start(
 
 // Whether link `k` sets the start of activity `i`: its bound places it where it is, and its predecessor is not completed.
 fn drives(
-    sheet: &[u8],
-    contents: Contents,
-    calendars: &[PlanCalendar],
-    t: usize,
+    plan: &PlanSheet,
     tables: &Tables,
     activity: Activity,
     calendar: &Calendar,
     i: usize,
     k: usize,
 ) -> Result<bool, ClockError>
-    requires { Lent sheet.now contents calendars.now t tables.now × Own sheet.now contents i activity calendar.now × (i < contents.activities) × (k < t) }
-    ensures { (go : Bool → Pass (ℕ → Bool)) → driven result go ≡ drives (plan_of sheet.now contents) (early_in (plan_of sheet.now contents) (state tables.now)) i k go }
+    requires { Lent plan.now tables.now × Own plan.now.sheet i activity calendar.now × (i < plan.now.sheet.contents.activities) × (k < tables.now.kept) }
+    ensures { (go : Bool → Pass (ℕ → Bool)) → driven result go ≡ drives (plan_in plan.now.sheet) (early_in (plan_in plan.now.sheet) (state tables.now)) i k go }
 {
-    let u = bound_start(
-        sheet, contents, calendars, t, tables, activity, calendar, i, k,
-    )?;
+    let u = bound_start(plan, tables, activity, calendar, i, k)?;
     if u != tables.act(i, memory::fields::EARLY_START) {
         return Ok(false);
     }
@@ -109,22 +102,17 @@ fn drives(
 
 // Link `k` in its turn: its predecessor is marked if it sets the start of activity `i`.
 fn mark_link(
-    sheet: &[u8],
-    contents: Contents,
-    calendars: &[PlanCalendar],
-    t: usize,
+    plan: &PlanSheet,
     tables: &mut Tables,
     activity: Activity,
     calendar: &Calendar,
     i: usize,
     k: usize,
 ) -> Result<(), ClockError>
-    requires { Lent sheet.now contents calendars.now t tables.old × Own sheet.now contents i activity calendar.now × (i < contents.activities) × (k < t) }
-    ensures { ((other : ℕ → Bool) (go : (ℕ → Bool) → Pass (ℕ → Bool)) → after (ended (path_in (plan_of sheet.now contents) (state tables.new) other) result) go ≡ marks (plan_of sheet.now contents) (early_in (plan_of sheet.now contents) (state tables.old)) i (path_in (plan_of sheet.now contents) (state tables.old) other) k go) × Frame 16 17 0 0 (state tables.old) (state tables.new) × SameSlice tables.old tables.new }
+    requires { Lent plan.now tables.old × Own plan.now.sheet i activity calendar.now × (i < plan.now.sheet.contents.activities) × (k < tables.old.kept) }
+    ensures { ((other : ℕ → Bool) (go : (ℕ → Bool) → Pass (ℕ → Bool)) → after (ended (path_in (plan_in plan.now.sheet) (state tables.new) other) result) go ≡ marks (plan_in plan.now.sheet) (early_in (plan_in plan.now.sheet) (state tables.old)) i (path_in (plan_in plan.now.sheet) (state tables.old) other) k go) × Frame 16 17 0 0 (state tables.old) (state tables.new) × SameSlice tables.old tables.new }
 {
-    let sets = drives(
-        sheet, contents, calendars, t, tables, activity, calendar, i, k,
-    )?;
+    let sets = drives(plan, tables, activity, calendar, i, k)?;
     if sets {
         let from = tables.link(k, memory::fields::FROM) as usize;
         tables.put_act(from, memory::fields::LONGEST_PATH, 1);
@@ -134,24 +122,19 @@ fn mark_link(
 
 // The links into activity `i` in turn, rising.
 fn mark_links(
-    sheet: &[u8],
-    contents: Contents,
-    calendars: &[PlanCalendar],
-    t: usize,
+    plan: &PlanSheet,
     tables: &mut Tables,
     activity: Activity,
     calendar: &Calendar,
     i: usize,
 ) -> Result<(), ClockError>
-    requires { Lent sheet.now contents calendars.now t tables.old × Own sheet.now contents i activity calendar.now × (i < contents.activities) }
-    ensures { ((other : ℕ → Bool) → ended (path_in (plan_of sheet.now contents) (state tables.new) other) result ≡ marked (plan_of sheet.now contents) (early_in (plan_of sheet.now contents) (state tables.old)) i (ties_into (plan_of sheet.now contents) i) (path_in (plan_of sheet.now contents) (state tables.old) other)) × Frame 16 17 0 0 (state tables.old) (state tables.new) × SameSlice tables.old tables.new }
+    requires { Lent plan.now tables.old × Own plan.now.sheet i activity calendar.now × (i < plan.now.sheet.contents.activities) }
+    ensures { ((other : ℕ → Bool) → ended (path_in (plan_in plan.now.sheet) (state tables.new) other) result ≡ marked (plan_in plan.now.sheet) (early_in (plan_in plan.now.sheet) (state tables.old)) i (ties_into (plan_in plan.now.sheet) i) (path_in (plan_in plan.now.sheet) (state tables.old) other)) × Frame 16 17 0 0 (state tables.old) (state tables.new) × SameSlice tables.old tables.new }
 {
     let mut k = tables.act(i, memory::fields::FIRST_IN) as usize;
-    // A `while`: the next link is read from the memory, so no range has the links.
-    while k < t {
-        mark_link(
-            sheet, contents, calendars, t, tables, activity, calendar, i, k,
-        )?;
+    // A `while`: the body writes the tables that the next link is read from, so no iterator may hold them.
+    while k < tables.kept {
+        mark_link(plan, tables, activity, calendar, i, k)?;
         k = tables.link(k, memory::fields::NEXT_INTO) as usize;
     }
     Ok(())
@@ -159,59 +142,41 @@ fn mark_links(
 
 // ---- the pass
 
-// Activity `i` in its turn: on the path, it marks the predecessors that set its start.
-fn on_path(
-    sheet: &[u8],
-    contents: Contents,
-    calendars: &[PlanCalendar],
-    t: usize,
-    tables: &mut Tables,
-    i: usize,
-) -> Result<(), ClockError>
-    requires { Lent sheet.now contents calendars.now t tables.old × (i < contents.activities) }
-    ensures { ((other : ℕ → Bool) → ended (path_in (plan_of sheet.now contents) (state tables.new) other) result ≡ on_path (plan_of sheet.now contents) (early_in (plan_of sheet.now contents) (state tables.old)) (path_in (plan_of sheet.now contents) (state tables.old) other) i) × Frame 16 17 0 0 (state tables.old) (state tables.new) × SameSlice tables.old tables.new }
-{
-    if tables.act(i, memory::fields::LONGEST_PATH) == 0 {
-        return Ok(());
-    }
-    let activity = dates::activity_of(sheet, contents, i);
-    let k = activity.calendar as usize;
-    let calendar = calendars::calendar_of(sheet, contents, calendars, k);
-    mark_links(
-        sheet, contents, calendars, t, tables, activity, &calendar, i,
-    )
-}
+// The pass's step: an activity on the path marks the predecessors that set its start.
+#[derive(Drop)]
+struct PathBack;
 
-// The activities in turn, from the last of the order to the first.
-fn path_back(
-    sheet: &[u8],
-    contents: Contents,
-    calendars: &[PlanCalendar],
-    t: usize,
-    tables: &mut Tables,
-) -> Result<(), ClockError>
-    requires { Lent sheet.now contents calendars.now t tables.old }
-    ensures { ((other : ℕ → Bool) → ended (path_in (plan_of sheet.now contents) (state tables.new) other) result ≡ through (on_path (plan_of sheet.now contents) (early_in (plan_of sheet.now contents) (state tables.old))) (reverse (order (plan_of sheet.now contents))) (path_in (plan_of sheet.now contents) (state tables.old) other)) × Frame 16 17 0 0 (state tables.old) (state tables.new) × SameSlice tables.old tables.new }
-{
-    for q in (0..contents.activities).rev() {
-        let i = tables.act(q, memory::fields::ORDER_AT) as usize;
-        on_path(sheet, contents, calendars, t, tables, i)?;
+impl Step for PathBack {
+    ghost Dates = { ℕ → Bool };
+
+    ghost Past = { ℕ → Bool };
+
+    ghost seen = { λ s p S other. path_in p S other };
+
+    ghost turn = { λ s p S _. on_path p (early_in p S) };
+
+    ghost low = { 16 };
+
+    ghost high = { 17 };
+
+    ghost turn_kept = { λ s p S T F _. turn_kept F p };
+
+    fn take(&self, plan: &PlanSheet, tables: &mut Tables, i: usize) -> Result<(), ClockError> {
+        if tables.act(i, memory::fields::LONGEST_PATH) == 0 {
+            return Ok(());
+        }
+        let activity = dates::activity_of(&plan.sheet, i);
+        let k = activity.calendar as usize;
+        let calendar = plan.calendar(k);
+        mark_links(plan, tables, activity, &calendar, i)
     }
-    Ok(())
 }
 
 // The longest path of a project whose greatest finish is `finish`.
-pub fn path_pass(
-    sheet: &[u8],
-    contents: Contents,
-    calendars: &[PlanCalendar],
-    t: usize,
-    tables: &mut Tables,
-    finish: u64,
-) -> Result<(), ClockError>
-    requires { Ready sheet.now contents calendars.now t tables.old × Recorded (plan_of sheet.now contents) (state tables.old) }
-    ensures { (ended (path_in (plan_of sheet.now contents) (state tables.new) (last_ones (plan_of sheet.now contents) (early_in (plan_of sheet.now contents) (state tables.old)) finish)) result ≡ path_pass (plan_of sheet.now contents) finish (early_in (plan_of sheet.now contents) (state tables.old))) × Frame 16 17 0 0 (state tables.old) (state tables.new) × SameSlice tables.old tables.new }
+pub fn path_pass(plan: &PlanSheet, tables: &mut Tables, finish: u64) -> Result<(), ClockError>
+    requires { Ready plan.now tables.old × Recorded (plan_in plan.now.sheet) (state tables.old) }
+    ensures { (ended (path_in (plan_in plan.now.sheet) (state tables.new) (last_ones (plan_in plan.now.sheet) (early_in (plan_in plan.now.sheet) (state tables.old)) finish)) result ≡ path_pass (plan_in plan.now.sheet) finish (early_in (plan_in plan.now.sheet) (state tables.old))) × Frame 16 17 0 0 (state tables.old) (state tables.new) × SameSlice tables.old tables.new }
 {
     mark_last(tables, finish);
-    path_back(sheet, contents, calendars, t, tables)
+    dates::step::back(&PathBack, plan, tables)
 }

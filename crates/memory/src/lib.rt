@@ -21,30 +21,42 @@ fn place(n: usize, i: usize, f: usize) -> usize
     f * n + i
 }
 
-// The tables of so many activities and links, in cells that a caller lends.
+// The tables of so many activities and links, in cells that a caller lends; the first `kept` rows of the link table are the kept links.
 #[derive(Drop)]
 pub struct Tables<'a> {
     pub cells: &'a mut [i64],
     pub activities: usize,
     pub links: usize,
+    pub kept: usize,
     pub ghost room: { Room activities links cells.now },
+    pub ghost within: { kept ≤ links },
 }
 
 impl<'a> Tables<'a> {
-    ghost use Rattle.memory.specs.Seen.{state, SameSlice};
+    ghost use Rattle.memory.specs.Seen.{state, SameLent, SameSlice};
     ghost use Rattle.memory.specs.Chains.{linked, linked_from, with_chains, Chains};
 
-    // The tables in `cells`.
+    // The tables in `cells`, no link kept yet.
     #[tactic(auto, unfolding(crate::specs::Seen::state))]
     pub fn of(cells: &'a mut [i64], activities: usize, links: usize) -> Tables<'a>
         requires { Room activities links cells.old }
-        ensures { (state result ≡ state_of activities links cells.old) × (result.activities ≡ activities) × (result.links ≡ links) × (result.cells.now ≡ cells.old) × (result.cells.ghost_name ≡ cells.entry.ghost_name) }
+        ensures { (state result ≡ state_of activities links cells.old) × (result.activities ≡ activities) × (result.links ≡ links) × (result.kept ≡ 0) × (result.cells.now ≡ cells.old) × (result.cells.ghost_name ≡ cells.entry.ghost_name) }
     {
         Tables {
             cells,
             activities,
             links,
+            kept: 0,
         }
+    }
+
+    // The first `n` rows of the link table are the kept links.
+    #[tactic(auto, unfolding(crate::specs::Seen::state))]
+    pub fn keep(&mut self, n: usize)
+        requires { n ≤ self.old.links }
+        ensures { (state self.new ≡ state self.old) × (self.new.kept ≡ n) × (self.new.cells.now ≡ self.old.cells.now) × SameLent self.old self.new }
+    {
+        self.kept = n;
     }
 
     // Every cell is 0, also those past the tables.
@@ -136,22 +148,22 @@ impl<'a> Tables<'a> {
         self.put_act(i, head, k as u64);
     }
 
-    // Puts the first `t` links before those that have their keys, from the last to the first.
-    fn chain_links(&mut self, t: usize, key: usize, head: usize, next: usize)
-        requires { (t ≤ self.old.links) × (key < 16) × (head < 64) × (next < 16) × (key ≢ next) × ((k : ℕ) → k < t → (state self.old).link key k < self.old.activities) }
-        ensures { (state self.new ≡ linked_from key head next t 0 (state self.old)) × SameSlice self.old self.new }
+    // Puts the kept links before those that have their keys, from the last to the first.
+    fn chain_links(&mut self, key: usize, head: usize, next: usize)
+        requires { (key < 16) × (head < 64) × (next < 16) × (key ≢ next) × ((k : ℕ) → k < self.old.kept → (state self.old).link key k < self.old.activities) }
+        ensures { (state self.new ≡ linked_from key head next self.old.kept 0 (state self.old)) × SameSlice self.old self.new }
     {
-        for k in (0..t).rev() {
+        for k in (0..self.kept).rev() {
             self.chain_one(k, key, head, next);
         }
     }
 
-    // Chains the first `t` links by their keys: `head` of an activity is the first link whose key it is, and `next` of a link the next with its key, in rising order; `t` is none.
-    pub fn chain(&mut self, t: usize, key: usize, head: usize, next: usize)
-        requires { (t ≤ self.old.links) × (key < 16) × (head < 64) × (next < 16) × (key ≢ next) × ((k : ℕ) → k < t → (state self.old).link key k < self.old.activities) }
-        ensures { (state self.new ≡ with_chains key head next self.old.activities t (state self.old)) × Chains key head next self.old.activities t (state self.old) (state self.new) × SameSlice self.old self.new }
+    // Chains the kept links by their keys: `head` of an activity is the first link whose key it is, and `next` of a link the next with its key, in rising order; their number is none.
+    pub fn chain(&mut self, key: usize, head: usize, next: usize)
+        requires { (key < 16) × (head < 64) × (next < 16) × (key ≢ next) × ((k : ℕ) → k < self.old.kept → (state self.old).link key k < self.old.activities) }
+        ensures { (state self.new ≡ with_chains key head next self.old.activities self.old.kept (state self.old)) × Chains key head next self.old.activities self.old.kept (state self.old) (state self.new) × SameSlice self.old self.new }
     {
-        self.fill_act(head, t as u64);
-        self.chain_links(t, key, head, next);
+        self.fill_act(head, self.kept as u64);
+        self.chain_links(key, head, next);
     }
 }

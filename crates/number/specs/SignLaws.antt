@@ -1,7 +1,7 @@
 -- The ways of the smaller, the larger and the held number, and the exact values of shares and whole days on both sides of zero.
 use Rattle.std.specs.Prelude.{◌≡◌, refl, Bool, true, false, cond, ◌⊎◌, ℕ, ◌+◌, ◌*◌, ◌/◌, ◌≤◌, ◌<◌, max, ℤ, pos, negsuc, nat_abs, ◌*ℤ◌}
 use Rattle.std.proofs.Math.Path.{ap}
-use Rattle.std.proofs.Common.{◌∙◌, inl, inr, ⊎_elim, mul-le-mul, arith}
+use Rattle.std.proofs.Common.{sym, ◌∙◌, inl, inr, ⊎_elim, mul-le-mul, arith}
 use Rattle.std.specs.Int.{int_min, int_max}
 use Rattle.std.specs.Int.Signed.{lt_z, quot_z}
 use Rattle.number.specs.Order.{cases}
@@ -82,6 +82,22 @@ module _ (z lo hi : ℤ) where
       ⊎_elim (λ (f : lt_z hi z ≡ true). rw (clamp_high e f) (omega arith, omega arith))
       (λ (f : lt_z hi z ≡ false). let m = lt_z_false hi z f in rw (clamp_within e f) (omega arith, omega arith)) (cases (lt_z hi z)))
       (cases (lt_z z lo))
+
+  -- as std says it
+  pub clamp_is : up lo + dn hi ≤ up hi + dn lo → int_max lo (int_min z hi) ≡ clamp_z z lo hi
+  clamp_is h =
+      ap (int_max lo) (min_is z hi) ∙ max_is lo (min_z z hi)
+      ∙ ⊎_elim (λ (e : lt_z z lo ≡ true). low (lt_z_true z lo e) ∙ sym (clamp_low e)) (λ (e : lt_z z lo ≡ false). high (lt_z_false z lo e) ∙ sym (clamp_down e)) (cases (lt_z z lo))
+    where
+      low : up z + dn lo < up lo + dn z → max_z lo (min_z z hi) ≡ lo
+      low l =
+          ⊎_elim (λ m. rw m.0 (⊎_elim (λ x. x.0) (λ x. absurd (omega (arith, x.1, l))) (max_cases lo z)))
+          (λ m. absurd (omega (arith, m.1, l, h))) (min_cases z hi)
+
+      high : up lo + dn z ≤ up z + dn lo → max_z lo (min_z z hi) ≡ min_z z hi
+      high l =
+          ⊎_elim (λ m. rw m.0 (⊎_elim (λ x. x.0 ∙ same lo z (omega (arith, x.1, l))) (λ x. x.0) (max_cases lo z)))
+          (λ m. rw m.0 (⊎_elim (λ x. x.0 ∙ same lo hi (omega (arith, x.1, h))) (λ x. x.0) (max_cases lo hi))) (min_cases z hi)
 
 -- ---- a share is held to 100 times the whole
 pub held_size : (share : ℤ) → nat_abs (clamp_z share (negsuc 999999) (pos 1000000)) ≤ 1000000

@@ -1,8 +1,8 @@
 // Signed arithmetic: each result is the integer's, and what it asks is that the integer fits.
-// `min`, `max` and `negate` stay beside std's and `-`: they give the values by the definitions that the specs above compute with, which each caller would have to prove again.
+// `min`, `max` and `negate` stay beside std's and `-`: they give the value by the specs' own definition, a step that each caller would have to prove.
 ghost use Rattle.std.specs.Prelude.{◌≡◌, ◌+◌, ◌^◌, ◌≤◌, ◌<◌, pos, neg_ℤ, ◌-ℤ◌};
 ghost use Rattle.number.specs.Zed.{up, dn};
-ghost use Rattle.number.specs.Sign.{min_z, max_z, clamp_z, percent_of, whole_days};
+ghost use Rattle.number.specs.Sign.{min_z, max_z, percent_of, whole_days};
 
 // `z` with the other sign.
 pub fn negate(z: i64) -> i64
@@ -26,22 +26,12 @@ pub fn max(a: i64, b: i64) -> i64
     a.max(b)
 }
 
-// `z`, or the end of `lo` to `hi` that it lies beyond. std's `clamp` asks that `lo` is at most `hi`.
-pub fn clamp(z: i64, lo: i64, hi: i64) -> i64
-    ensures { result ≡ clamp_z z lo hi }
-{
-    if z < lo {
-        return lo;
-    }
-    z.min(hi)
-}
-
 // A share of a duration, in hundredths of one percent, toward zero.
 pub fn percent(duration: i64, share: i64) -> i64
     requires { up duration + dn duration ≤ 48000000 }
     ensures { (result ≡ percent_of duration share) × (up result + dn result ≤ 4800000000) }
 {
-    let held = clamp(share, -1000000, 1000000);
+    let held = share.clamp(-1000000, 1000000);
     duration * held / 10000
 }
 

@@ -7,6 +7,7 @@ use Rattle.project.specs.declared.Relationship.{Relationship}
 use Rattle.project.specs.declared.Project.{Project}
 use Rattle.project.specs.Records.{activity_at, relationship_at, project_at, day_length_at}
 use Rattle.sheet.specs.declared.Contents.{Contents}
+use Rattle.sheet.specs.declared.value.Sheet.{Sheet}
 use Rattle.sheet.specs.Places as places
 
 pub record Plan : Type 0 where
@@ -51,3 +52,7 @@ module _ (s : List ℕ) (c : Contents) where
     links = c.links;
     link = λ k. relationship_at s (places.link_at c k);
   }
+
+-- the plan of a sheet in hand
+abbrev pub plan_in : Sheet → Plan
+plan_in sheet = plan_of sheet.bytes.now sheet.contents

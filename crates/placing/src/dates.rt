@@ -83,10 +83,7 @@ fn completed(calendar: &Calendar, start: Date, finish: Date) -> Result<Actual, C
 {
     let s = clock::next_start(calendar, start.midnight())?;
     let f = finish_by_day(calendar, finish)?;
-    if f < s {
-        return Ok(Actual::Completed(s, s));
-    }
-    Ok(Actual::Completed(s, f))
+    Ok(Actual::Completed(s, f.max(s)))
 }
 
 // What is recorded of the activity's work: with only a finish day, it began on that day.

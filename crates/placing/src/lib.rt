@@ -1,4 +1,4 @@
-// Where an activity's work can begin and end, on its own calendar: its week, and its `n` E records from the byte `at` of the sheet on.
+// Where an activity's work can begin and end, on its own calendar.
 // Each takes the activity, whose calendar it is; `left` is its minutes of work left.
 #![tactic(auto)]
 
@@ -27,13 +27,7 @@ const SPAN: u64 = 288000000;
 pub fn bounded(origin: u64, t: u64) -> Result<u64, ClockError>
     ensures { result ≡ bounded origin t }
 {
-    if t < origin {
-        if SPAN < origin - t {
-            return Err(ClockError::TooLong);
-        }
-        return Ok(t);
-    }
-    if SPAN < t - origin {
+    if SPAN < t.abs_diff(origin) {
         return Err(ClockError::TooLong);
     }
     Ok(t)

@@ -1,38 +1,32 @@
 // The program of document 01: a plan sheet on standard input, its dates or its refusal on standard output.
 #![tactic(auto)]
 
-ghost use Rattle.std.specs.Prelude.{◌+◌, ◌≤◌, ◌<◌, length};
+ghost use Rattle.std.specs.Prelude.{◌<◌, length};
 
 use sched::{Accepted, Refusal};
 use std::io;
 
-// This and the three after it stand in both `plan` and `replay`. std's `Print` promises nothing of what is written, so in a library they would be public functions
-// with no contract, and a rule of the project wants one of each.
-fn write(rt: &impl Print, text: &[u8]) -> io::Result<()> {
-    rt.write_all(text)
+// A number as it is shown: the least one, which has no opposite, as the next. This and the two after it stand in both `plan` and `replay`. std's `Print` promises
+// nothing of what is written, so in a library they would be public functions with no contract, and a rule of the project wants one of each.
+fn shown(z: i64) -> i64 {
+    z.max(-i64::MAX)
 }
 
-// A signed number; the least one, which has no opposite, shows as the next.
-fn print_signed(rt: &impl Print, z: i64) -> io::Result<()> {
-    rt.print(number::sign::max(z, -9223372036854775807))
-}
-
-// The `n` numbers from `at` on, on a line.
-fn print_row(rt: &impl Print, results: &[i64], at: usize, n: usize) -> io::Result<()>
-    requires { (0 < n) × (at + n ≤ length results.now) }
+// A row's numbers, on a line.
+fn print_row(rt: &impl Print, row: &[i64]) -> io::Result<()>
+    requires { 0 < length row.now }
 {
-    print_signed(rt, results[at])?;
-    for k in 1..n {
-        write(rt, b" ")?;
-        print_signed(rt, results[at + k])?;
+    print!(rt; "{}", shown(row[0]))?;
+    for z in &row[1..] {
+        print!(rt; " {}", shown(*z))?;
     }
-    write(rt, b"\n")
+    println!(rt)
 }
 
 // A line an activity, as far as the results reach.
 fn print_rows(rt: &impl Print, results: &[i64], a: u64) -> io::Result<()> {
-    for i in 0..(results.len() / 15).min(a as usize) {
-        print_row(rt, results, 15 * i, 15)?;
+    for row in results.chunks_exact(15).take(a as usize) {
+        print_row(rt, row)?;
     }
     Ok(())
 }
@@ -45,9 +39,8 @@ fn print_answer(
     match answer {
         Err(refusal) => println!(rt; "refused {} {}", refusal.number(), refusal.id()),
         Ok(a) => {
-            write(rt, b"plan ")?;
-            print_signed(rt, a.finish_day)?;
-            println!(rt; " {} {} {}", a.activities, a.ignored, a.open_ends)?;
+            let day = shown(a.finish_day);
+            println!(rt; "plan {day} {} {} {}", a.activities, a.ignored, a.open_ends)?;
             print_rows(rt, results, a.activities)
         }
     }
@@ -66,7 +59,7 @@ fn main(rt: HostRuntime) -> io::Result<()> {
     let mut sheet = [0u8; 16385];
     let n = input::read_full(&mut rt.reader(), &mut sheet)?;
     if n > 16384 {
-        return write(&rt, b"too big\n");
+        return println!(rt; "too big");
     }
     plan(&rt, &sheet[..n])
 }

@@ -14,17 +14,25 @@ pub fn read_date(sheet: &[u8], at: usize) -> Date
     Date::new(number::read_i32(sheet, at))
 }
 
+// The number at a place, or none for the absent mark.
+fn read_optional(sheet: &[u8], at: usize) -> Option<i32>
+    requires { at + 4 ≤ length sheet.now }
+    ensures { result ≡ remaining_at sheet.now at }
+{
+    let marked = number::read_biased(sheet, at);
+    if marked == 0 {
+        return None;
+    }
+    Some(number::read_i32(sheet, at))
+}
+
 // The day at a place, or none for the absent mark.
-#[tactic(auto, unfolding(crate::specs::Records::optional_date_at))]
+#[tactic(auto, unfolding(crate::specs::Records::optional_date_at, crate::specs::Records::remaining_at))]
 pub fn read_optional_date(sheet: &[u8], at: usize) -> Option<Date>
     requires { at + 4 ≤ length sheet.now }
     ensures { result ≡ optional_date_at sheet.now at }
 {
-    let day = number::read_biased(sheet, at);
-    if day == 0 {
-        return None;
-    }
-    Some(read_date(sheet, at))
+    read_optional(sheet, at).map(Date::new)
 }
 
 // The minutes of work left at a place, or none for the absent mark.
@@ -32,10 +40,7 @@ pub fn read_remaining(sheet: &[u8], at: usize) -> Option<i32>
     requires { at + 4 ≤ length sheet.now }
     ensures { result ≡ remaining_at sheet.now at }
 {
-    if number::read_biased(sheet, at) == 0 {
-        return None;
-    }
-    Some(number::read_i32(sheet, at))
+    read_optional(sheet, at)
 }
 
 // The constraint at a place, if any: its code, then its day.

@@ -3,10 +3,9 @@
 
 ghost use Rattle.std.specs.Prelude.{◌≡◌, false, ◌^◌, ◌<◌, Ok};
 ghost use Rattle.number.specs.Zed.{up};
-ghost use Rattle.sheet.specs.Known.{SheetRead};
 ghost use Rattle.memory.specs.Seen.{state, SameSlice};
 ghost use Rattle.topology.specs.Frame.{Frame};
-ghost use Rattle.order.specs.Plan.{plan_of};
+ghost use Rattle.order.specs.Plan.{plan_in};
 ghost use Rattle.order.specs.Ids.{summary};
 ghost use Rattle.order.specs.Ties.{calendar_of};
 ghost use Rattle.passes.specs.Plan.{full};
@@ -19,11 +18,11 @@ ghost use Rattle.dates.specs.Bounds.{ActualBelow};
 ghost use Rattle.remaining.specs.Rows.{how_of, start_of, finish_of, kept, Row};
 
 use calendar::Calendar;
-use calendars::PlanCalendar;
+use calendars::PlanSheet;
 use memory::Tables;
 use placing::Actual;
 use project::{Activity, Status};
-use sheet::Contents;
+use sheet::Sheet;
 use worktime::ClockError;
 
 // The most minutes of work left that an activity may tell.
@@ -38,17 +37,16 @@ fn minutes_of(minutes: i32) -> u64
 
 // The minutes less the work from the recorded start to the data day; all of them without a data day.
 fn since_start(
-    sheet: &[u8],
-    contents: Contents,
+    sheet: &Sheet,
     i: usize,
     calendar: &Calendar,
     start: u64,
     whole: u64,
 ) -> Result<u64, ClockError>
-    requires { SheetRead sheet.now contents × InPlan sheet.now contents (calendar_of (plan_of sheet.now contents) i) calendar.now × (whole ≡ full (plan_of sheet.now contents) i) }
-    ensures { result ≡ since_start (plan_of sheet.now contents) i start (plan_of sheet.now contents).project.data_date }
+    requires { InPlan sheet.now (calendar_of (plan_in sheet.now) i) calendar.now × (whole ≡ full (plan_in sheet.now) i) }
+    ensures { result ≡ since_start (plan_in sheet.now) i start (plan_in sheet.now).project.data_date }
 {
-    match project::fields::read_optional_date(sheet, 5) {
+    match project::fields::read_optional_date(sheet.bytes, 5) {
         None => Ok(whole),
         Some(day) => {
             let by = day.midnight().max(start);
@@ -60,39 +58,37 @@ fn since_start(
 
 // The work left of work under way: what the activity tells, else its minutes less the work done by the data day.
 fn still_left(
-    sheet: &[u8],
-    contents: Contents,
+    sheet: &Sheet,
     i: usize,
     activity: Activity,
     calendar: &Calendar,
     start: u64,
     whole: u64,
 ) -> Result<u64, ClockError>
-    requires { SheetRead sheet.now contents × (activity ≡ (plan_of sheet.now contents).activity i) × InPlan sheet.now contents (calendar_of (plan_of sheet.now contents) i) calendar.now × (whole ≡ full (plan_of sheet.now contents) i) }
-    ensures { result ≡ still_left (plan_of sheet.now contents) i start ((plan_of sheet.now contents).activity i).remaining }
+    requires { (activity ≡ (plan_in sheet.now).activity i) × InPlan sheet.now (calendar_of (plan_in sheet.now) i) calendar.now × (whole ≡ full (plan_in sheet.now) i) }
+    ensures { result ≡ still_left (plan_in sheet.now) i start ((plan_in sheet.now).activity i).remaining }
 {
     match activity.remaining {
         Some(minutes) => Ok(minutes_of(minutes).min(MOST)),
-        None => since_start(sheet, contents, i, calendar, start, whole),
+        None => since_start(sheet, i, calendar, start, whole),
     }
 }
 
 // The work left by what is recorded: all of it where work has not begun, none once it is completed.
 fn left_of(
-    sheet: &[u8],
-    contents: Contents,
+    sheet: &Sheet,
     i: usize,
     activity: Activity,
     calendar: &Calendar,
     actual: Actual,
     whole: u64,
 ) -> Result<u64, ClockError>
-    requires { SheetRead sheet.now contents × (activity ≡ (plan_of sheet.now contents).activity i) × InPlan sheet.now contents (calendar_of (plan_of sheet.now contents) i) calendar.now × (whole ≡ full (plan_of sheet.now contents) i) }
-    ensures { result ≡ left_by (plan_of sheet.now contents) i (Ok actual) }
+    requires { (activity ≡ (plan_in sheet.now).activity i) × InPlan sheet.now (calendar_of (plan_in sheet.now) i) calendar.now × (whole ≡ full (plan_in sheet.now) i) }
+    ensures { result ≡ left_by (plan_in sheet.now) i (Ok actual) }
 {
     match actual {
         Actual::Unstarted => Ok(whole),
-        Actual::Begun(start) => still_left(sheet, contents, i, activity, calendar, start, whole),
+        Actual::Begun(start) => still_left(sheet, i, activity, calendar, start, whole),
         Actual::Completed(_, _) => Ok(0),
     }
 }
@@ -141,67 +137,52 @@ fn keep(tables: &mut Tables, i: usize, actual: Actual, left: u64)
 
 // Activity `i`, no summary, of which a date is recorded.
 fn record_dated(
-    sheet: &[u8],
-    contents: Contents,
-    calendars: &[PlanCalendar],
+    plan: &PlanSheet,
     tables: &mut Tables,
     i: usize,
     activity: Activity,
     whole: u64,
 ) -> Result<(), ClockError>
-    requires { SheetRead sheet.now contents × Places sheet.now contents calendars.now × (tables.old.activities ≡ contents.activities) × (i < contents.activities) × (activity ≡ (plan_of sheet.now contents).activity i) × (summary (plan_of sheet.now contents) i ≡ false) × (whole ≡ full (plan_of sheet.now contents) i) × (whole < 2 ^ 63) }
-    ensures { Row (plan_of sheet.now contents) i (state tables.old) (state tables.new) result × SameSlice tables.old tables.new }
+    requires { (tables.old.activities ≡ plan.now.sheet.contents.activities) × (i < plan.now.sheet.contents.activities) × (activity ≡ (plan_in plan.now.sheet).activity i) × (summary (plan_in plan.now.sheet) i ≡ false) × (whole ≡ full (plan_in plan.now.sheet) i) × (whole < 2 ^ 63) }
+    ensures { Row (plan_in plan.now.sheet) i (state tables.old) (state tables.new) result × SameSlice tables.old tables.new }
 {
     let k = activity.calendar as usize;
-    let calendar = calendars::calendar_of(sheet, contents, calendars, k);
+    let calendar = plan.calendar(k);
     let actual = placing::dates::actual(activity, &calendar)?;
-    let left = left_of(sheet, contents, i, activity, &calendar, actual, whole)?;
+    let left = left_of(&plan.sheet, i, activity, &calendar, actual, whole)?;
     keep(tables, i, actual, left);
     Ok(())
 }
 
 // Activity `i`: a summary's dates are unread, and work of which nothing is recorded asks no calendar.
-fn record_one(
-    sheet: &[u8],
-    contents: Contents,
-    calendars: &[PlanCalendar],
-    t: usize,
-    tables: &mut Tables,
-    i: usize,
-) -> Result<(), ClockError>
-    requires { Ready sheet.now contents calendars.now t tables.old × (i < contents.activities) }
-    ensures { Row (plan_of sheet.now contents) i (state tables.old) (state tables.new) result × SameSlice tables.old tables.new }
+fn record_one(plan: &PlanSheet, tables: &mut Tables, i: usize) -> Result<(), ClockError>
+    requires { Ready plan.now tables.old × (i < plan.now.sheet.contents.activities) }
+    ensures { Row (plan_in plan.now.sheet) i (state tables.old) (state tables.new) result × SameSlice tables.old tables.new }
 {
     let mark = tables.act(i, memory::fields::IS_SUMMARY);
     if mark != 0 {
         keep(tables, i, Actual::Unstarted, 0);
         return Ok(());
     }
-    let activity = dates::activity_of(sheet, contents, i);
+    let activity = dates::activity_of(&plan.sheet, i);
     let whole = minutes_of(activity.minutes);
     let first = activity.actual_start;
     let last = activity.actual_finish;
     let status = project::status_of(first, last);
     let Status::NotStarted = status else {
-        return record_dated(sheet, contents, calendars, tables, i, activity, whole);
+        return record_dated(plan, tables, i, activity, whole);
     };
     keep(tables, i, Actual::Unstarted, whole);
     Ok(())
 }
 
 // Places the recorded dates and finds the work left of all activities, in sheet order.
-pub fn remaining(
-    sheet: &[u8],
-    contents: Contents,
-    calendars: &[PlanCalendar],
-    t: usize,
-    tables: &mut Tables,
-) -> Result<(), ClockError>
-    requires { Ready sheet.now contents calendars.now t tables.old }
-    ensures { (ended (left_in (plan_of sheet.now contents) (state tables.new)) result ≡ remaining (plan_of sheet.now contents)) × (result ≡ (Ok tt) → Recorded (plan_of sheet.now contents) (state tables.new)) × Frame 14 20 0 0 (state tables.old) (state tables.new) × SameSlice tables.old tables.new }
+pub fn remaining(plan: &PlanSheet, tables: &mut Tables) -> Result<(), ClockError>
+    requires { Ready plan.now tables.old }
+    ensures { (ended (left_in (plan_in plan.now.sheet) (state tables.new)) result ≡ remaining (plan_in plan.now.sheet)) × (result ≡ (Ok tt) → Recorded (plan_in plan.now.sheet) (state tables.new)) × Frame 14 20 0 0 (state tables.old) (state tables.new) × SameSlice tables.old tables.new }
 {
-    for i in 0..contents.activities {
-        record_one(sheet, contents, calendars, t, tables, i)?;
+    for i in 0..plan.sheet.contents.activities {
+        record_one(plan, tables, i)?;
     }
     Ok(())
 }

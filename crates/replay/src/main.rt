@@ -2,39 +2,33 @@
 // expected, the Rust's answers, come from tools/replay_cases.py.
 #![tactic(auto)]
 
-ghost use Rattle.std.specs.Prelude.{◌+◌, ◌≤◌, ◌<◌, length};
+ghost use Rattle.std.specs.Prelude.{◌≤◌, ◌<◌, length};
 
 use sched::{Accepted, Refusal};
 use std::io::Read;
 use std::{fs, io};
 
-// This and the three after it stand in both `plan` and `replay`. std's `Print` promises nothing of what is written, so in a library they would be public functions
-// with no contract, and a rule of the project wants one of each.
-fn write(rt: &impl Print, text: &[u8]) -> io::Result<()> {
-    rt.write_all(text)
+// A number as it is shown: the least one, which has no opposite, as the next. This and the two after it stand in both `plan` and `replay`. std's `Print` promises
+// nothing of what is written, so in a library they would be public functions with no contract, and a rule of the project wants one of each.
+fn shown(z: i64) -> i64 {
+    z.max(-i64::MAX)
 }
 
-// A signed number; the least one, which has no opposite, shows as the next.
-fn print_signed(rt: &impl Print, z: i64) -> io::Result<()> {
-    rt.print(number::sign::max(z, -9223372036854775807))
-}
-
-// The `n` numbers from `at` on, on a line.
-fn print_row(rt: &impl Print, results: &[i64], at: usize, n: usize) -> io::Result<()>
-    requires { (0 < n) × (at + n ≤ length results.now) }
+// A row's numbers, on a line.
+fn print_row(rt: &impl Print, row: &[i64]) -> io::Result<()>
+    requires { 0 < length row.now }
 {
-    print_signed(rt, results[at])?;
-    for k in 1..n {
-        write(rt, b" ")?;
-        print_signed(rt, results[at + k])?;
+    print!(rt; "{}", shown(row[0]))?;
+    for z in &row[1..] {
+        print!(rt; " {}", shown(*z))?;
     }
-    write(rt, b"\n")
+    println!(rt)
 }
 
 // A line an activity, as far as the results reach.
 fn print_rows(rt: &impl Print, results: &[i64], a: u64) -> io::Result<()> {
-    for i in 0..(results.len() / 15).min(a as usize) {
-        print_row(rt, results, 15 * i, 15)?;
+    for row in results.chunks_exact(15).take(a as usize) {
+        print_row(rt, row)?;
     }
     Ok(())
 }
@@ -49,37 +43,34 @@ fn first_zero(names: &[u32]) -> usize
         .unwrap_or(names.len())
 }
 
-// The first `n` names on a line, where there are any.
-fn print_names(rt: &impl Print, names: &[u32], n: usize) -> io::Result<()>
-    requires { n ≤ length names.now }
-{
-    if n == 0 {
+// The names on a line, where there are any.
+fn print_names(rt: &impl Print, names: &[u32]) -> io::Result<()> {
+    if names.is_empty() {
         return Ok(());
     }
-    write(rt, b"names")?;
-    for name in &names[..n] {
+    print!(rt; "names")?;
+    for name in names {
         print!(rt; " {name}")?;
     }
-    write(rt, b"\n")
+    println!(rt)
 }
 
 // A refusal: its number and its id, and the loop that is named.
-fn print_refused(rt: &impl Print, number: u64, id: u64, names: &[u32]) -> io::Result<()> {
-    println!(rt; "refused {number} {id}")?;
-    print_names(rt, names, first_zero(names))
+fn print_refused(rt: &impl Print, refusal: Refusal, names: &[u32]) -> io::Result<()> {
+    println!(rt; "refused {} {}", refusal.number(), refusal.id())?;
+    print_names(rt, &names[..first_zero(names)])
 }
 
-// The first line of a plan.
-fn print_totals(rt: &impl Print, day: i64, a: u64, ignored: u64, open: u64) -> io::Result<()> {
-    write(rt, b"plan ")?;
-    print_signed(rt, day)?;
-    println!(rt; " {a} {ignored} {open}")
-}
-
-// Where the ignored links stand.
-fn print_ignored(rt: &impl Print, names: &[u32], ignored: u64) -> io::Result<()> {
-    if ignored <= names.len() as u64 {
-        print_names(rt, names, ignored as usize)?;
+// A plan: its totals, its rows, and where the ignored links stand.
+fn print_plan(rt: &impl Print, plan: Accepted, results: &[i64], names: &[u32]) -> io::Result<()> {
+    let day = shown(plan.finish_day);
+    println!(rt;
+        "plan {day} {} {} {}",
+        plan.activities, plan.ignored, plan.open_ends
+    )?;
+    print_rows(rt, results, plan.activities)?;
+    if plan.ignored <= names.len() as u64 {
+        print_names(rt, &names[..plan.ignored as usize])?;
     }
     Ok(())
 }
@@ -91,12 +82,8 @@ fn print_answer(
     names: &[u32],
 ) -> io::Result<()> {
     match answer {
-        Err(refusal) => print_refused(rt, refusal.number(), refusal.id(), names),
-        Ok(a) => {
-            print_totals(rt, a.finish_day, a.activities, a.ignored, a.open_ends)?;
-            print_rows(rt, results, a.activities)?;
-            print_ignored(rt, names, a.ignored)
-        }
+        Err(refusal) => print_refused(rt, refusal, names),
+        Ok(plan) => print_plan(rt, plan, results, names),
     }
 }
 

@@ -33,24 +33,22 @@ fn clear_activities(tables: &mut Tables)
     );
 }
 
-// The columns of links that have fields of kept ones, which are the first `t`; they stand after those of the activities.
-fn clear_links(tables: &mut Tables, t: usize)
-    requires { t ≤ tables.old.links }
-    ensures { ColumnsCleared (64 * tables.old.activities) tables.old.links (of_link t) 0 7 tables.old.cells.now tables.new.cells.now × SameSlice tables.old tables.new }
+// The columns of links that have fields of kept ones, which come first; they stand after those of the activities.
+fn clear_links(tables: &mut Tables)
+    ensures { ColumnsCleared (64 * tables.old.activities) tables.old.links (of_link tables.old.kept) 0 7 tables.old.cells.now tables.new.cells.now × SameSlice tables.old tables.new }
 {
     for f in 0..=fields::NEXT_OUT {
         let column = 64 * tables.activities + f * tables.links;
-        clear_cells(tables.cells, column + t, column + tables.links);
+        clear_cells(tables.cells, column + tables.kept, column + tables.links);
     }
 }
 
-// Leaves of the activities and of the first `t` links what stands for the passes; every other cell is 0.
-pub fn clear_rest(tables: &mut Tables, t: usize)
-    requires { t ≤ tables.old.links }
-    ensures { (state tables.new ≡ rest_cleared t (state tables.old)) × ((j : ℕ) → 64 * tables.old.activities + 16 * tables.old.links ≤ j → cell_z tables.new.cells.now j ≡ pos 0) × SameSlice tables.old tables.new }
+// Leaves of the activities and of the kept links what stands for the passes; every other cell is 0.
+pub fn clear_rest(tables: &mut Tables)
+    ensures { (state tables.new ≡ rest_cleared tables.old.kept (state tables.old)) × ((j : ℕ) → 64 * tables.old.activities + 16 * tables.old.links ≤ j → cell_z tables.new.cells.now j ≡ pos 0) × SameSlice tables.old tables.new }
 {
     clear_activities(tables);
-    clear_links(tables, t);
+    clear_links(tables);
     let end = tables.cells.len();
     clear_cells(
         tables.cells,

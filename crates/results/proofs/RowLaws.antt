@@ -1,5 +1,5 @@
 -- The rows of the memory give what the definition shows, one after the other.
-use Rattle.std.specs.Prelude.{◌≡◌, Bool, List, ltb, ℤ, Result, Ok, Err}
+use Rattle.std.specs.Prelude.{◌≡◌, Bool, ltb, ℤ, Result, Ok, Err}
 use Rattle.worktime.specs.declared.ClockError.{ClockError}
 use Rattle.std.proofs.Common.{sym, ◌∙◌, ⊎_elim, add-one, arith}
 use Rattle.std.proofs.Math.Path.{ap}
@@ -11,16 +11,15 @@ use Rattle.memory.specs.Seen.{state, SameSlice}
 use Rattle.memory.specs.Fields.{late_start, late_finish, early_start, early_finish, work_left, free_float, longest_path, recorded_as, recorded_start, recorded_finish, shown_start, shown_finish, shown_late_start, shown_late_finish, total_float, shown_free, is_critical, is_longest, greatest_finish, greatest_late}
 use Rattle.topology.specs.Frame.{Frame}
 use Rattle.topology.specs.FrameLaws.{outside_below, frame_refl, frame_put, frame_then}
-use Rattle.sheet.specs.declared.Contents.{Contents}
 use Rattle.project.specs.declared.ActivityKind.{ActivityKind}
 use Rattle.project.specs.declared.Project.{Project}
 use Rattle.placing.specs.declared.Actual.{Actual}
-use Rattle.order.specs.Plan.{Plan, plan_of}
+use Rattle.order.specs.Plan.{Plan, plan_of, plan_in}
 use Rattle.passes.specs.Plan.{own, kind_of, recorded}
 use Rattle.passes.specs.Dates.{Pass, leaves, refused}
 use Rattle.passes.specs.Floats.{day_of}
 use Rattle.passes.specs.Run.{Ran}
-use Rattle.calendars.specs.declared.plan_calendar.PlanCalendar.{PlanCalendar}
+use Rattle.calendars.specs.declared.plan_sheet.PlanSheet.{PlanSheet}
 use Rattle.calendars.specs.Calendars.{Lengths}
 use Rattle.dates.specs.Columns.{ended}
 use Rattle.dates.specs.Standing.{Ready, Recorded}
@@ -37,31 +36,27 @@ use Rattle.results.specs.Row.{ToShow, row_shown}
 use Rattle.results.specs.RowLaws.{shown_next}
 
 -- ---- what is lent
-module _ {s : List ℕ} {c : Contents} {calendars : List PlanCalendar} {tables : Tables} where
-  pub to_show : {t : ℕ} → Ready s c calendars t tables → Lengths (plan_of s c) calendars → Recorded (plan_of s c) (state tables) → ToShow s c calendars tables
+module _ {plan : PlanSheet} {tables : Tables} where
+  pub to_show : Ready plan tables → Lengths (plan_in plan.sheet) plan.calendars.now → Recorded (plan_in plan.sheet) (state tables) → ToShow plan tables
   unfolding plan_of
   to_show R L D = record {
-    read = R.read;
     activities = R.activities;
     links = R.links;
-    located = R.located;
     days = L;
-    named = λ i b. ((checked_fine (plan_of s c) R.fine).activities i b).calendar;
+    named = λ i b. ((checked_fine (plan_in plan.sheet) R.fine).activities i b).calendar;
     recorded = D;
   }
 
   -- it stays where only later fields change
   pub to_show_kept : {lo hi : ℕ} {tables' : Tables} → 20 ≤ lo → Frame lo hi 0 0 (state tables) (state tables')
-      → SameSlice tables tables' → ToShow s c calendars tables → ToShow s c calendars tables'
+      → SameSlice tables tables' → ToShow plan tables → ToShow plan tables'
   to_show_kept {lo} {hi} {tables'} l F e W = record {
-    read = W.read;
     activities = e.activities ∙ W.activities;
     links = e.links ∙ W.links;
-    located = W.located;
     days = W.days;
     named = W.named;
     recorded =
-        recorded_kept F (plan_of s c) (outside_below lo hi recorded_as (omega arith)) (outside_below lo hi recorded_start (omega arith))
+        recorded_kept F (plan_in plan.sheet) (outside_below lo hi recorded_as (omega arith)) (outside_below lo hi recorded_start (omega arith))
         (outside_below lo hi recorded_finish (omega arith)) W.recorded;
   }
 

@@ -1,16 +1,12 @@
 -- What is shown of an activity is what its parts give.
-use Rattle.std.specs.Prelude.{◌≡◌, refl, Bool, ◌&&◌, not, pos, nat_abs, ◌*ℤ◌, Result, Ok, Err}
+use Rattle.std.specs.Prelude.{◌≡◌, refl, Bool, ◌&&◌, not, Result, Ok, Err}
 use Rattle.worktime.specs.declared.ClockError.{ClockError}
 use Rattle.worktime.specs.declared.ClockError.TheVariants.{TooLong}
 use Rattle.std.proofs.Math.Path.{sym}
-use Rattle.std.proofs.Common.{ap, ◌∙◌, arith, mul-le-mul, to_z-of_z, SFits, to_z, of_z}
+use Rattle.std.proofs.Common.{ap, ◌∙◌, arith}
 use Rattle.std.proofs.Math.Bool.{true, false}
-use Prim.Native.Nat.{ℕ, zero, suc, ◌-◌, ◌/◌, ◌^◌, ◌≤◌, ◌<◌}
+use Prim.Native.Nat.{ℕ, zero, suc, ◌-◌, ◌/◌, ◌^◌, ◌<◌}
 use Rattle.std.proofs.Math.IntN.{ℤ}
-use Rattle.std.proofs.Math.Facts.{sfits_widen}
-use Rattle.std.specs.Int.{w32, w64}
-use Rattle.number.specs.ZedLaws.{abs_is, up_fits, dn_fits}
-use Rattle.number.specs.QuotLaws.{abs_mul, fits_abs}
 use Rattle.number.specs.Tests.{and_both}
 use Rattle.date.specs.Years.{in_years, years_in}
 use Rattle.worktime.specs.Walks.{reads, between}
@@ -125,22 +121,6 @@ module _ (p : Plan) (w : ℕ → Bool) (kind : FloatKind) (a : Result Actual Clo
   pub total_start : (f : ℤ) (k : ClockError) → between w t.ef t.lf ≡ Ok f → between w t.es t.ls ≡ Err k → Err k ≡ total_work p w kind a t
   unfolding total_work
   total_start f k d e = rw (d, e)
-
--- ---- a threshold in minutes
-module _ (days : ℤ) (day_length : ℕ) (f : SFits w32 days) (l : day_length ≤ 1440) where
-  wide : SFits w64 days
-  wide = sfits_widen tt f
-
-  pub widened_fits : SFits w64 (to_z w32 (of_z w32 days))
-  widened_fits = rw (to_z-of_z f) wide
-
-  pub widened_back : to_z w64 (of_z w64 (to_z w32 (of_z w32 days))) ≡ days
-  widened_back = rw (to_z-of_z f) (to_z-of_z wide)
-
-  pub minutes_fit : SFits w64 (days *ℤ pos day_length)
-  minutes_fit =
-      let h : nat_abs days ≤ 4294967296 = omega (arith, abs_is days, up_fits w32 days f, dn_fits w32 days f) in
-      fits_abs w64 (days *ℤ pos day_length) (omega (arith, abs_mul days (pos day_length), mul-le-mul h l))
 
 -- ---- the ways of what is shown
 module _ (p : Plan) (project : Project) (kind : ActivityKind) (day_length : ℕ) (w : ℕ → Bool) (a : Result Actual ClockError) (t : Times) where

@@ -1,11 +1,10 @@
 // What is shown of each activity.
 #![tactic(auto)]
 
-ghost use Rattle.std.specs.Prelude.{◌≡◌, Bool, ℕ, ◌+◌, ◌^◌, ◌≤◌, ◌<◌, pos, ◌*ℤ◌, Ok};
-ghost use Rattle.number.specs.Bit.{bit};
+ghost use Rattle.std.specs.Prelude.{◌≡◌, Bool, ℕ, ◌+◌, ◌^◌, ◌≤◌, ◌<◌, Ok};
 ghost use Rattle.clock.specs.On.{worked_by};
 ghost use Rattle.memory.specs.Seen.{state, SameSlice};
-ghost use Rattle.order.specs.Plan.{Plan, plan_of};
+ghost use Rattle.order.specs.Plan.{Plan, plan_in};
 ghost use Rattle.passes.specs.Floats.{float_by};
 ghost use Rattle.results.specs.Results.{start_minute, finish_minute, total_by, shown_below};
 ghost use Rattle.topology.specs.Frame.{Frame};
@@ -16,11 +15,10 @@ ghost use Rattle.results.specs.View.{ran_in, shown_to, shown_at, days_in, times_
 ghost use Rattle.results.specs.Showing.{Holds, DaysHold, HoldsIf, showing, all_in_years, critical_in, total_work, days_of, critical_of, shown_from};
 
 use calendar::Calendar;
-use calendars::PlanCalendar;
+use calendars::PlanSheet;
 use memory::Tables;
 use placing::Actual;
 use project::{ActivityKind, CriticalBy, FloatKind, Project};
-use sheet::Contents;
 use worktime::ClockError;
 
 // Days counted from the first that an i32 can name, floats in minutes, and for the roll-up the early and the late finish.
@@ -137,20 +135,12 @@ fn all_in_years(days: Days) -> bool
 }
 
 // ---- critical, by total float or by the longest path
-// So many days of `day_length` minutes.
-fn days_in_minutes(days: i32, day_length: u64) -> i64
-    requires { day_length ≤ 1440 }
-    ensures { result ≡ days *ℤ pos day_length }
-{
-    days as i64 * day_length as i64
-}
-
 pub fn is_critical(by: CriticalBy, day_length: u64, total: i64, path: bool) -> bool
     requires { day_length ≤ 1440 }
     ensures { result ≡ critical_in by day_length total path }
 {
     match by {
-        CriticalBy::TotalFloat(days) => total <= days_in_minutes(days, day_length),
+        CriticalBy::TotalFloat(days) => total <= calendars::days_in_minutes(days, day_length),
         CriticalBy::LongestPath => path,
     }
 }
@@ -260,12 +250,6 @@ pub fn shown_at(tables: &Tables, i: usize) -> Shown
     }
 }
 
-pub fn number_of(b: bool) -> u64
-    ensures { result ≡ bit b }
-{
-    b as u64
-}
-
 fn put_days(tables: &mut Tables, i: usize, x: Shown)
     requires { (i < tables.old.activities) × Holds x }
     ensures { (state tables.new ≡ put_days (state tables.old) i x) × SameSlice tables.old tables.new }
@@ -282,8 +266,8 @@ fn put_floats(tables: &mut Tables, i: usize, x: Shown)
 {
     tables.put_act_signed(i, memory::fields::TOTAL_FLOAT, x.total);
     tables.put_act(i, memory::fields::SHOWN_FREE, x.free);
-    tables.put_act(i, memory::fields::IS_CRITICAL, number_of(x.critical));
-    tables.put_act(i, memory::fields::IS_LONGEST, number_of(x.path));
+    tables.put_act(i, memory::fields::IS_CRITICAL, u64::from(x.critical));
+    tables.put_act(i, memory::fields::IS_LONGEST, u64::from(x.path));
 }
 
 fn put_bounds(tables: &mut Tables, i: usize, x: Shown)
@@ -307,55 +291,53 @@ pub fn put_shown(tables: &mut Tables, i: usize, x: Shown)
 // ---- all activities
 // What is shown of activity `i`, on its own calendar.
 fn row_of(
-    sheet: &[u8],
-    contents: Contents,
-    calendars: &[PlanCalendar],
+    plan: &PlanSheet,
     project: Project,
     tables: &Tables,
     i: usize,
 ) -> Result<Shown, ClockError>
-    requires { ToShow sheet.now contents calendars.now tables.now × (i < contents.activities) × (project ≡ (plan_of sheet.now contents).project) }
-    ensures { (showing result ≡ row_shown (plan_of sheet.now contents) (state tables.now) i) × HoldsIf result }
+    requires { ToShow plan.now tables.now × (i < plan.now.sheet.contents.activities) × (project ≡ (plan_in plan.now.sheet).project) }
+    ensures { (showing result ≡ row_shown (plan_in plan.now.sheet) (state tables.now) i) × HoldsIf result }
 {
-    let activity = dates::activity_of(sheet, contents, i);
+    let activity = dates::activity_of(&plan.sheet, i);
     let kind = activity.kind;
     let k = activity.calendar as usize;
-    let calendar = calendars::calendar_of(sheet, contents, calendars, k);
+    let calendar = plan.calendar(k);
     let actual = dates::recorded_at(tables, i);
     let t = times_at(tables, i);
-    shown_of(project, kind, calendars[k].day_length, actual, t, &calendar)
+    shown_of(
+        project,
+        kind,
+        plan.calendars[k].day_length,
+        actual,
+        t,
+        &calendar,
+    )
 }
 
 // Puts what is shown of activity `i` into its row.
 fn show_one(
-    sheet: &[u8],
-    contents: Contents,
-    calendars: &[PlanCalendar],
+    plan: &PlanSheet,
     project: Project,
     tables: &mut Tables,
     i: usize,
 ) -> Result<(), ClockError>
-    requires { ToShow sheet.now contents calendars.now tables.old × (i < contents.activities) × (project ≡ (plan_of sheet.now contents).project) }
-    ensures { (ended (shown_to (i + 1) (state tables.new)) result ≡ shown_next (row_shown (plan_of sheet.now contents) (state tables.old) i) (shown_to i (state tables.old)) i) × Frame 20 30 0 0 (state tables.old) (state tables.new) × SameSlice tables.old tables.new }
+    requires { ToShow plan.now tables.old × (i < plan.now.sheet.contents.activities) × (project ≡ (plan_in plan.now.sheet).project) }
+    ensures { (ended (shown_to (i + 1) (state tables.new)) result ≡ shown_next (row_shown (plan_in plan.now.sheet) (state tables.old) i) (shown_to i (state tables.old)) i) × Frame 20 30 0 0 (state tables.old) (state tables.new) × SameSlice tables.old tables.new }
 {
-    let x = row_of(sheet, contents, calendars, project, tables, i)?;
+    let x = row_of(plan, project, tables, i)?;
     put_shown(tables, i, x);
     Ok(())
 }
 
 // Puts what is shown of each activity into its row, in sheet order.
-pub fn show_all(
-    sheet: &[u8],
-    contents: Contents,
-    calendars: &[PlanCalendar],
-    tables: &mut Tables,
-) -> Result<(), ClockError>
-    requires { ToShow sheet.now contents calendars.now tables.old }
-    ensures { ((e : ℕ) (other : ℕ → Bool) → ended (shown_to contents.activities (state tables.new)) result ≡ shown_below (plan_of sheet.now contents) (ran_in (plan_of sheet.now contents) (state tables.old) e other) contents.activities) × Frame 20 30 0 0 (state tables.old) (state tables.new) × SameSlice tables.old tables.new }
+pub fn show_all(plan: &PlanSheet, tables: &mut Tables) -> Result<(), ClockError>
+    requires { ToShow plan.now tables.old }
+    ensures { ((e : ℕ) (other : ℕ → Bool) → ended (shown_to plan.now.sheet.contents.activities (state tables.new)) result ≡ shown_below (plan_in plan.now.sheet) (ran_in (plan_in plan.now.sheet) (state tables.old) e other) plan.now.sheet.contents.activities) × Frame 20 30 0 0 (state tables.old) (state tables.new) × SameSlice tables.old tables.new }
 {
-    let project = project::records::read_project(sheet, 0);
-    for i in 0..contents.activities {
-        show_one(sheet, contents, calendars, project, tables, i)?;
+    let project = project::records::read_project(plan.sheet.bytes, 0);
+    for i in 0..plan.sheet.contents.activities {
+        show_one(plan, project, tables, i)?;
     }
     Ok(())
 }

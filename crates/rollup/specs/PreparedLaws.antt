@@ -1,5 +1,5 @@
 -- The preparation gives the roll-up what it needs.
-use Rattle.std.specs.Prelude.{◌≡◌, Bool, List, eqb, ltb, Result, Ok, Err}
+use Rattle.std.specs.Prelude.{◌≡◌, Bool, eqb, ltb, Result, Ok, Err}
 use Rattle.worktime.specs.declared.ClockError.{ClockError}
 use Rattle.std.proofs.Math.Path.{refl, ap}
 use Rattle.std.proofs.Common.{sym, ◌∙◌, arith}
@@ -14,13 +14,11 @@ use Rattle.topology.specs.Frame.{Frame}
 use Rattle.topology.specs.FrameLaws.{outside_below, frame_then, frame_wider}
 use Rattle.network.specs.ParentLinks.{steps_out, depth}
 use Rattle.network.specs.Depth.{depth_le}
-use Rattle.sheet.specs.declared.Contents.{Contents}
-use Rattle.order.specs.Plan.{Plan, plan_of}
+use Rattle.order.specs.Plan.{Plan, plan_in}
 use Rattle.order.specs.ParentLaws.{parent_le}
 use Rattle.order.specs.Ids.{parent_of, summary}
 use Rattle.passes.specs.Dates.{Pass, after, through}
 use Rattle.passes.specs.Run.{Ran}
-use Rattle.calendars.specs.declared.plan_calendar.PlanCalendar.{PlanCalendar}
 use Rattle.dates.specs.Columns.{ended}
 use Rattle.dates.specs.Standing.{Ready}
 use Rattle.dates.specs.FineLaws.{checked_fine}
@@ -31,6 +29,7 @@ use Rattle.rollup.specs.Chained.{LinkedIn, KeysIn}
 use Rattle.rollup.specs.Depths.{depth_key, DepthsTo}
 use Rattle.rollup.specs.Prepared.{Prepared}
 use Rattle.rollup.specs.Rolling.{deep_of, Deep, ToRoll}
+use Rattle.calendars.specs.declared.plan_sheet.PlanSheet.{PlanSheet}
 
 -- ---- depths are keys
 low : (b : Bool) (n a : ℕ) → n ≤ a → elim b [ true ↦ 0 | false ↦ n ] ≤ a
@@ -118,11 +117,11 @@ to_roll_kept p {lo} {hi} {S} {T} l F W = record {
 pub keys_in : (p : Plan) (S : State) → ToRoll p S → KeysIn parent p.activities S
 keys_in p S W j b = omega (arith, W.parents j b, W.within j b)
 
-pub to_roll : {s : List ℕ} {c : Contents} {calendars : List PlanCalendar} {t : ℕ} {tables : Tables} → Ready s c calendars t tables → ToRoll (plan_of s c) (state tables)
-to_roll {s} {c} R = record {
+pub to_roll : {plan : PlanSheet} {tables : Tables} → Ready plan tables → ToRoll (plan_in plan.sheet) (state tables)
+to_roll {plan} R = record {
   parents = R.standing.parents;
   marks = R.standing.marks;
-  within = parent_le (plan_of s c) (checked_fine (plan_of s c) R.fine).parents;
+  within = parent_le (plan_in plan.sheet) (checked_fine (plan_in plan.sheet) R.fine).parents;
 }
 
 module _ (p : Plan) (r : Ran) where

@@ -8,12 +8,11 @@ ghost use Rattle.memory.specs.Fields.{parent, depth_of, first_child};
 ghost use Rattle.topology.specs.Frame.{Frame};
 ghost use Rattle.network.specs.ParentLinks.{depth};
 ghost use Rattle.rollup.specs.Chained.{LinkedIn, KeysIn};
-ghost use Rattle.sheet.specs.Known.{SheetRead};
-ghost use Rattle.order.specs.Plan.{plan_of};
+ghost use Rattle.order.specs.Plan.{plan_in};
 ghost use Rattle.order.specs.Ties.{calendar_of};
 ghost use Rattle.passes.specs.Dates.{through};
 ghost use Rattle.passes.specs.Run.{Ran};
-ghost use Rattle.calendars.specs.Calendars.{Places, Lengths};
+ghost use Rattle.calendars.specs.Calendars.{Lengths};
 ghost use Rattle.dates.specs.Columns.{ended};
 ghost use Rattle.dates.specs.Standing.{Ready, Recorded};
 ghost use Rattle.results.specs.Results.{summaries_at, deepest_first, rolled, results};
@@ -25,11 +24,10 @@ ghost use Rattle.rollup.specs.Rolling.{Deep, ToRoll, summed_pass};
 ghost use Rattle.rollup.specs.Depths.{depth_key, DepthsTo};
 ghost use Rattle.rollup.specs.Roll.{joined, child_sum};
 
-use calendars::PlanCalendar;
+use calendars::PlanSheet;
 use memory::Tables;
 use project::Project;
 use results::Shown;
-use sheet::Contents;
 use worktime::ClockError;
 
 // ---- chains through the activities
@@ -141,23 +139,16 @@ fn sum_children(tables: &Tables, s: usize, first: usize) -> Shown
 
 // ---- one summary
 // The sum of a summary's children with its own float.
-fn summed_of(
-    sheet: &[u8],
-    contents: Contents,
-    calendars: &[PlanCalendar],
-    project: Project,
-    s: usize,
-    x: Shown,
-) -> Result<Shown, ClockError>
-    requires { SheetRead sheet.now contents × Places sheet.now contents calendars.now × Lengths (plan_of sheet.now contents) calendars.now × (s < contents.activities) × (calendar_of (plan_of sheet.now contents) s < contents.calendars) × (project ≡ (plan_of sheet.now contents).project) × Holds x }
-    ensures { (showing result ≡ summed_pass (plan_of sheet.now contents) s x) × HoldsIf result }
+fn summed_of(plan: &PlanSheet, project: Project, s: usize, x: Shown) -> Result<Shown, ClockError>
+    requires { Lengths (plan_in plan.now.sheet) plan.now.calendars.now × (s < plan.now.sheet.contents.activities) × (calendar_of (plan_in plan.now.sheet) s < plan.now.sheet.contents.calendars) × (project ≡ (plan_in plan.now.sheet).project) × Holds x }
+    ensures { (showing result ≡ summed_pass (plan_in plan.now.sheet) s x) × HoldsIf result }
 {
     let by = project.critical_by;
-    let activity = dates::activity_of(sheet, contents, s);
+    let activity = dates::activity_of(&plan.sheet, s);
     let k = activity.calendar as usize;
-    let calendar = calendars::calendar_of(sheet, contents, calendars, k);
+    let calendar = plan.calendar(k);
     let total = clock::between(&calendar, x.finish, x.late)?;
-    let critical = results::is_critical(by, calendars[k].day_length, total, x.path);
+    let critical = results::is_critical(by, plan.calendars[k].day_length, total, x.path);
     Ok(Shown {
         total,
         free: 0,
@@ -168,22 +159,20 @@ fn summed_of(
 
 // Rolls summary `s` up from its children.
 fn roll_one(
-    sheet: &[u8],
-    contents: Contents,
-    calendars: &[PlanCalendar],
+    plan: &PlanSheet,
     project: Project,
     tables: &mut Tables,
     s: usize,
 ) -> Result<(), ClockError>
-    requires { ToShow sheet.now contents calendars.now tables.old × Deep (plan_of sheet.now contents) (state tables.old) × (s < contents.activities) × (project ≡ (plan_of sheet.now contents).project) }
-    ensures { ((q : Ran) → ended (shown_in (plan_of sheet.now contents) (state tables.new)) result ≡ rolled (plan_of sheet.now contents) q (shown_in (plan_of sheet.now contents) (state tables.old)) s) × Frame 20 30 0 0 (state tables.old) (state tables.new) × SameSlice tables.old tables.new }
+    requires { ToShow plan.now tables.old × Deep (plan_in plan.now.sheet) (state tables.old) × (s < plan.now.sheet.contents.activities) × (project ≡ (plan_in plan.now.sheet).project) }
+    ensures { ((q : Ran) → ended (shown_in (plan_in plan.now.sheet) (state tables.new)) result ≡ rolled (plan_in plan.now.sheet) q (shown_in (plan_in plan.now.sheet) (state tables.old)) s) × Frame 20 30 0 0 (state tables.old) (state tables.new) × SameSlice tables.old tables.new }
 {
     let first = tables.act(s, memory::fields::FIRST_CHILD) as usize;
-    if first >= contents.activities {
+    if first >= plan.sheet.contents.activities {
         return Ok(());
     }
     let x = sum_children(tables, s, first);
-    let y = summed_of(sheet, contents, calendars, project, s, x)?;
+    let y = summed_of(plan, project, s, x)?;
     results::put_shown(tables, s, y);
     Ok(())
 }
@@ -191,37 +180,29 @@ fn roll_one(
 // ---- all summaries, deepest first
 // Rolls up the summaries of depth `d`, in sheet order.
 fn roll_depth(
-    sheet: &[u8],
-    contents: Contents,
-    calendars: &[PlanCalendar],
+    plan: &PlanSheet,
     project: Project,
     tables: &mut Tables,
     d: usize,
 ) -> Result<(), ClockError>
-    requires { ToShow sheet.now contents calendars.now tables.old × Deep (plan_of sheet.now contents) (state tables.old) × (0 < d) × (d ≤ contents.activities) × (project ≡ (plan_of sheet.now contents).project) }
-    ensures { ((q : Ran) → ended (shown_in (plan_of sheet.now contents) (state tables.new)) result ≡ through (rolled (plan_of sheet.now contents) q) (summaries_at (plan_of sheet.now contents) q d contents.activities) (shown_in (plan_of sheet.now contents) (state tables.old))) × Frame 20 30 0 0 (state tables.old) (state tables.new) × SameSlice tables.old tables.new }
+    requires { ToShow plan.now tables.old × Deep (plan_in plan.now.sheet) (state tables.old) × (0 < d) × (d ≤ plan.now.sheet.contents.activities) × (project ≡ (plan_in plan.now.sheet).project) }
+    ensures { ((q : Ran) → ended (shown_in (plan_in plan.now.sheet) (state tables.new)) result ≡ through (rolled (plan_in plan.now.sheet) q) (summaries_at (plan_in plan.now.sheet) q d plan.now.sheet.contents.activities) (shown_in (plan_in plan.now.sheet) (state tables.old))) × Frame 20 30 0 0 (state tables.old) (state tables.new) × SameSlice tables.old tables.new }
 {
     let mut k = tables.act(d - 1, memory::fields::FIRST_DEEP) as usize;
     // As in `sum_children`, the next comes from the memory, which `roll_one` writes to meanwhile.
-    while k < contents.activities {
-        roll_one(sheet, contents, calendars, project, tables, k)?;
+    while k < plan.sheet.contents.activities {
+        roll_one(plan, project, tables, k)?;
         k = tables.act(k, memory::fields::NEXT_DEEP) as usize;
     }
     Ok(())
 }
 
-fn roll_all(
-    sheet: &[u8],
-    contents: Contents,
-    calendars: &[PlanCalendar],
-    project: Project,
-    tables: &mut Tables,
-) -> Result<(), ClockError>
-    requires { ToShow sheet.now contents calendars.now tables.old × Deep (plan_of sheet.now contents) (state tables.old) × (project ≡ (plan_of sheet.now contents).project) }
-    ensures { ((q : Ran) → ended (shown_in (plan_of sheet.now contents) (state tables.new)) result ≡ through (rolled (plan_of sheet.now contents) q) (deepest_first (plan_of sheet.now contents) q contents.activities) (shown_in (plan_of sheet.now contents) (state tables.old))) × Frame 20 30 0 0 (state tables.old) (state tables.new) × SameSlice tables.old tables.new }
+fn roll_all(plan: &PlanSheet, project: Project, tables: &mut Tables) -> Result<(), ClockError>
+    requires { ToShow plan.now tables.old × Deep (plan_in plan.now.sheet) (state tables.old) × (project ≡ (plan_in plan.now.sheet).project) }
+    ensures { ((q : Ran) → ended (shown_in (plan_in plan.now.sheet) (state tables.new)) result ≡ through (rolled (plan_in plan.now.sheet) q) (deepest_first (plan_in plan.now.sheet) q plan.now.sheet.contents.activities) (shown_in (plan_in plan.now.sheet) (state tables.old))) × Frame 20 30 0 0 (state tables.old) (state tables.new) × SameSlice tables.old tables.new }
 {
-    for d in (0..contents.activities).rev() {
-        roll_depth(sheet, contents, calendars, project, tables, d + 1)?;
+    for d in (0..plan.sheet.contents.activities).rev() {
+        roll_depth(plan, project, tables, d + 1)?;
     }
     Ok(())
 }
@@ -237,31 +218,20 @@ fn prepare(tables: &mut Tables)
 }
 
 // Rolls up all summaries, deepest first.
-fn roll_up(
-    sheet: &[u8],
-    contents: Contents,
-    calendars: &[PlanCalendar],
-    tables: &mut Tables,
-) -> Result<(), ClockError>
-    requires { ToShow sheet.now contents calendars.now tables.old × ToRoll (plan_of sheet.now contents) (state tables.old) }
-    ensures { ((q : Ran) → ended (shown_in (plan_of sheet.now contents) (state tables.new)) result ≡ through (rolled (plan_of sheet.now contents) q) (deepest_first (plan_of sheet.now contents) q contents.activities) (shown_in (plan_of sheet.now contents) (state tables.old))) × Frame 20 35 0 0 (state tables.old) (state tables.new) × SameSlice tables.old tables.new }
+fn roll_up(plan: &PlanSheet, tables: &mut Tables) -> Result<(), ClockError>
+    requires { ToShow plan.now tables.old × ToRoll (plan_in plan.now.sheet) (state tables.old) }
+    ensures { ((q : Ran) → ended (shown_in (plan_in plan.now.sheet) (state tables.new)) result ≡ through (rolled (plan_in plan.now.sheet) q) (deepest_first (plan_in plan.now.sheet) q plan.now.sheet.contents.activities) (shown_in (plan_in plan.now.sheet) (state tables.old))) × Frame 20 35 0 0 (state tables.old) (state tables.new) × SameSlice tables.old tables.new }
 {
-    let project = project::records::read_project(sheet, 0);
+    let project = project::records::read_project(plan.sheet.bytes, 0);
     prepare(tables);
-    roll_all(sheet, contents, calendars, project, tables)
+    roll_all(plan, project, tables)
 }
 
-// The results: what is shown of each activity, and summaries rolled up from their children. `t` links are kept.
-pub fn results(
-    sheet: &[u8],
-    contents: Contents,
-    calendars: &[PlanCalendar],
-    t: usize,
-    tables: &mut Tables,
-) -> Result<(), ClockError>
-    requires { Ready sheet.now contents calendars.now t tables.old × Recorded (plan_of sheet.now contents) (state tables.old) × Lengths (plan_of sheet.now contents) calendars.now }
-    ensures { ((e : ℕ) (other : ℕ → Bool) → ended (shown_in (plan_of sheet.now contents) (state tables.new)) result ≡ results (plan_of sheet.now contents) (ran_in (plan_of sheet.now contents) (state tables.old) e other)) × Frame 20 35 0 0 (state tables.old) (state tables.new) × SameSlice tables.old tables.new }
+// The results: what is shown of each activity, and summaries rolled up from their children.
+pub fn results(plan: &PlanSheet, tables: &mut Tables) -> Result<(), ClockError>
+    requires { Ready plan.now tables.old × Recorded (plan_in plan.now.sheet) (state tables.old) × Lengths (plan_in plan.now.sheet) plan.now.calendars.now }
+    ensures { ((e : ℕ) (other : ℕ → Bool) → ended (shown_in (plan_in plan.now.sheet) (state tables.new)) result ≡ results (plan_in plan.now.sheet) (ran_in (plan_in plan.now.sheet) (state tables.old) e other)) × Frame 20 35 0 0 (state tables.old) (state tables.new) × SameSlice tables.old tables.new }
 {
-    results::show_all(sheet, contents, calendars, tables)?;
-    roll_up(sheet, contents, calendars, tables)
+    results::show_all(plan, tables)?;
+    roll_up(plan, tables)
 }

@@ -9,9 +9,7 @@ use Rattle.memory.specs.State.{State}
 use Rattle.memory.specs.declared.Tables.{Tables}
 use Rattle.memory.specs.Seen.{state}
 use Rattle.memory.specs.Fields.{is_summary, early_start, early_finish, work_left}
-use Rattle.sheet.specs.declared.Contents.{Contents}
-use Rattle.sheet.specs.Known.{SheetRead}
-use Rattle.order.specs.Plan.{Plan, plan_of}
+use Rattle.order.specs.Plan.{Plan, plan_in}
 use Rattle.order.specs.Ids.{id_of, summary}
 use Rattle.order.specs.Ties.{calendar_of}
 use Rattle.passes.specs.Plan.{recorded}
@@ -23,6 +21,7 @@ use Rattle.results.specs.declared.Shown.{Shown}
 use Rattle.results.specs.Results.{status_number}
 use Rattle.results.specs.Rows.{signed_day_of}
 use Rattle.results.specs.View.{shown_at}
+use Rattle.sheet.specs.declared.value.Sheet.{Sheet}
 
 -- the elements put one after the other, the first at `at + k`
 abbrev pub stored_from : List ℤ → ℕ → ℕ → List ℤ → List ℤ
@@ -60,11 +59,10 @@ rows_in p S zero = []
 rows_in p S (suc n) = rows_in p S n ++ row_in p S n
 
 -- a sheet that was read, day lengths, each activity's calendar among them, and in the memory the summaries' marks and the recorded work
-pub record ToWrite (s : List ℕ) (c : Contents) (calendars : List PlanCalendar) (tables : Tables) : Type 0 where
-  pub read : SheetRead s c
-  pub activities : tables.activities ≡ c.activities
-  pub links : tables.links ≡ c.links
-  pub days : Lengths (plan_of s c) calendars
-  pub named : (i : ℕ) → i < c.activities → calendar_of (plan_of s c) i < c.calendars
-  pub marks : (i : ℕ) → i < c.activities → (state tables).act is_summary i ≡ bit (summary (plan_of s c) i)
-  pub recorded : Recorded (plan_of s c) (state tables)
+pub record ToWrite (sheet : Sheet) (calendars : List PlanCalendar) (tables : Tables) : Type 0 where
+  pub activities : tables.activities ≡ sheet.contents.activities
+  pub links : tables.links ≡ sheet.contents.links
+  pub days : Lengths (plan_in sheet) calendars
+  pub named : (i : ℕ) → i < sheet.contents.activities → calendar_of (plan_in sheet) i < sheet.contents.calendars
+  pub marks : (i : ℕ) → i < sheet.contents.activities → (state tables).act is_summary i ≡ bit (summary (plan_in sheet) i)
+  pub recorded : Recorded (plan_in sheet) (state tables)

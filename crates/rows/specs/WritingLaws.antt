@@ -15,14 +15,12 @@ use Rattle.memory.specs.State.{State}
 use Rattle.memory.specs.declared.Tables.{Tables}
 use Rattle.memory.specs.Seen.{state}
 use Rattle.memory.specs.Fields.{early_start, early_finish, work_left}
-use Rattle.sheet.specs.declared.Contents.{Contents}
-use Rattle.order.specs.Plan.{Plan, plan_of}
+use Rattle.order.specs.Plan.{Plan, plan_of, plan_in}
 use Rattle.placing.specs.declared.Actual.{Actual}
 use Rattle.order.specs.Ids.{id_of, summary}
 use Rattle.passes.specs.Plan.{origin, recorded}
 use Rattle.passes.specs.Floats.{day_of}
 use Rattle.passes.specs.Run.{Ran}
-use Rattle.calendars.specs.declared.plan_calendar.PlanCalendar.{PlanCalendar}
 use Rattle.calendars.specs.Calendars.{Lengths}
 use Rattle.dates.specs.ColumnLaws.{column_at}
 use Rattle.dates.specs.Standing.{Ready, Recorded}
@@ -33,17 +31,17 @@ use Rattle.results.specs.Rows.{minute_of, row_of, rows_below}
 use Rattle.results.specs.View.{ran_in, shown_in, shown_at}
 use Rattle.results.specs.ViewLaws.{to_at_lem}
 use Rattle.rows.specs.Writing.{stored_from, row_fields, row_with, row_in, rows_in, ToWrite}
+use Rattle.calendars.specs.declared.plan_sheet.PlanSheet.{PlanSheet}
 
 -- ---- what is lent
-pub to_write : {s : List ℕ} {c : Contents} {calendars : List PlanCalendar} {t : ℕ} {tables : Tables} → Ready s c calendars t tables → Lengths (plan_of s c) calendars
-    → Recorded (plan_of s c) (state tables) → ToWrite s c calendars tables
+pub to_write : {plan : PlanSheet} {tables : Tables} → Ready plan tables → Lengths (plan_in plan.sheet) plan.calendars.now
+    → Recorded (plan_in plan.sheet) (state tables) → ToWrite plan.sheet plan.calendars.now tables
 unfolding plan_of
-to_write {s} {c} R L D = record {
-  read = R.read;
+to_write {plan} R L D = record {
   activities = R.activities;
   links = R.links;
   days = L;
-  named = λ i b. ((checked_fine (plan_of s c) R.fine).activities i b).calendar;
+  named = λ i b. ((checked_fine (plan_in plan.sheet) R.fine).activities i b).calendar;
   marks = R.standing.marks;
   recorded = D;
 }

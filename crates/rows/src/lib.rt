@@ -3,8 +3,7 @@
 
 ghost use Rattle.std.specs.Prelude.{◌≡◌, Bool, ◌++◌, ℕ, ◌+◌, ◌*◌, ◌^◌, ◌≤◌, ◌<◌, length, drop, Ok};
 ghost use Rattle.memory.specs.Seen.{state};
-ghost use Rattle.sheet.specs.Known.{SheetRead};
-ghost use Rattle.order.specs.Plan.{plan_of};
+ghost use Rattle.order.specs.Plan.{plan_in};
 ghost use Rattle.passes.specs.Run.{Ran};
 ghost use Rattle.results.specs.Results.{status_number, finish_day};
 ghost use Rattle.results.specs.Rows.{signed_day_of, rows_below};
@@ -16,7 +15,7 @@ use calendars::PlanCalendar;
 use memory::Tables;
 use placing::Actual;
 use results::Shown;
-use sheet::Contents;
+use sheet::Sheet;
 
 // ---- fields
 // A day as 01 counts it.
@@ -71,8 +70,8 @@ fn write_floats(results: &mut [i64], at: usize, day_length: u64, x: Shown)
     let free = x.free as i64;
     let total_days = number::sign::whole_days(total, day_length);
     let free_days = number::sign::whole_days(free, day_length);
-    let critical = results::number_of(x.critical) as i64;
-    let path = results::number_of(x.path) as i64;
+    let critical = i64::from(x.critical);
+    let path = i64::from(x.path);
     results[at + 5] = total_days;
     results[at + 6] = free_days;
     results[at + 7] = total;
@@ -127,17 +126,16 @@ fn write_fields(
 
 // Writes the row of activity `i`.
 fn write_row(
-    sheet: &[u8],
-    contents: Contents,
+    sheet: &Sheet,
     calendars: &[PlanCalendar],
     tables: &Tables,
     results: &mut [i64],
     i: usize,
 )
-    requires { ToWrite sheet.now contents calendars.now tables.now × (i < contents.activities) × (15 * i + 15 ≤ length results.old) }
-    ensures { results.new ≡ stored_from results.old (15 * i) 0 (row_in (plan_of sheet.now contents) (state tables.now) i) }
+    requires { ToWrite sheet.now calendars.now tables.now × (i < sheet.now.contents.activities) × (15 * i + 15 ≤ length results.old) }
+    ensures { results.new ≡ stored_from results.old (15 * i) 0 (row_in (plan_in sheet.now) (state tables.now) i) }
 {
-    let activity = dates::activity_of(sheet, contents, i);
+    let activity = dates::activity_of(sheet, i);
     let k = activity.calendar as usize;
     let id = activity.id as u64;
     let x = results::shown_at(tables, i);
@@ -161,28 +159,22 @@ fn write_row(
 }
 
 // Writes the rows of all activities at the front of the results.
-pub fn write_rows(
-    sheet: &[u8],
-    contents: Contents,
-    calendars: &[PlanCalendar],
-    tables: &Tables,
-    results: &mut [i64],
-)
-    requires { ToWrite sheet.now contents calendars.now tables.now × (15 * contents.activities ≤ length results.old) }
-    ensures { (e : ℕ) (other : ℕ → Bool) → results.new ≡ rows_below (plan_of sheet.now contents) (ran_in (plan_of sheet.now contents) (state tables.now) e other) (shown_in (plan_of sheet.now contents) (state tables.now)) contents.activities ++ drop (15 * contents.activities) results.old }
+pub fn write_rows(sheet: &Sheet, calendars: &[PlanCalendar], tables: &Tables, results: &mut [i64])
+    requires { ToWrite sheet.now calendars.now tables.now × (15 * sheet.now.contents.activities ≤ length results.old) }
+    ensures { (e : ℕ) (other : ℕ → Bool) → results.new ≡ rows_below (plan_in sheet.now) (ran_in (plan_in sheet.now) (state tables.now) e other) (shown_in (plan_in sheet.now) (state tables.now)) sheet.now.contents.activities ++ drop (15 * sheet.now.contents.activities) results.old }
 {
-    for i in 0..contents.activities {
-        write_row(sheet, contents, calendars, tables, results, i);
+    for i in 0..sheet.contents.activities {
+        write_row(sheet, calendars, tables, results, i);
     }
 }
 
 // The finish day: the greatest early finish day that is shown, and not before the start.
-pub fn finish_day(sheet: &[u8], contents: Contents, tables: &Tables) -> i64
-    requires { SheetRead sheet.now contents × (tables.now.activities ≡ contents.activities) }
-    ensures { (q : Ran) → result ≡ signed_day_of (finish_day (plan_of sheet.now contents) q (shown_in (plan_of sheet.now contents) (state tables.now)) contents.activities) }
+pub fn finish_day(sheet: &Sheet, tables: &Tables) -> i64
+    requires { tables.now.activities ≡ sheet.now.contents.activities }
+    ensures { (q : Ran) → result ≡ signed_day_of (finish_day (plan_in sheet.now) q (shown_in (plan_in sheet.now) (state tables.now)) sheet.now.contents.activities) }
 {
-    let mut d = dates::origin_of(sheet, contents) / 1440;
-    for i in 0..contents.activities {
+    let mut d = dates::origin_of(sheet) / 1440;
+    for i in 0..sheet.contents.activities {
         d = d.max(tables.act(i, memory::fields::SHOWN_FINISH));
     }
     signed_day_of(d)

@@ -1,5 +1,5 @@
 -- The stages by the ways of the code: what stands in the memory after a stage's passes is what the stage leaves.
-use Rattle.std.specs.Prelude.{◌≡◌, refl, Bool, List, reverse, ℕ, Result, Ok, Err}
+use Rattle.std.specs.Prelude.{◌≡◌, refl, reverse, ℕ, Result, Ok, Err}
 use Rattle.worktime.specs.declared.ClockError.{ClockError}
 use Rattle.std.proofs.Math.Path.{sym}
 use Rattle.std.proofs.Common.{ap, ◌∙◌, subst, arith}
@@ -7,13 +7,13 @@ use Rattle.memory.specs.State.{State}
 use Rattle.topology.specs.Frame.{Frame}
 use Rattle.order.specs.Plan.{Plan}
 use Rattle.order.specs.Checks.{order}
-use Rattle.passes.specs.Dates.{Early, Late, Freed, Pass, leaves, refused, through}
+use Rattle.passes.specs.Dates.{Late, Freed, Pass, leaves, refused, through}
 use Rattle.passes.specs.Backward.{finish, end, backward}
 use Rattle.passes.specs.Floats.{last_ones}
-use Rattle.passes.specs.Run.{Ran, remaining, forward_pass, backward_pass, path_pass, run}
+use Rattle.passes.specs.Run.{remaining, forward_pass, path_pass}
 use Rattle.dates.specs.Columns.{left_in, early_in, late_in, free_in, path_in, ended}
 use Rattle.dates.specs.KeptLaws.{early_kept, late_kept, free_kept}
-use Rattle.run.specs.Stages.{Floated, early_dates, free_dates, float_dates, LateIn, floated_in, ran_in, RanTo, RunIn}
+use Rattle.run.specs.Stages.{Floated, early_dates, free_dates, float_dates, LateIn, floated_in, RunIn}
 use Rattle.run.specs.StageLaws.{early_refused, late_refused, floats_refused, run_done, end_refused, end_at, left_refused, left_leaves, free_refused, path_refused, path_done_lem}
 
 -- a pass by its answer

@@ -1,5 +1,5 @@
 -- The run from its stages: where one is refused, and where all are done.
-use Rattle.std.specs.Prelude.{◌≡◌, refl, Bool, List, reverse, ℕ, Result, Ok, Err}
+use Rattle.std.specs.Prelude.{◌≡◌, refl, Bool, reverse, ℕ, Result, Ok, Err}
 use Rattle.worktime.specs.declared.ClockError.{ClockError}
 use Rattle.std.proofs.Math.Path.{sym, ap}
 use Rattle.std.proofs.Common.{◌∙◌}

@@ -1,11 +1,10 @@
 -- The run in the stages of its code: early dates, late dates, floats and the longest path.
-use Rattle.std.specs.Prelude.{◌≡◌, Bool, List, reverse, ℕ, Result, Ok, Err}
+use Rattle.std.specs.Prelude.{◌≡◌, Bool, reverse, ℕ, Result, Ok, Err}
 use Rattle.worktime.specs.declared.ClockError.{ClockError}
 use Rattle.memory.specs.State.{State}
 use Rattle.order.specs.Plan.{Plan}
 use Rattle.order.specs.Checks.{order}
 use Rattle.passes.specs.Dates.{Early, Late, Freed, Pass, leaves, refused, after, through}
-use Rattle.passes.specs.Backward.{finish}
 use Rattle.passes.specs.Floats.{free_float, last_ones}
 use Rattle.passes.specs.Run.{Ran, remaining, forward_pass, backward_pass, path_pass, run}
 use Rattle.dates.specs.Columns.{early_in, late_in, free_in, path_in}

@@ -4,10 +4,9 @@
 ghost use Rattle.std.specs.Prelude.{◌≡◌, Bool, ◌&&◌, Result, Ok, Err, List, ℕ, ◌+◌, ◌*◌, ◌^◌, ◌≤◌, ◌<◌, max, leb, length, replicate};
 ghost use Rattle.memory.specs.State.{Room};
 ghost use Rattle.memory.specs.Seen.{state, SameSlice};
-ghost use Rattle.sheet.specs.Known.{SheetRead};
-ghost use Rattle.order.specs.Plan.{plan_of};
+ghost use Rattle.order.specs.Plan.{plan_in};
 ghost use Rattle.order.specs.Ties.{ignored_links, open_ends};
-ghost use Rattle.calendars.specs.Calendars.{Places, Lengths};
+ghost use Rattle.calendars.specs.Calendars.{Lengths};
 ghost use Rattle.dates.specs.Standing.{Ready, Recorded};
 ghost use Rattle.run.specs.Stages.{RanTo};
 ghost use Rattle.results.specs.View.{ran_in, shown_in};
@@ -18,11 +17,11 @@ ghost use Rattle.sched.specs.Answers.{refusal_number, refusal_id};
 ghost use Rattle.sched.specs.Outcome.{Lent, planned, outcome};
 ghost use Rattle.sched.specs.CallLaws.{ended_with, zeros, LentAs, AcceptedAs};
 
-use calendars::PlanCalendar;
+use calendars::{PlanCalendar, PlanSheet};
 use judges::SheetError;
 use memory::Tables;
 use order::PlanError;
-use sheet::Contents;
+use sheet::{Contents, Sheet};
 use worktime::ClockError;
 
 pub mod c;
@@ -130,23 +129,22 @@ fn refuse(names: &mut [u32], tables: &mut Tables, error: ClockError) -> Result<A
 
 // Nothing can refuse any more: the rows are written and the memory is cleared.
 fn accept(
-    sheet: &[u8],
-    contents: Contents,
+    sheet: &Sheet,
     calendars: &[PlanCalendar],
     results: &mut [i64],
     tables: &mut Tables,
     ignored: usize,
     ends: u64,
 ) -> Accepted
-    requires { ToWrite sheet.now contents calendars.now tables.old × (15 * contents.activities ≤ length results.old) }
-    ensures { ((e : ℕ) (other : ℕ → Bool) → AcceptedAs (plan_of sheet.now contents) (ran_in (plan_of sheet.now contents) (state tables.old) e other) (shown_in (plan_of sheet.now contents) (state tables.old)) ignored ends results.old results.new result) × (tables.new.cells.now ≡ zeros tables.old.cells.now) × SameSlice tables.old tables.new }
+    requires { ToWrite sheet.now calendars.now tables.old × (15 * sheet.now.contents.activities ≤ length results.old) }
+    ensures { ((e : ℕ) (other : ℕ → Bool) → AcceptedAs (plan_in sheet.now) (ran_in (plan_in sheet.now) (state tables.old) e other) (shown_in (plan_in sheet.now) (state tables.old)) ignored ends results.old results.new result) × (tables.new.cells.now ≡ zeros tables.old.cells.now) × SameSlice tables.old tables.new }
 {
-    let day = rows::finish_day(sheet, contents, tables);
-    rows::write_rows(sheet, contents, calendars, tables, results);
+    let day = rows::finish_day(sheet, tables);
+    rows::write_rows(sheet, calendars, tables, results);
     tables.clear();
     Accepted {
         finish_day: day,
-        activities: contents.activities as u64,
+        activities: sheet.contents.activities as u64,
         ignored: ignored as u64,
         open_ends: ends,
     }
@@ -154,10 +152,7 @@ fn accept(
 
 // The results of a plan that ran; `last` is its end.
 fn show_plan(
-    sheet: &[u8],
-    contents: Contents,
-    calendars: &[PlanCalendar],
-    t: usize,
+    plan: &PlanSheet,
     last: u64,
     ignored: usize,
     ends: u64,
@@ -165,59 +160,53 @@ fn show_plan(
     names: &mut [u32],
     tables: &mut Tables,
 ) -> Result<Accepted, Refusal>
-    requires { Ready sheet.now contents calendars.now t tables.old × Recorded (plan_of sheet.now contents) (state tables.old) × Lengths (plan_of sheet.now contents) calendars.now × (15 * contents.activities ≤ length results.old) × (ignored ≡ length (ignored_links (plan_of sheet.now contents))) × (ends ≡ open_ends (plan_of sheet.now contents)) × RanTo (plan_of sheet.now contents) (state tables.old) last }
-    ensures { ((m : Lent) → LentAs m (plan_of sheet.now contents) results.old names.old tables.old.cells.now → ended_with result results.new names.new tables.new.cells.now ≡ planned m (plan_of sheet.now contents)) × SameSlice tables.old tables.new }
+    requires { Ready plan.now tables.old × Recorded (plan_in plan.now.sheet) (state tables.old) × Lengths (plan_in plan.now.sheet) plan.now.calendars.now × (15 * plan.now.sheet.contents.activities ≤ length results.old) × (ignored ≡ length (ignored_links (plan_in plan.now.sheet))) × (ends ≡ open_ends (plan_in plan.now.sheet)) × RanTo (plan_in plan.now.sheet) (state tables.old) last }
+    ensures { ((m : Lent) → LentAs m (plan_in plan.now.sheet) results.old names.old tables.old.cells.now → ended_with result results.new names.new tables.new.cells.now ≡ planned m (plan_in plan.now.sheet)) × SameSlice tables.old tables.new }
 {
     // No `?`: names and memory are cleared before the refusal goes on.
-    match rollup::results(sheet, contents, calendars, t, tables) {
-        Ok(()) => Ok(accept(sheet, contents, calendars, results, tables, ignored, ends)),
+    match rollup::results(plan, tables) {
+        Ok(()) => Ok(accept(&plan.sheet, plan.calendars, results, tables, ignored, ends)),
         Err(e) => refuse(names, tables, e),
     }
 }
 
 // The passes and the results of a plan that the checks accept; the names hold its ignored links.
 fn run_plan(
-    sheet: &[u8],
-    contents: Contents,
-    calendars: &[PlanCalendar],
-    t: usize,
+    plan: &PlanSheet,
     ignored: usize,
     ends: u64,
     results: &mut [i64],
     names: &mut [u32],
     tables: &mut Tables,
 ) -> Result<Accepted, Refusal>
-    requires { Ready sheet.now contents calendars.now t tables.old × Lengths (plan_of sheet.now contents) calendars.now × (15 * contents.activities ≤ length results.old) × (ignored ≡ length (ignored_links (plan_of sheet.now contents))) × (ends ≡ open_ends (plan_of sheet.now contents)) }
-    ensures { ((m : Lent) → LentAs m (plan_of sheet.now contents) results.old names.old tables.old.cells.now → ended_with result results.new names.new tables.new.cells.now ≡ planned m (plan_of sheet.now contents)) × SameSlice tables.old tables.new }
+    requires { Ready plan.now tables.old × Lengths (plan_in plan.now.sheet) plan.now.calendars.now × (15 * plan.now.sheet.contents.activities ≤ length results.old) × (ignored ≡ length (ignored_links (plan_in plan.now.sheet))) × (ends ≡ open_ends (plan_in plan.now.sheet)) }
+    ensures { ((m : Lent) → LentAs m (plan_in plan.now.sheet) results.old names.old tables.old.cells.now → ended_with result results.new names.new tables.new.cells.now ≡ planned m (plan_in plan.now.sheet)) × SameSlice tables.old tables.new }
 {
     // No `?`: names and memory are cleared before the refusal goes on.
-    match run::run(sheet, contents, calendars, t, tables) {
-        Ok(last) => show_plan(
-            sheet, contents, calendars, t, last, ignored, ends, results, names, tables,
-        ),
+    match run::run(plan, tables) {
+        Ok(last) => show_plan(plan, last, ignored, ends, results, names, tables),
         Err(error) => refuse(names, tables, error),
     }
 }
 
 // The checks, and then the rest, of a plan that was read and has room.
 fn plan_at(
-    sheet: &[u8],
-    contents: Contents,
-    calendars: &[PlanCalendar],
+    plan: &PlanSheet,
     results: &mut [i64],
     names: &mut [u32],
     work: &mut [i64],
 ) -> Result<Accepted, Refusal>
-    requires { SheetRead sheet.now contents × Places sheet.now contents calendars.now × Lengths (plan_of sheet.now contents) calendars.now × (15 * contents.activities ≤ length results.old) × (max (contents.activities + 1) contents.links ≤ length names.old) × Room contents.activities contents.links work.old }
-    ensures { ended_with result results.new names.new work.new ≡ planned (record { results = results.old; names = names.old; work = work.old }) (plan_of sheet.now contents) }
+    requires { Lengths (plan_in plan.now.sheet) plan.now.calendars.now × (15 * plan.now.sheet.contents.activities ≤ length results.old) × (max (plan.now.sheet.contents.activities + 1) plan.now.sheet.contents.links ≤ length names.old) × Room plan.now.sheet.contents.activities plan.now.sheet.contents.links work.old }
+    ensures { ended_with result results.new names.new work.new ≡ planned (record { results = results.old; names = names.old; work = work.old }) (plan_in plan.now.sheet) }
 {
-    let mut tables = Tables::of(work, contents.activities, contents.links);
-    let counts = checks::check_plan(sheet, contents, calendars, names, &mut tables)?;
+    let mut tables = Tables::of(
+        work,
+        plan.sheet.contents.activities,
+        plan.sheet.contents.links,
+    );
+    let counts = checks::check_plan(plan, names, &mut tables)?;
     run_plan(
-        sheet,
-        contents,
-        calendars,
-        counts.kept,
+        plan,
         counts.ignored,
         counts.open_ends,
         results,
@@ -228,17 +217,17 @@ fn plan_at(
 
 // A plan that was read and has room: where its calendars stand is found first.
 fn plan_sheet(
-    sheet: &[u8],
-    contents: Contents,
+    sheet: &Sheet,
     results: &mut [i64],
     names: &mut [u32],
     work: &mut [i64],
 ) -> Result<Accepted, Refusal>
-    requires { SheetRead sheet.now contents × (15 * contents.activities ≤ length results.old) × (max (contents.activities + 1) contents.links ≤ length names.old) × Room contents.activities contents.links work.old }
-    ensures { ended_with result results.new names.new work.new ≡ planned (record { results = results.old; names = names.old; work = work.old }) (plan_of sheet.now contents) }
+    requires { (15 * sheet.now.contents.activities ≤ length results.old) × (max (sheet.now.contents.activities + 1) sheet.now.contents.links ≤ length names.old) × Room sheet.now.contents.activities sheet.now.contents.links work.old }
+    ensures { ended_with result results.new names.new work.new ≡ planned (record { results = results.old; names = names.old; work = work.old }) (plan_in sheet.now) }
 {
-    let calendars = calendars::locate(sheet, contents);
-    plan_at(sheet, contents, &calendars, results, names, work)
+    let calendars = calendars::locate(sheet);
+    let plan = PlanSheet::new(*sheet, &calendars);
+    plan_at(&plan, results, names, work)
 }
 
 // The scheduling call.
@@ -254,5 +243,5 @@ pub fn schedule(
     if !has_room(contents, results.len(), names.len(), work.len()) {
         return Err(Refusal::NoRoom);
     }
-    plan_sheet(sheet, contents, results, names, work)
+    plan_sheet(&Sheet::new(sheet, contents), results, names, work)
 }

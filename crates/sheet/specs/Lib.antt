@@ -13,3 +13,4 @@ pub mod CalendarLaws
 pub mod CalendarSteps
 pub mod ReadLaws
 pub mod Examples
+pub mod Props

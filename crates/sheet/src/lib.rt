@@ -11,6 +11,9 @@ use judges::SheetError;
 use runs::RecordKind;
 
 pub mod runs;
+mod value;
+
+pub use value::Sheet;
 
 // How many calendars there are, and where they end.
 #[derive(Clone, Copy)]

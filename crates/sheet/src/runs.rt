@@ -72,7 +72,7 @@ pub fn read_run(sheet: &[u8], kind: RecordKind, at: usize) -> Result<usize, Shee
     let size = kind.size();
     let mut p = at;
     let mut i: usize = 0;
-    // A record that is cut short is told from the run's end, which an iterator over whole records would not do.
+    // An iterator over whole records ends before one that is cut short; a test after it would have to tell that from the run's end, which is no plainer.
     while kind_at(sheet, p) == kind.byte() {
         if sheet.len() - p < size {
             return Err(SheetError::Malformed);

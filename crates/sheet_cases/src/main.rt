@@ -5,13 +5,6 @@ ghost use Rattle.std.specs.Prelude.{◌+◌, ◌≤◌, length};
 
 use std::{fs, io};
 
-// Where the next sheet of the file begins, and how long this one is.
-#[derive(Clone, Copy)]
-struct Built {
-    next: usize,
-    size: usize,
-}
-
 // Copies `part` `times` times in a row to `at`, while there is room, and answers where that ends.
 fn repeat(part: &[u8], times: usize, sheet: &mut [u8], at: usize) -> usize
     requires { at ≤ length sheet.old }
@@ -29,36 +22,26 @@ fn repeat(part: &[u8], times: usize, sheet: &mut [u8], at: usize) -> usize
     p
 }
 
-// Puts the sheet together whose `parts` parts stand from `from` on; a part that is cut ends the file.
-fn build(file: &[u8], from: usize, parts: usize, sheet: &mut [u8]) -> Built
-    requires { from ≤ length file.now }
-    ensures { (result.next ≤ length file.now) × (from ≤ result.next) × (result.size ≤ length sheet.new) }
+// Puts the sheet together whose `parts` parts the file begins with, and answers it and the rest of the file; a part that is cut ends the file.
+fn build<'s, 'f>(file: &'f [u8], parts: usize, sheet: &'s mut [u8]) -> (&'s [u8], &'f [u8])
+    ensures { length result.1.now ≤ length file.now }
 {
-    let mut next = from;
+    let mut rest = file;
     let mut size: usize = 0;
     for _ in 0..parts {
-        if file.len() - next < 4 {
-            return Built {
-                next: file.len(),
-                size: size,
-            };
+        if rest.len() < 4 {
+            return (&sheet[..size], &[]);
         }
-        let times = number::read_u16(file, next) as usize;
-        let n = number::read_u16(file, next + 2) as usize;
-        let part = next + 4;
-        if file.len() - part < n {
-            return Built {
-                next: file.len(),
-                size: size,
-            };
+        let times = number::read_u16(rest, 0) as usize;
+        let n = number::read_u16(rest, 2) as usize;
+        let end = 4 + n;
+        if rest.len() < end {
+            return (&sheet[..size], &[]);
         }
-        next = part + n;
-        size = repeat(&file[part..next], times, sheet, size);
+        size = repeat(&rest[4..end], times, sheet, size);
+        rest = &rest[end..];
     }
-    Built {
-        next: next,
-        size: size,
-    }
+    (&sheet[..size], rest)
 }
 
 // The line of a sheet.
@@ -76,15 +59,14 @@ fn answer(rt: &impl Print, index: u64, sheet: &[u8]) -> io::Result<()> {
 
 // The lines of all sheets of the file, each put together in `sheet`.
 fn answer_all(rt: &impl Print, file: &[u8], sheet: &mut [u8]) -> io::Result<()> {
-    let mut at: usize = 0;
+    let mut rest = file;
     let mut index: u64 = 0;
-    // Where a sheet's parts end is known only once they are put together, so no range or iterator has the places.
-    while 2 <= file.len() - at {
-        let parts = number::read_u16(file, at) as usize;
-        let built = build(file, at + 2, parts, sheet);
-        let size = built.size;
-        answer(rt, index, &sheet[..size])?;
-        at = built.next;
+    // Where a sheet's parts end is known only once they are put together, so no iterator has the sheets.
+    while 2 <= rest.len() {
+        let parts = number::read_u16(rest, 0) as usize;
+        let (built, after) = build(&rest[2..], parts, sheet);
+        answer(rt, index, built)?;
+        rest = after;
         index += 1;
     }
     Ok(())

@@ -53,23 +53,15 @@ pub fn lag_calendar(lag: LagKind, by: LagCalendar, pred: u64, succ: u64, last: u
     }
 }
 
-// So many days of `day_length` minutes.
-pub fn days_in_minutes(n: i64, day_length: u64) -> i64
-    requires { (up n + dn n ≤ 100000) × (day_length ≤ 1440) }
-    ensures { result ≡ n *ℤ pos day_length }
-{
-    n * (day_length as i64)
-}
-
 // A lag in minutes, where it is not too long before it is converted.
 pub fn lag_minutes(lag: LagKind, day_length: u64, duration: i64) -> i64
     requires { (lag_before lag ≡ false) × (day_length ≤ 1440) × (up duration + dn duration ≤ 48000000) }
     ensures { (result ≡ lag_minutes lag day_length duration) × (up result + dn result ≤ 4800000000) }
 {
     match lag {
-        LagKind::WorkingDays(n) => days_in_minutes(n as i64, day_length),
+        LagKind::WorkingDays(n) => calendars::days_in_minutes(n, day_length),
         LagKind::WorkingMinutes(n) => n as i64,
-        LagKind::ElapsedDays(n) => days_in_minutes(n as i64, 1440),
+        LagKind::ElapsedDays(n) => calendars::days_in_minutes(n, 1440),
         LagKind::ElapsedMinutes(n) => n as i64,
         LagKind::Percent(n) => number::sign::percent(duration, n as i64),
     }

@@ -4,8 +4,7 @@
 ghost use Rattle.std.specs.Prelude.{◌≡◌, ◌||◌, ◌≤◌, ◌<◌, ltb};
 ghost use Rattle.memory.specs.Seen.{state};
 ghost use Rattle.memory.specs.Fields.{is_summary};
-ghost use Rattle.sheet.specs.Known.{SheetRead};
-ghost use Rattle.order.specs.Plan.{plan_of};
+ghost use Rattle.order.specs.Plan.{plan_in};
 ghost use Rattle.order.specs.IdLaws.{DistinctIds};
 ghost use Rattle.order.specs.FineLaws.{ActivitiesFine};
 ghost use Rattle.order.specs.Ties.{tie_calendar, tie_too_long};
@@ -19,7 +18,7 @@ ghost use Rattle.ties.specs.Checked.{LinkAnswered};
 use calendars::PlanCalendar;
 use memory::Tables;
 use order::PlanError;
-use sheet::Contents;
+use sheet::Sheet;
 
 pub mod lags;
 pub mod link_fields;
@@ -32,22 +31,17 @@ pub struct Ends {
 }
 
 // Rows 13 and 14 for link `k`.
-pub fn link_ends(
-    sheet: &[u8],
-    contents: Contents,
-    tables: &Tables,
-    k: usize,
-) -> Result<Ends, PlanError>
-    requires { Lent sheet.now contents tables.now × (k < contents.links) × DistinctIds (plan_of sheet.now contents) × Indexed (plan_of sheet.now contents) (state tables.now) contents.activities }
-    ensures { EndsOf (plan_of sheet.now contents) k result }
+pub fn link_ends(sheet: &Sheet, tables: &Tables, k: usize) -> Result<Ends, PlanError>
+    requires { Lent sheet.now tables.now × (k < sheet.now.contents.links) × DistinctIds (plan_in sheet.now) × Indexed (plan_in sheet.now) (state tables.now) sheet.now.contents.activities }
+    ensures { EndsOf (plan_in sheet.now) k result }
 {
-    let a = contents.activities;
-    let pred = link_fields::predecessor_of(sheet, contents, k);
-    let Some(from) = ids::find(sheet, contents, tables, a, pred) else {
+    let a = sheet.contents.activities;
+    let pred = link_fields::predecessor_of(sheet, k);
+    let Some(from) = ids::find(sheet, tables, a, pred) else {
         return Err(PlanError::UnknownActivity(pred));
     };
-    let succ = link_fields::successor_of(sheet, contents, k);
-    let Some(to) = ids::find(sheet, contents, tables, a, succ) else {
+    let succ = link_fields::successor_of(sheet, k);
+    let Some(to) = ids::find(sheet, tables, a, succ) else {
         return Err(PlanError::UnknownActivity(succ));
     };
     if pred == succ {
@@ -66,51 +60,49 @@ pub fn is_either_marked(tables: &Tables, from: usize, to: usize) -> bool
 }
 
 // The calendar that the lag of link `k` counts on.
-pub fn tie_calendar(sheet: &[u8], contents: Contents, k: usize, from: usize, to: usize) -> u64
-    requires { SheetRead sheet.now contents × (k < contents.links) × ActivitiesFine (plan_of sheet.now contents) × Between (plan_of sheet.now contents) k from to }
-    ensures { (result ≡ tie_calendar (plan_of sheet.now contents) k) × (result ≤ contents.calendars) }
+pub fn tie_calendar(sheet: &Sheet, k: usize, from: usize, to: usize) -> u64
+    requires { (k < sheet.now.contents.links) × ActivitiesFine (plan_in sheet.now) × Between (plan_in sheet.now) k from to }
+    ensures { (result ≡ tie_calendar (plan_in sheet.now) k) × (result ≤ sheet.now.contents.calendars) }
 {
-    let by = link_fields::lag_calendar_of(sheet, contents);
-    let pred = ids::activity_fields::calendar_of(sheet, contents, from);
-    let succ = ids::activity_fields::calendar_of(sheet, contents, to);
-    let lag = link_fields::lag_of(sheet, contents, k);
-    lags::lag_calendar(lag, by, pred, succ, contents.calendars as u64)
+    let by = link_fields::lag_calendar_of(sheet);
+    let pred = ids::activity_fields::calendar_of(sheet, from);
+    let succ = ids::activity_fields::calendar_of(sheet, to);
+    let lag = link_fields::lag_of(sheet, k);
+    lags::lag_calendar(lag, by, pred, succ, sheet.contents.calendars as u64)
 }
 
 // Row 8 for the lag of link `k`; `calendars` has the day length of each calendar, and of the round-the-clock one.
 pub fn is_tie_too_long(
-    sheet: &[u8],
-    contents: Contents,
+    sheet: &Sheet,
     calendars: &[PlanCalendar],
     k: usize,
     from: usize,
     to: usize,
 ) -> bool
-    requires { SheetRead sheet.now contents × (k < contents.links) × ActivitiesFine (plan_of sheet.now contents) × Between (plan_of sheet.now contents) k from to × Lengths (plan_of sheet.now contents) calendars.now }
-    ensures { result ≡ tie_too_long (plan_of sheet.now contents) k }
+    requires { (k < sheet.now.contents.links) × ActivitiesFine (plan_in sheet.now) × Between (plan_in sheet.now) k from to × Lengths (plan_in sheet.now) calendars.now }
+    ensures { result ≡ tie_too_long (plan_in sheet.now) k }
 {
-    let calendar = tie_calendar(sheet, contents, k, from, to);
-    let lag = link_fields::lag_of(sheet, contents, k);
-    let minutes = ids::activity_fields::minutes_of(sheet, contents, from);
+    let calendar = tie_calendar(sheet, k, from, to);
+    let lag = link_fields::lag_of(sheet, k);
+    let minutes = ids::activity_fields::minutes_of(sheet, from);
     lags::is_lag_too_long(lag, calendars[calendar as usize].day_length, minutes as i64)
 }
 
 // Rows 13, 14 and 8 for link `k`: where it is fine, its ends if it is kept, and none if it is ignored.
 pub fn link_check(
-    sheet: &[u8],
-    contents: Contents,
+    sheet: &Sheet,
     tables: &Tables,
     calendars: &[PlanCalendar],
     k: usize,
 ) -> Result<Option<Ends>, PlanError>
-    requires { Lent sheet.now contents tables.now × (k < contents.links) × DistinctIds (plan_of sheet.now contents) × Indexed (plan_of sheet.now contents) (state tables.now) contents.activities × Parented (plan_of sheet.now contents) (state tables.now) contents.activities × ActivitiesFine (plan_of sheet.now contents) × Lengths (plan_of sheet.now contents) calendars.now }
-    ensures { LinkAnswered (plan_of sheet.now contents) k result }
+    requires { Lent sheet.now tables.now × (k < sheet.now.contents.links) × DistinctIds (plan_in sheet.now) × Indexed (plan_in sheet.now) (state tables.now) sheet.now.contents.activities × Parented (plan_in sheet.now) (state tables.now) sheet.now.contents.activities × ActivitiesFine (plan_in sheet.now) × Lengths (plan_in sheet.now) calendars.now }
+    ensures { LinkAnswered (plan_in sheet.now) k result }
 {
-    let ends = link_ends(sheet, contents, tables, k)?;
+    let ends = link_ends(sheet, tables, k)?;
     if is_either_marked(tables, ends.from, ends.to) {
         return Ok(None);
     }
-    if is_tie_too_long(sheet, contents, calendars, k, ends.from, ends.to) {
+    if is_tie_too_long(sheet, calendars, k, ends.from, ends.to) {
         return Err(PlanError::TooLong);
     }
     Ok(Some(ends))

@@ -1,11 +1,12 @@
 -- The way back along the links into each activity, and the loop that is named.
 use Rattle.std.specs.Prelude.{◌≡◌, ◌≢◌, pos, length}
-use Rattle.std.proofs.Math.Path.{refl, sym, ap}
-use Rattle.std.proofs.Common.{ap₂, ◌∙◌, ⊎_elim, arith}
+use Rattle.std.proofs.Math.Path.{refl, sym, ap, subst}
+use Rattle.std.proofs.Common.{ap₂, ◌∙◌, ⊎_elim, arith, add-one, lt-ltb, ltb, unwrap_or, IfSome, Option, Some, None, option_map}
+use Rattle.std.specs.List.{find, range_with_len}
 use mathlib.Core.List.{List, [], ◌∷◌}
-use Prim.Native.Nat.{ℕ, ◌+◌, ◌-◌, ◌≤◌, ◌<◌}
+use Prim.Native.Nat.{ℕ, zero, suc, ◌+◌, ◌-◌, ◌≤◌, ◌<◌}
 use Rattle.std.proofs.Math.ListN.{get_or}
-use Rattle.number.specs.Order.{eq_or_ne}
+use Rattle.number.specs.Order.{eq_or_ne, zero_or_pos}
 use Rattle.cells.specs.Chain.{Stands}
 use Rattle.memory.specs.State.{State, put_act}
 use Rattle.memory.specs.StateLaws.{act_same, act_row}
@@ -15,6 +16,7 @@ use Rattle.network.specs.Kahn.{drained, first_waiting, waiting_before, go_back, 
 use Rattle.network.specs.Outgoing.{sources_from, waiting_in}
 use Rattle.network.specs.Pending.{Ranged}
 use Rattle.network.proofs.Draining.{drained_kept, waits_below}
+use Rattle.network.proofs.GoingBack.{first_waiting_skip, first_waiting_here}
 use Rattle.network.proofs.NamedLoop.{again_length, again_at, again_last, drained_back, first_waits}
 use Rattle.network.proofs.KahnLaws.{kahn_length, named_loop_le, named_loop_below}
 use Rattle.network.proofs.BackSteps.{waiting_in_skip, waiting_in_here, waiting_in_none, waiting_before_sources}
@@ -35,6 +37,39 @@ first_start links c n = ap (λ (k : ℕ). first_waiting links c k 0) (omega arit
 pub first_end : (links : List Link) (c : ℕ → ℕ) (n i : ℕ) → n ≤ i → first_waiting links c (n - i) i ≡ i
 unfolding first_waiting
 first_end links c n i h = let e : n - i ≡ 0 = omega arith in rw e
+
+-- as a search among the activities goes
+module _ (c : ℕ → ℕ) where
+  abbrev pub found : ℕ → ℕ → Option ℕ
+  found n i = find (λ j. ltb 0 (c j)) (range_with_len i n)
+
+  found_is : (links : List Link) (n i : ℕ) → unwrap_or (found n i) (i + n) ≡ first_waiting links c n i
+  unfolding first_waiting
+  found_is links zero i = omega arith
+  found_is links (suc n) i =
+      ⊎_elim
+      (λ (z : c i ≡ 0).
+      let e : i + suc n ≡ i + 1 + n = omega arith in
+      rw (z, e) (found_is links n (i + 1)) ∙ ap (first_waiting links c n) (add-one i) ∙ sym (first_waiting_skip links c n i z))
+      (λ (z : 0 < c i). rw (lt-ltb 0 (c i) z) refl ∙ sym (first_waiting_here links c n i z))
+      (zero_or_pos (c i))
+
+  found_below : (n i : ℕ) → IfSome (found n i) (λ j. j < i + n)
+  found_below zero i = tt
+  found_below (suc n) i =
+      ⊎_elim
+      (λ (z : c i ≡ 0). let e : i + suc n ≡ i + 1 + n = omega arith in rw (z, e) (found_below n (i + 1)))
+      (λ (z : 0 < c i). let l : i < i + suc n = omega arith in rw (lt-ltb 0 (c i) z) l) (zero_or_pos (c i))
+
+  abbrev pub First : ℕ → Option ℕ → ℕ → Type 0
+  First n o m = ((links : List Link) → unwrap_or o m ≡ first_waiting links c n 0) × IfSome o (λ j. j < m)
+
+  found_all : (n : ℕ) → First n (found n 0) n
+  found_all n = let z : 0 + n ≡ n = omega arith in subst (First n (found n 0)) z (λ links. found_is links n 0, found_below n 0)
+
+  pub first_found : (n : ℕ) (r : Option ℕ) → option_map (λ j. j) r ≡ found n 0 → First n r n
+  first_found n None e = subst (λ o. First n o n) (sym e) (found_all n)
+  first_found n (Some i) e = subst (λ o. First n o n) (sym e) (found_all n)
 
 -- ---- the first waiting predecessor, along the links into x
 

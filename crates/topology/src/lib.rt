@@ -1,7 +1,7 @@
 // The order of the activities by Kahn's algorithm over the lent memory, and the loop that is named where it stops early.
 #![tactic(auto)]
 
-ghost use Rattle.std.specs.Prelude.{◌≡◌, List, [], ℕ, ◌+◌, ◌-◌, ◌≤◌, ◌<◌, length};
+ghost use Rattle.std.specs.Prelude.{◌≡◌, List, [], ℕ, ◌+◌, ◌-◌, ◌≤◌, ◌<◌, length, unwrap_or, IfSome};
 ghost use Rattle.memory.specs.Seen.{state, SameSlice};
 ghost use Rattle.memory.specs.Fields.{first_in, waiting, order_at, seen, path_at, to_field, next_into};
 ghost use Rattle.network.specs.Links.{Link};
@@ -25,23 +25,23 @@ fn count_link(tables: &mut Tables, k: usize)
     tables.put_act(i, fields::WAITING, n + 1);
 }
 
-// Counts the first `t` links where none is counted yet.
-fn count_links(tables: &mut Tables, t: usize)
-    requires { (t ≤ tables.old.links) × Ends tables.old.activities t (state tables.old) × ((i : ℕ) → (state tables.old).act waiting i ≡ 0) }
-    ensures { ((i : ℕ) → (state tables.new).act waiting i ≡ into (links_of (state tables.old) t) i) × Frame waiting order_at 0 0 (state tables.old) (state tables.new) × SameSlice tables.old tables.new }
+// Counts the kept links where none is counted yet.
+fn count_links(tables: &mut Tables)
+    requires { Ends tables.old.activities tables.old.kept (state tables.old) × ((i : ℕ) → (state tables.old).act waiting i ≡ 0) }
+    ensures { ((i : ℕ) → (state tables.new).act waiting i ≡ into (links_of (state tables.old) tables.old.kept) i) × Frame waiting order_at 0 0 (state tables.old) (state tables.new) × SameSlice tables.old tables.new }
 {
-    for k in 0..t {
+    for k in 0..tables.kept {
         count_link(tables, k);
     }
 }
 
 // Counts the links into each activity.
-fn count_incoming(tables: &mut Tables, t: usize)
-    requires { (t ≤ tables.old.links) × Ends tables.old.activities t (state tables.old) }
-    ensures { ((i : ℕ) → (state tables.new).act waiting i ≡ into (links_of (state tables.old) t) i) × Frame waiting order_at 0 0 (state tables.old) (state tables.new) × SameSlice tables.old tables.new }
+fn count_incoming(tables: &mut Tables)
+    requires { Ends tables.old.activities tables.old.kept (state tables.old) }
+    ensures { ((i : ℕ) → (state tables.new).act waiting i ≡ into (links_of (state tables.old) tables.old.kept) i) × Frame waiting order_at 0 0 (state tables.old) (state tables.new) × SameSlice tables.old tables.new }
 {
     tables.fill_act(fields::WAITING, 0);
-    count_links(tables, t);
+    count_links(tables);
 }
 
 // Puts activity `j` at the queue's end if it waits for none; answers the new end.
@@ -79,15 +79,15 @@ fn meet_link(tables: &mut Tables, k: usize, end: usize) -> usize
 }
 
 // The queue's activity at `h` comes out: its outgoing links are met, in rising order. Answers the queue's new end.
-fn release(tables: &mut Tables, t: usize, h: usize, end: usize) -> usize
-    requires { (t ≤ tables.old.links) × (h < end) × ChainsOut tables.old.activities t (state tables.old) × Progress (links_of (state tables.old) t) tables.old.activities ((state tables.old).act order_at) ((state tables.old).act waiting) h end [] }
-    ensures { Draining tables.old.activities t (state tables.old) (state tables.new) (h + 1) result × SameSlice tables.old tables.new }
+fn release(tables: &mut Tables, h: usize, end: usize) -> usize
+    requires { (h < end) × ChainsOut tables.old.activities tables.old.kept (state tables.old) × Progress (links_of (state tables.old) tables.old.kept) tables.old.activities ((state tables.old).act order_at) ((state tables.old).act waiting) h end [] }
+    ensures { Draining tables.old.activities tables.old.kept (state tables.old) (state tables.new) (h + 1) result × SameSlice tables.old tables.new }
 {
     let v = tables.act(h, fields::ORDER_AT) as usize;
     let mut k = tables.act(v, fields::FIRST_OUT) as usize;
     let mut r = end;
     // A `for` knows no chain: each link names the next.
-    while k < t {
+    while k < tables.kept {
         r = meet_link(tables, k, r);
         k = tables.link(k, fields::NEXT_OUT) as usize;
     }
@@ -95,85 +95,80 @@ fn release(tables: &mut Tables, t: usize, h: usize, end: usize) -> usize
 }
 
 // The queue's activities come out, first in first out. Answers how many.
-fn drain(tables: &mut Tables, t: usize, end: usize) -> usize
-    requires { (t ≤ tables.old.links) × ChainsOut tables.old.activities t (state tables.old) × Progress (links_of (state tables.old) t) tables.old.activities ((state tables.old).act order_at) ((state tables.old).act waiting) 0 end [] }
-    ensures { Draining tables.old.activities t (state tables.old) (state tables.new) result result × SameSlice tables.old tables.new }
+fn drain(tables: &mut Tables, end: usize) -> usize
+    requires { ChainsOut tables.old.activities tables.old.kept (state tables.old) × Progress (links_of (state tables.old) tables.old.kept) tables.old.activities ((state tables.old).act order_at) ((state tables.old).act waiting) 0 end [] }
+    ensures { Draining tables.old.activities tables.old.kept (state tables.old) (state tables.new) result result × SameSlice tables.old tables.new }
 {
     let mut r = end;
     let mut h: usize = 0;
     // The queue grows as it is read, so no range counts `h`.
     while h < r {
-        r = release(tables, t, h, r);
+        r = release(tables, h, r);
         h += 1;
     }
     r
 }
 
-// Chains the first `t` links by the activities that they enter, and by those that they leave.
-fn chain_both(tables: &mut Tables, t: usize)
-    requires { (t ≤ tables.old.links) × Ends tables.old.activities t (state tables.old) }
-    ensures { ChainsIn tables.old.activities t (state tables.new) × ChainsOut tables.old.activities t (state tables.new) × Frame first_in waiting next_into 7 (state tables.old) (state tables.new) × SameSlice tables.old tables.new }
+// Chains the kept links by the activities that they enter, and by those that they leave.
+fn chain_both(tables: &mut Tables)
+    requires { Ends tables.old.activities tables.old.kept (state tables.old) }
+    ensures { ChainsIn tables.old.activities tables.old.kept (state tables.new) × ChainsOut tables.old.activities tables.old.kept (state tables.new) × Frame first_in waiting next_into 7 (state tables.old) (state tables.new) × SameSlice tables.old tables.new }
 {
-    tables.chain(t, fields::TO, fields::FIRST_IN, fields::NEXT_INTO);
-    tables.chain(t, fields::FROM, fields::FIRST_OUT, fields::NEXT_OUT);
+    tables.chain(fields::TO, fields::FIRST_IN, fields::NEXT_INTO);
+    tables.chain(fields::FROM, fields::FIRST_OUT, fields::NEXT_OUT);
 }
 
 // Counts the links into each activity, and puts those that wait for none into the queue; answers its end.
-fn start_queue(tables: &mut Tables, t: usize) -> usize
-    requires { (t ≤ tables.old.links) × Ends tables.old.activities t (state tables.old) }
-    ensures { Draining tables.old.activities t (state tables.old) (state tables.new) 0 result × SameSlice tables.old tables.new }
+fn start_queue(tables: &mut Tables) -> usize
+    requires { Ends tables.old.activities tables.old.kept (state tables.old) }
+    ensures { Draining tables.old.activities tables.old.kept (state tables.old) (state tables.new) 0 result × SameSlice tables.old tables.new }
 {
-    count_incoming(tables, t);
+    count_incoming(tables);
     first_ready(tables)
 }
 
-// Puts the activities in Kahn's order by the first `t` links, as far as it comes; answers how far. Leaves the counts and the chains of the links.
-pub fn order_activities(tables: &mut Tables, t: usize) -> usize
-    requires { (t ≤ tables.old.links) × Ends tables.old.activities t (state tables.old) }
-    ensures { Topological tables.old.activities t (state tables.old) (state tables.new) result × SameSlice tables.old tables.new }
+// Puts the activities in Kahn's order by the kept links, as far as it comes; answers how far. Leaves the counts and the chains of the links.
+pub fn order_activities(tables: &mut Tables) -> usize
+    requires { Ends tables.old.activities tables.old.kept (state tables.old) }
+    ensures { Topological tables.old.activities tables.old.kept (state tables.old) (state tables.new) result × SameSlice tables.old tables.new }
 {
-    chain_both(tables, t);
-    let end = start_queue(tables, t);
-    drain(tables, t, end)
+    chain_both(tables);
+    let end = start_queue(tables);
+    drain(tables, end)
 }
 
-// The first activity that still waits; `a` where none does.
-fn first_waiting(tables: &Tables) -> usize
-    ensures { (result ≤ tables.now.activities) × ((links : List Link) → result ≡ first_waiting links ((state tables.now).act waiting) tables.now.activities 0) }
+// The first activity that still waits.
+fn first_waiting(tables: &Tables) -> Option<usize>
+    ensures { ((links : List Link) → unwrap_or result tables.now.activities ≡ first_waiting links ((state tables.now).act waiting) tables.now.activities 0) × IfSome result (λ i. i < tables.now.activities) }
 {
-    for i in 0..tables.activities {
-        if tables.act(i, fields::WAITING) > 0 {
-            return i;
-        }
-    }
-    tables.activities
+    (0..tables.activities).find(|i| tables.act(*i, fields::WAITING) > 0)
 }
 
-// The first predecessor of activity `x` in link order that still waits; `x` where none does.
-fn waiting_before(tables: &Tables, t: usize, x: usize) -> usize
-    requires { (t ≤ tables.now.links) × (x < tables.now.activities) × Ends tables.now.activities t (state tables.now) × ChainsIn tables.now.activities t (state tables.now) }
-    ensures { result ≡ waiting_before (links_of (state tables.now) t) ((state tables.now).act waiting) (links_of (state tables.now) t) x }
+// The first predecessor of activity `x` in link order that still waits.
+fn waiting_before(tables: &Tables, x: usize) -> Option<usize>
+    requires { (x < tables.now.activities) × Ends tables.now.activities tables.now.kept (state tables.now) × ChainsIn tables.now.activities tables.now.kept (state tables.now) }
+    ensures { unwrap_or result x ≡ waiting_before (links_of (state tables.now) tables.now.kept) ((state tables.now).act waiting) (links_of (state tables.now) tables.now.kept) x }
 {
     let mut k = tables.act(x, fields::FIRST_IN) as usize;
     // A `for` knows no chain: each link names the next.
-    while k < t {
+    while k < tables.kept {
         let y = tables.link(k, fields::FROM) as usize;
         if tables.act(y, fields::WAITING) > 0 {
-            return y;
+            return Some(y);
         }
         k = tables.link(k, fields::NEXT_INTO) as usize;
     }
-    x
+    None
 }
 
 // Passes activity `x` as the one at place `m` of the way back; answers the next.
-fn step_back(tables: &mut Tables, t: usize, m: usize, x: usize) -> usize
-    requires { (t ≤ tables.old.links) × (m < tables.old.activities) × (x < tables.old.activities) × Ends tables.old.activities t (state tables.old) × ChainsIn tables.old.activities t (state tables.old) }
-    ensures { (state tables.new ≡ passed (state tables.old) m x) × (result ≡ waiting_before (links_of (state tables.old) t) ((state tables.old).act waiting) (links_of (state tables.old) t) x) × SameSlice tables.old tables.new }
+fn step_back(tables: &mut Tables, m: usize, x: usize) -> usize
+    requires { (m < tables.old.activities) × (x < tables.old.activities) × Ends tables.old.activities tables.old.kept (state tables.old) × ChainsIn tables.old.activities tables.old.kept (state tables.old) }
+    ensures { (state tables.new ≡ passed (state tables.old) m x) × (result ≡ waiting_before (links_of (state tables.old) tables.old.kept) ((state tables.old).act waiting) (links_of (state tables.old) tables.old.kept) x) × SameSlice tables.old tables.new }
 {
     tables.put_act(x, fields::SEEN, (m + 1) as u64);
     tables.put_act(m, fields::PATH_AT, x as u64);
-    waiting_before(tables, t, x)
+    waiting_before(tables, x).unwrap_or(x)
 }
 
 // Where the loop stands in the path.
@@ -184,9 +179,9 @@ struct Way {
 }
 
 // Goes back from activity `start` along each one's first waiting predecessor until one repeats.
-fn walk_back(tables: &mut Tables, t: usize, start: usize) -> Way
-    requires { (t ≤ tables.old.links) × Stuck tables.old.activities t (state tables.old) × ((i : ℕ) → (state tables.old).act seen i ≡ 0) × (start ≡ first_waiting (links_of (state tables.old) t) ((state tables.old).act waiting) tables.old.activities 0) }
-    ensures { WalkedBack tables.old.activities t (state tables.old) (state tables.new) start result.from result.end × SameSlice tables.old tables.new }
+fn walk_back(tables: &mut Tables, start: usize) -> Way
+    requires { Stuck tables.old.activities tables.old.kept (state tables.old) × ((i : ℕ) → (state tables.old).act seen i ≡ 0) × (start ≡ first_waiting (links_of (state tables.old) tables.old.kept) ((state tables.old).act waiting) tables.old.activities 0) }
+    ensures { WalkedBack tables.old.activities tables.old.kept (state tables.old) (state tables.new) start result.from result.end × SameSlice tables.old tables.new }
 {
     let mut x = start;
     let mut m: usize = 0;
@@ -199,7 +194,7 @@ fn walk_back(tables: &mut Tables, t: usize, start: usize) -> Way
                 end: m,
             };
         }
-        x = step_back(tables, t, m, x);
+        x = step_back(tables, m, x);
         m += 1;
     }
 }
@@ -219,12 +214,12 @@ fn copy_loop(tables: &mut Tables, from: usize, end: usize) -> usize
 
 // Names a loop after an order that stopped early: back from the first activity that still waits along each one's first waiting
 // predecessor until one repeats, and that loop in the links' direction. Answers how many activities it has.
-pub fn name_loop(tables: &mut Tables, t: usize) -> usize
-    requires { (t ≤ tables.old.links) × Stuck tables.old.activities t (state tables.old) }
-    ensures { NamedLoop tables.old.activities t (state tables.old) (state tables.new) result × SameSlice tables.old tables.new }
+pub fn name_loop(tables: &mut Tables) -> usize
+    requires { Stuck tables.old.activities tables.old.kept (state tables.old) }
+    ensures { NamedLoop tables.old.activities tables.old.kept (state tables.old) (state tables.new) result × SameSlice tables.old tables.new }
 {
     tables.fill_act(fields::SEEN, 0);
-    let start = first_waiting(tables);
-    let w = walk_back(tables, t, start);
+    let start = first_waiting(tables).unwrap();
+    let w = walk_back(tables, start);
     copy_loop(tables, w.from, w.end)
 }

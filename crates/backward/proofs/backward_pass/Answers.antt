@@ -20,10 +20,10 @@ use Rattle.backward.specs.Stored.{filled}
 use Rattle.backward.specs.BackLaws.{filled_late, filled_frame}
 use Rattle.backward.proofs.backward_pass.Goals as goal
 
-pub backward_all-requires : goal.backward_all-requires
-backward_all-requires c =
-    let C = c.args.contents in
-    let p = plan_of c.args.sheet.now C in
+pub back-requires-clause-ready : goal.back-requires-clause-ready
+back-requires-clause-ready c =
+    let C = c.args.plan.now.sheet.contents in
+    let p = plan_of c.args.plan.now.sheet.bytes.now C in
     let S = state c.args.tables.now in
     let last = c.args.last in
     let T = state c.fill_act-2.new.self in
@@ -34,18 +34,18 @@ backward_all-requires c =
 
 pub returns : goal.returns
 returns c =
-    let C = c.args.contents in
-    let p = plan_of c.args.sheet.now C in
+    let C = c.args.plan.now.sheet.contents in
+    let p = plan_of c.args.plan.now.sheet.bytes.now C in
     let S = state c.args.tables.now in
     let last = c.args.last in
     let T = state c.fill_act-2.new.self in
     let A : c.args.tables.now.activities ≡ C.activities = c.requires.0.activities in
     let E : T ≡ filled S C.activities last = c.fill_act-2.ensures.0 ∙ (λ z. fill_act (c.fill_act.ensures.0 z) late_finish ((c.fill_act.ensures.1.activities ∙ A) z) last) ∙ ap (λ (n : ℕ). fill_act (fill_act S late_start n last) late_finish C.activities last) A in
     let F : Frame 10 12 0 0 S T = rw E (filled_frame p S last C.activities) in
-    let b = c.backward_all.ensures in
+    let b = c.back.ensures in
     let x : late_in p T last ≡ record { ls = λ i. last; lf = λ i. last } =
-    ap (λ (W : State). late_in p W last) (E ∙ ap (λ (n : ℕ). filled S n last) (sym (activities_are c.args.sheet.now C))) ∙ filled_late p S last in (
-      b.0 ∙ (λ z. through (backward p (early_kept F p refl refl refl z) last) (reverse (order p)) (x z)),
+    ap (λ (W : State). late_in p W last) (E ∙ ap (λ (n : ℕ). filled S n last) (sym (activities_are c.args.plan.now.sheet.bytes.now C))) ∙ filled_late p S last in (
+      b.0 tt ∙ (λ z. through (backward p (early_kept F p refl refl refl z) last) (reverse (order p)) (x z)),
       frame_then 10 12 0 0 F b.1,
       same_then (same_then c.fill_act.ensures.1 c.fill_act-2.ensures.1) b.2,
     )

@@ -6,10 +6,10 @@ use Rattle.backward.proofs.end_of.Goals as goal
 
 pub returns-in-Some : goal.returns-in-Some
 returns-in-Some c = (
-  λ d q. c.bounded.ensures ∙ sym (end_on c.args.sheet.now c.args.contents d _ _ _ (sym c.read_optional_date.ensures ∙ c.in-Some.is) c.origin_of-origin.ensures.0 c.midnight.ensures.0),
+  λ d q. c.bounded.ensures ∙ sym (end_on c.args.sheet.now.bytes.now c.args.sheet.now.contents d _ _ _ (sym c.read_optional_date.ensures ∙ c.in-Some.is) c.origin_of-origin.ensures.0 c.midnight.ensures.0),
   λ t e. bounded_fits _ _ t c.origin_of-origin.ensures.1 (sym c.bounded.ensures ∙ e),
 )
 
 pub returns-in-None : goal.returns-in-None
 returns-in-None c =
-    (λ d q. sym (end_absent c.args.sheet.now c.args.contents d _ (sym c.read_optional_date.ensures ∙ c.in-None.is) q), fits_at _ c.requires.1)
+    (λ d q. sym (end_absent c.args.sheet.now.bytes.now c.args.sheet.now.contents d _ (sym c.read_optional_date.ensures ∙ c.in-None.is) q), fits_at _ c.requires)

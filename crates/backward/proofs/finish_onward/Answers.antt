@@ -1,6 +1,6 @@
 -- `backward::finish_onward` meets its contract. Each way out has its law.
-use mathlib.Core.Path.{sym, ap, ◌∙◌}
-use Prim.Native.Nat.{ℕ, ◌+◌, max}
+use mathlib.Core.Path.{sym, ◌∙◌}
+use Prim.Native.Nat.{◌^◌}
 use native.Mathlib.Omega.{arith}
 use Rattle.number.specs.BitLaws.{mark_none, mark_some}
 use Rattle.memory.specs.Seen.{state}
@@ -8,22 +8,25 @@ use Rattle.memory.specs.Fields.{early_finish}
 use Rattle.order.specs.Plan.{plan_of}
 use Rattle.order.specs.Ids.{summary}
 use Rattle.bounds.specs.ReadyLaws.{activities_are}
-use Rattle.backward.specs.FinishLaws.{onward_summary, onward_met}
+use Rattle.backward.specs.FinishLaws.{onward_summary, onward_met, past_more, below_more}
+use Rattle.backward.specs.Finish.{past}
 use Rattle.backward.proofs.finish_onward.Goals as goal
 
-pub returns-then-act-eq0 : goal.returns-then-act-eq0
-returns-then-act-eq0 c =
-    let C = c.args.contents in
-    let B = summary (plan_of c.args.sheet.now C) c.args.i in
+pub returns-then-act-gt0 : goal.returns-then-act-gt0
+returns-then-act-gt0 c =
+    let C = c.args.sheet.now.contents in
+    let B = summary (plan_of c.args.sheet.now.bytes.now C) c.args.i in
     let F = (state c.args.tables.now).act early_finish c.args.i in
-    let g = c.act-next.ensures in
-    let m = c.act.ensures.0 ∙ c.requires.2 c.args.i (omega (arith, c.requires.1, activities_are c.args.sheet.now c.args.contents)) in
-    (c.max.ensures ∙ ap (λ (x : ℕ). max c.args.top (x + 1)) g.0 ∙ sym (onward_met B F c.args.top (mark_none B m c.if-act-eq0.true)), omega (arith, c.max.ensures, g.1, c.requires.3))
+    let m = c.act.ensures.0 ∙ c.requires.2 c.args.i (omega (arith, c.requires.1, activities_are c.args.sheet.now.bytes.now c.args.sheet.now.contents)) in
+    (sym (onward_summary B F (past c.args.top) (mark_some B m (omega arith))), c.requires.3)
 
-pub returns-else-act-eq0 : goal.returns-else-act-eq0
-returns-else-act-eq0 c =
-    let C = c.args.contents in
-    let B = summary (plan_of c.args.sheet.now C) c.args.i in
+pub returns : goal.returns
+returns c =
+    let C = c.args.sheet.now.contents in
+    let B = summary (plan_of c.args.sheet.now.bytes.now C) c.args.i in
     let F = (state c.args.tables.now).act early_finish c.args.i in
-    let m = c.act.ensures.0 ∙ c.requires.2 c.args.i (omega (arith, c.requires.1, activities_are c.args.sheet.now c.args.contents)) in
-    (sym (onward_summary B F c.args.top (mark_some B m c.if-act-eq0.false)), c.requires.3)
+    let t = c.args.top in
+    let g = c.act-finish.ensures in
+    let m = c.act.ensures.0 ∙ c.requires.2 c.args.i (omega (arith, c.requires.1, activities_are c.args.sheet.now.bytes.now c.args.sheet.now.contents)) in
+    rw (c.max.ensures, c.unwrap_or.ensures, g.0)
+    (past_more t F ∙ sym (onward_met B F (past t) (mark_none B m (omega arith))), below_more t F (2 ^ 63) c.requires.3 (omega (arith, g.0, g.1)))

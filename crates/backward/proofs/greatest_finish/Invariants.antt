@@ -1,14 +1,15 @@
--- `backward::greatest_finish` meets its contract. The loop's invariant: `top` is the number of the first `i` activities.
+-- `backward::greatest_finish` meets its contract. The loop's invariant: `top` is the greatest of the first `i` activities.
 use mathlib.Core.Path.{◌≡◌}
-use Prim.Native.Nat.{◌^◌, ◌≤◌}
+use Rattle.std.specs.Prelude.{IfSome}
+use Prim.Native.Nat.{◌^◌, ◌<◌}
 use Rattle.dates.specs.Columns.{early_in}
-use Rattle.order.specs.Plan.{plan_of}
+use Rattle.order.specs.Plan.{plan_in}
 use Rattle.memory.specs.Seen.{state}
-use Rattle.backward.specs.Finish.{Marked, greatest_one}
+use Rattle.backward.specs.Finish.{Marked, past, greatest_one}
 use Rattle.backward.proofs.greatest_finish.Given as goal
 
 abbrev pub invariant-loop-i : goal.invariant-loop-i
 invariant-loop-i l =
-    (l.top ≤ 2 ^ 63)
-    × (Marked (plan_of l.sheet l.contents) (state l.tables)
-    → l.top ≡ greatest_one (plan_of l.sheet l.contents) (early_in (plan_of l.sheet l.contents) (state l.tables)) l.i)
+    IfSome l.top (λ t. t < 2 ^ 63)
+    × (Marked (plan_in l.sheet) (state l.tables)
+    → past l.top ≡ greatest_one (plan_in l.sheet) (early_in (plan_in l.sheet) (state l.tables)) l.i)

@@ -23,14 +23,14 @@ store_late-requires c =
 
 pub returns : goal.returns
 returns c =
-    let C = c.args.contents in
-    let p = plan_of c.args.sheet.now C in
+    let C = c.args.plan.now.sheet.contents in
+    let p = plan_of c.args.plan.now.sheet.bytes.now C in
     let S = state c.args.tables.now in
     let d = early_in p S in
     let m = late_in p S c.args.last in
     let T = state c.store_late.new.tables in
     let E = c.store_late.ensures.0 in
-    let b : c.args.i < p.activities = omega (arith, c.requires.1, activities_are c.args.sheet.now C) in
+    let b : c.args.i < p.activities = omega (arith, c.requires.1, activities_are c.args.plan.now.sheet.bytes.now C) in
     let F : Frame 10 12 0 0 S T = rw E (stored_frame p S c.args.i c.in_ok-dates.dates.start c.in_ok-dates.dates.finish) in (
       ap leaves (ap (λ (U : State). late_in p U c.args.last) E ∙ stored_late p S c.args.i _ _ d c.args.last b)
           ∙ ap (dated p d m c.args.i) (sym c.in_ok-dates.was) ∙ c.late_of.ensures.0,
@@ -39,8 +39,8 @@ returns c =
     )
 
 pub returns-in_err-dates : goal.returns-in_err-dates
-returns-in_err-dates c = rw (handed_on _ _ c.from_residual.ensures.1) (let C = c.args.contents in
-    let p = plan_of c.args.sheet.now C in
+returns-in_err-dates c = rw (handed_on _ _ c.from_residual.ensures.1) (let C = c.args.plan.now.sheet.contents in
+    let p = plan_of c.args.plan.now.sheet.bytes.now C in
     let S = state c.args.tables.now in
     let d = early_in p S in
     let m = late_in p S c.args.last in

@@ -17,7 +17,7 @@ pub act-ef-requires : goal.act-ef-requires
 act-ef-requires c = (omega (arith, c.requires.0.activities, from_in c.requires.0 _ c.requires.2 _ c.tie_at-tie.ensures), omega arith)
 
 pub forward_bound-requires : goal.forward_bound-requires
-forward_bound-requires c = (c.requires.0.read, c.requires.0.located, lead_fits c.requires.0 _ c.requires.2 _ c.tie_at-tie.ensures)
+forward_bound-requires c = lead_fits c.requires.0 _ c.requires.2 _ c.tie_at-tie.ensures
 
 pub returns : goal.returns
 returns c =

@@ -9,60 +9,61 @@ use Rattle.calendars.proofs.locate.Goals as goal
 
 pub loop-k-init : goal.loop-k-init
 loop-k-init c =
-    let x = c.args in
+    let x = c.args.sheet.now in
     let r = c.round_the_clock-calendars in
     let e = r.ensures in
-    (omega arith, calendar_first x.sheet.now, refl, located_none x.sheet.now x.contents _, λ k l. absurd (omega arith), clocks_first 16 r.result e.0 e.1 e.2 e.3)
+    (omega arith, calendar_first x.bytes.now, refl, located_none x.bytes.now x.contents _, λ k l. absurd (omega arith), clocks_first 16 r.result e.0 e.1 e.2 e.3)
 
 pub calendar-place-requires : goal.calendar-place-requires
 calendar-place-requires c =
-    rw c.loop-k.invariant.1 (c.requires.calendar c.loop-k.k c.loop-k-test.true)
+    rw c.loop-k.invariant.1 (c.args.sheet.now.read.calendar c.loop-k.k c.loop-k-test.true)
 
 pub overflow_add-at : goal.overflow_add-at
 overflow_add-at c =
     let l = c.loop-k-test.true in
-    let C = c.requires.calendar c.loop-k.k l in
+    let C = c.args.sheet.now.read.calendar c.loop-k.k l in
     omega (arith, c.loop-k.invariant.1, C.within)
 
 pub read_week-requires : goal.read_week-requires
 read_week-requires c =
     let l = c.loop-k-test.true in
-    let C = c.requires.calendar c.loop-k.k l in
-    let e = place_weeks c.args.sheet.now c.loop-k.at c.calendar-place.result c.calendar-place.ensures in
+    let C = c.args.sheet.now.read.calendar c.loop-k.k l in
+    let e = place_weeks c.args.sheet.now.bytes.now c.loop-k.at c.calendar-place.result c.calendar-place.ensures in
     rw (e, c.loop-k.invariant.1) (C.weeks_within, λ d m. C.weeks_few d)
 
 pub read_day_length-requires : goal.read_day_length-requires
 read_day_length-requires c =
     let l = c.loop-k-test.true in
-    let C = c.requires.calendar c.loop-k.k l in
+    let C = c.args.sheet.now.read.calendar c.loop-k.k l in
     omega (arith, c.loop-k.invariant.1, C.within)
 
 pub bounds-calendars-k : goal.bounds-calendars-k
-bounds-calendars-k c = omega (arith, c.requires.calendars_few, c.loop-k.invariant.2, c.loop-k-test.true)
+bounds-calendars-k c = omega (arith, c.args.sheet.now.read.calendars_few, c.loop-k.invariant.2, c.loop-k-test.true)
 
 pub loop-k-preserved : goal.loop-k-preserved
 loop-k-preserved c =
     let l = c.loop-k-test.true in
-    let s = c.args.sheet.now in
+    let x = c.args.sheet.now in
+    let s = x.bytes.now in
     let v = c.loop-k.invariant in
     let q = c.calendar-place in
     let e = place_weeks s c.loop-k.at q.result q.ensures in
-    let fits : c.loop-k.k < length c.loop-k.calendars = omega (arith, c.requires.calendars_few, v.2, l) in
+    let fits : c.loop-k.k < length c.loop-k.calendars = omega (arith, c.args.sheet.now.read.calendars_few, v.2, l) in
     let row : PlanCalendar = record { week = c.read_week.result; at = q.result.at; n = q.result.exceptions; day_length = c.read_day_length.result } in (
       omega (arith, l),
       calendar_next s c.loop-k.k c.loop-k.at q.result v.1 q.ensures,
       length-set c.loop-k.calendars c.loop-k.k row ∙ v.2,
-      located_more v.3 fits row (read_calendar s c.args.contents c.requires c.loop-k.k c.loop-k.at q.result l v.1 q.ensures row (rw e at c.read_week.ensures) refl refl),
+      located_more v.3 fits row (read_calendar s x.contents x.read c.loop-k.k c.loop-k.at q.result l v.1 q.ensures row (rw e at c.read_week.ensures) refl refl),
       measured_more s c.loop-k.k c.loop-k.calendars v.4 fits c.loop-k.at v.1 row c.read_day_length.ensures.0,
       clocks_more c.loop-k.k c.loop-k.calendars row v.5,
     )
 
 pub returns : goal.returns
 returns c =
-    let x = c.args in
+    let x = c.args.sheet.now in
     let v = c.loop-k.invariant in
     let e : c.loop-k.k ≡ x.contents.calendars = omega (arith, v.0, c.loop-k-test.false) in
-    let fits : x.contents.calendars < length c.loop-k.calendars = omega (arith, c.requires.calendars_few, v.2) in (
-      located_all x.sheet.now x.contents c.requires c.loop-k.calendars (rw e at v.3) fits (rw e at v.5),
-      measured_all x.sheet.now x.contents c.requires c.loop-k.calendars (rw e at v.4) fits (rw e at v.5),
+    let fits : x.contents.calendars < length c.loop-k.calendars = omega (arith, c.args.sheet.now.read.calendars_few, v.2) in (
+      located_all x.bytes.now x.contents x.read c.loop-k.calendars (rw e at v.3) fits (rw e at v.5),
+      measured_all x.bytes.now x.contents x.read c.loop-k.calendars (rw e at v.4) fits (rw e at v.5),
     )

@@ -9,5 +9,5 @@ use Rattle.calendars.proofs.locate.Given as goal
 
 abbrev pub invariant-loop-k : goal.invariant-loop-k
 invariant-loop-k l =
-    (l.k ≤ l.fn.contents.calendars) × (l.at ≡ calendar_at l.sheet l.k) × (length l.calendars ≡ 16) × Located l.sheet l.fn.contents l.k l.calendars × Measured l.sheet l.k l.calendars
+    (l.k ≤ l.sheet.contents.calendars) × (l.at ≡ calendar_at l.sheet.bytes.now l.k) × (length l.calendars ≡ 16) × Located l.sheet.bytes.now l.sheet.contents l.k l.calendars × Measured l.sheet.bytes.now l.k l.calendars
     × Clocks l.k l.calendars

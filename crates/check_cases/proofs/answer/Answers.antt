@@ -3,5 +3,5 @@ use Rattle.std.proofs.Common.{sym}
 use Rattle.sheet.specs.ReadLaws.{read_known}
 use Rattle.check_cases.proofs.answer.Goals as goal
 
-pub check_read-requires : goal.check_read-requires
-check_read-requires g c = read_known c.args.sheet.now c.in-Ok.contents (sym c.in-Ok.ensures)
+pub new-requires : goal.new-requires
+new-requires g c = read_known c.args.sheet.now c.in-Ok.contents (sym c.in-Ok.ensures)

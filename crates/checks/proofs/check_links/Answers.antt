@@ -5,8 +5,8 @@ use Prim.Native.Nat.{ℕ}
 use native.Mathlib.Omega.{arith}
 use lib.IntN.{pos}
 use lib.ListN.{length, replicate, length-replicate}
-use Rattle.memory.specs.SeenLaws.{same_then}
-use Rattle.order.specs.Plan.{plan_of}
+use Rattle.memory.specs.SeenLaws.{same_then, same_lent, lent_then}
+use Rattle.order.specs.Plan.{plan_of, plan_in}
 use Rattle.order.specs.Checks.{Verdict, judge_order}
 use Rattle.order.specs.CheckLaws.{links_first}
 use Rattle.order.proofs.FineLaws.{links_fine_lem}
@@ -30,7 +30,7 @@ pub returns-in-Err : goal.returns-in-Err
 unfolding plan_of
 returns-in-Err c =
     let x = c.args in
-    let p = plan_of x.sheet.now x.contents in
+    let p = plan_in x.sheet.now in
     let size = length x.names.now in
     let room = length x.tables.now.cells.now in
     let a = c.in-Err.ensures in
@@ -39,14 +39,14 @@ returns-in-Err c =
           (first_refused p (links_first p) (judge_order p) size room _ _
           (plain_refused p (links_first p) size room _ _ c.in-Err.error a.0
           (r.1 ∙ ap (λ (k : ℕ). replicate k 0) (a.3 ∙ cleared _ _ c.clear_u32.ensures)) (r.2 ∙ ap (λ (k : ℕ). replicate k (pos 0)) a.2.cells))),
-      same_then a.2 r.3,
+      same_lent (same_then a.2 r.3),
     )
 
 pub check_order-requires : goal.check_order-requires
 unfolding plan_of
 check_order-requires c =
     let x = c.args in
-    let p = plan_of x.sheet.now x.contents in
+    let p = plan_in x.sheet.now in
     let a = c.in-Ok.ensures in
     let l = a.0.1 in
     let n = a.3 ∙ cleared _ _ c.clear_u32.ensures in (
@@ -62,12 +62,12 @@ pub returns-in-Ok : goal.returns-in-Ok
 unfolding plan_of
 returns-in-Ok c =
     let x = c.args in
-    let p = plan_of x.sheet.now x.contents in
+    let p = plan_in x.sheet.now in
     let a = c.in-Ok.ensures in
     let o = c.check_order in
     let names = o.new.names in
     let tables = o.new.tables in (
       then_judged p (links_first p) (judge_order p) (length x.names.now) (length x.tables.now.cells.now) names tables (ap (λ (v : Verdict). v.number) a.0.0) o.result
           (judged_sizes p (judge_order p) names tables o.result (a.3 ∙ cleared _ _ c.clear_u32.ensures) a.2.cells o.ensures.0),
-      same_then a.2 o.ensures.1,
+      lent_then (same_lent a.2) o.ensures.1,
     )

@@ -4,7 +4,8 @@ use Prim.Native.Nat.{◌<◌}
 use native.Mathlib.Omega.{arith}
 use lib.ListN.{length}
 use Rattle.network.specs.Parents.{upward}
-use Rattle.order.specs.Plan.{plan_of}
+use Rattle.memory.specs.SeenLaws.{same_lent}
+use Rattle.order.specs.Plan.{plan_of, plan_in}
 use Rattle.order.specs.Ids.{id_of, parent_of}
 use Rattle.order.specs.Checks.{Verdict, named}
 use Rattle.order.specs.CheckLaws.{summaries_first}
@@ -22,14 +23,14 @@ pub returns-in-Err-Milestone : goal.returns-in-Err-Milestone
 unfolding plan_of
 returns-in-Err-Milestone c =
     let x = c.args in
-    let p = plan_of x.sheet.now x.contents in
+    let p = plan_in x.sheet.now in
     let size = length x.names.now in
     let room = length x.tables.now.cells.now in
     let r = c.refuse.ensures in (
       subst (Judged p (summaries_verdict p) size room _ _) (sym r.0)
           (first_refused p (summaries_first p) (links_verdict p) size room _ _
           (plain_refused p (summaries_first p) size room _ _ (MilestoneParent c.in-Err-Milestone.id) (sym (rw c.in-Err-Milestone.field-0-is at c.in-Err-Milestone.ensures).is) r.1 r.2)),
-      r.3,
+      same_lent r.3,
     )
 
 pub name_parents-requires : goal.name_parents-requires
@@ -42,7 +43,7 @@ pub returns-in-Err-Loop : goal.returns-in-Err-Loop
 unfolding plan_of
 returns-in-Err-Loop c =
     let x = c.args in
-    let p = plan_of x.sheet.now x.contents in
+    let p = plan_in x.sheet.now in
     let size = length x.names.now in
     let room = length x.tables.now.cells.now in
     let a = c.in-Err-Loop in
@@ -51,14 +52,14 @@ returns-in-Err-Loop c =
     let some : 0 < length xs = omega (arith, names_length p c.requires.1.known a.first a.steps A.loop) in (
       first_refused p (summaries_first p) (links_verdict p) size room _ _
           (loop_refused p (summaries_first p) size room _ _ (ParentLoop _) xs some (sym A.is) refl c.name_parents.ensures c.clear.ensures.0),
-      c.clear.ensures.1,
+      same_lent c.clear.ensures.1,
     )
 
 pub returns-in-Ok : goal.returns-in-Ok
 unfolding plan_of
 returns-in-Ok c =
     let x = c.args in
-    let p = plan_of x.sheet.now x.contents in
+    let p = plan_in x.sheet.now in
     let o = c.check_links in (
       then_judged p (summaries_first p) (links_verdict p) (length x.names.now) (length x.tables.now.cells.now) o.new.names o.new.tables
           (ap (λ (v : Verdict). v.number) (sym c.in-Ok.ensures.is)) o.result o.ensures.0,

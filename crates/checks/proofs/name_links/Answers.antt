@@ -5,7 +5,7 @@ use Prim.Native.Nat.{ℕ, ◌+◌, ◌-◌}
 use native.Mathlib.Omega.{arith}
 use lib.ListN.{length, replicate}
 use Rattle.network.specs.Kahn.{named_loop}
-use Rattle.order.specs.Plan.{plan_of}
+use Rattle.order.specs.Plan.{plan_in}
 use Rattle.order.specs.Ids.{id_of}
 use Rattle.order.specs.Ties.{kept_links}
 use Rattle.order.specs.Checks.{named}
@@ -16,22 +16,22 @@ use Rattle.checks.proofs.name_links.Goals as goal
 pub loop-k-init : goal.loop-k-init
 loop-k-init c =
     let x = c.args in
-    let p = plan_of x.sheet.now x.contents in
-    let N = naming_start (named (id_of p) (named_loop (kept_links p) x.contents.activities)) (length x.names.now) _ c.clear_u32.ensures in (
+    let p = plan_in x.sheet.now in
+    let N = naming_start (named (id_of p) (named_loop (kept_links p) x.sheet.now.contents.activities)) (length x.names.now) _ c.clear_u32.ensures in (
       omega (arith, N.kept, c.requires.2, c.requires.3),
-      naming_here (named (id_of p) (named_loop (kept_links p) x.contents.activities)) (length x.names.now) _ 0 N,
+      naming_here (named (id_of p) (named_loop (kept_links p) x.sheet.now.contents.activities)) (length x.names.now) _ 0 N,
     )
 
 pub name_one-requires : goal.name_one-requires
 name_one-requires c =
     let L = c.loop-k in
-    (c.requires.0.read, omega (arith, c.act-i.ensures.0, c.requires.1.below L.k (omega arith)), omega (arith, L.invariant.0, L.invariant.1.kept))
+    (omega (arith, c.act-i.ensures.0, c.requires.1.below L.k (omega arith)), omega (arith, L.invariant.0, L.invariant.1.kept))
 
 pub loop-k-preserved : goal.loop-k-preserved
 loop-k-preserved c =
     let x = c.args in
-    let p = plan_of x.sheet.now x.contents in
-    let xs = named (id_of p) (named_loop (kept_links p) x.contents.activities) in
+    let p = plan_in x.sheet.now in
+    let xs = named (id_of p) (named_loop (kept_links p) x.sheet.now.contents.activities) in
     let L = c.loop-k in (
       L.invariant.0,
       naming_more xs _ _ L.k L.invariant.1 _ _ (omega (arith, loop_length (id_of p) c.requires.1)) (omega (arith, L.invariant.0))
@@ -41,13 +41,13 @@ loop-k-preserved c =
 pub name_one-requires-2 : goal.name_one-requires-2
 name_one-requires-2 c =
     let L = c.loop-k in
-    (c.requires.0.read, omega (arith, c.act-i-2.ensures.0, c.requires.1.below 0 c.requires.1.some), omega (arith, L.invariant.0, L.invariant.1.kept))
+    (omega (arith, c.act-i-2.ensures.0, c.requires.1.below 0 c.requires.1.some), omega (arith, L.invariant.0, L.invariant.1.kept))
 
 pub returns : goal.returns
 returns c =
     let x = c.args in
-    let p = plan_of x.sheet.now x.contents in
-    let xs = named (id_of p) (named_loop (kept_links p) x.contents.activities) in
+    let p = plan_in x.sheet.now in
+    let xs = named (id_of p) (named_loop (kept_links p) x.sheet.now.contents.activities) in
     let L = c.loop-k in
     let e : L.k ≡ x.m = omega arith in
     let many = loop_length (id_of p) c.requires.1 in

@@ -2,7 +2,7 @@
 use Prim.Native.Nat.{◌<◌}
 use lib.ListN.{length}
 use Rattle.network.specs.Kahn.{named_loop}
-use Rattle.order.specs.Plan.{plan_of}
+use Rattle.order.specs.Plan.{plan_in}
 use Rattle.order.specs.Ids.{id_of}
 use Rattle.order.specs.Ties.{kept_links}
 use Rattle.order.specs.Checks.{named}
@@ -11,4 +11,4 @@ use Rattle.checks.proofs.name_links.Given as goal
 
 abbrev pub invariant-loop-k : goal.invariant-loop-k
 invariant-loop-k l =
-    (l.m < length l.initial.names) × Naming (named (id_of (plan_of l.sheet l.contents)) (named_loop (kept_links (plan_of l.sheet l.contents)) l.contents.activities)) (length l.initial.names) l.names l.k
+    (l.m < length l.initial.names) × Naming (named (id_of (plan_in l.sheet)) (named_loop (kept_links (plan_in l.sheet)) l.sheet.contents.activities)) (length l.initial.names) l.names l.k

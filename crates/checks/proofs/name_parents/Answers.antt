@@ -7,7 +7,7 @@ use lib.ListN.{set, length, replicate, length-replicate}
 use Rattle.memory.specs.Fields.{parent}
 use Rattle.memory.specs.State.{State}
 use Rattle.network.specs.Parents.{climb, upward}
-use Rattle.order.specs.Plan.{Plan, plan_of}
+use Rattle.order.specs.Plan.{Plan, plan_of, plan_in}
 use Rattle.order.specs.Ids.{id_of, parent_of}
 use Rattle.order.specs.Checks.{named}
 use Rattle.order.specs.FineLaws.{ParentsKnown}
@@ -35,13 +35,13 @@ module _ (p : Plan) (K : ParentsKnown p) (first steps : ℕ) (F : LoopFrom p fir
 pub name_one-requires : goal.name_one-requires
 unfolding plan_of
 name_one-requires c =
-    (c.requires.0.read, c.requires.3.below, omega (arith, ap length c.clear_u32.ensures, length-replicate {A = ℕ} (length c.args.names.now) 0, c.requires.4))
+    (c.requires.3.below, omega (arith, ap length c.clear_u32.ensures, length-replicate {A = ℕ} (length c.args.names.now) 0, c.requires.4))
 
 pub loop-k-init : goal.loop-k-init
 unfolding plan_of
 loop-k-init c =
     let x = c.args in
-    let p = plan_of x.sheet.now x.contents in
+    let p = plan_in x.sheet.now in
     let N = begun p c.requires.1 x.first x.steps c.requires.3 (length x.names.now) (omega (arith, c.requires.4)) _ _ c.clear_u32.ensures c.name_one.ensures in (
       omega (arith, N.kept, c.requires.3.within, c.requires.4),
       up_first p c.requires.1 x.first x.steps c.requires.3,
@@ -52,7 +52,7 @@ pub act-requires : goal.act-requires
 unfolding plan_of
 act-requires c =
     let x = c.args in
-    let p = plan_of x.sheet.now x.contents in
+    let p = plan_in x.sheet.now in
     let L = c.loop-k in
     (omega (arith, c.requires.0.activities, L.invariant.1, up_below p c.requires.1 x.first x.steps c.requires.3 L.k (omega arith)), omega arith)
 
@@ -60,7 +60,7 @@ pub overflow_sub-i : goal.overflow_sub-i
 unfolding plan_of
 overflow_sub-i c =
     let x = c.args in
-    let p = plan_of x.sheet.now x.contents in
+    let p = plan_in x.sheet.now in
     let L = c.loop-k in
     omega (arith, next_up p c.requires.1 x.first x.steps c.requires.3 _ c.requires.2 L.k L.i (omega arith) L.invariant.1 _ c.act.ensures.0)
 
@@ -68,15 +68,15 @@ pub name_one-requires-in-loop-k : goal.name_one-requires-in-loop-k
 unfolding plan_of
 name_one-requires-in-loop-k c =
     let x = c.args in
-    let p = plan_of x.sheet.now x.contents in
+    let p = plan_in x.sheet.now in
     let L = c.loop-k in
-    (c.requires.0.read, omega (arith, next_up p c.requires.1 x.first x.steps c.requires.3 _ c.requires.2 L.k L.i (omega arith) L.invariant.1 _ c.act.ensures.0, up_below p c.requires.1 x.first x.steps c.requires.3 (L.k + 1) (omega arith)), omega (arith, L.invariant.0, L.invariant.2.kept))
+    (omega (arith, next_up p c.requires.1 x.first x.steps c.requires.3 _ c.requires.2 L.k L.i (omega arith) L.invariant.1 _ c.act.ensures.0, up_below p c.requires.1 x.first x.steps c.requires.3 (L.k + 1) (omega arith)), omega (arith, L.invariant.0, L.invariant.2.kept))
 
 pub loop-k-preserved : goal.loop-k-preserved
 unfolding plan_of
 loop-k-preserved c =
     let x = c.args in
-    let p = plan_of x.sheet.now x.contents in
+    let p = plan_in x.sheet.now in
     let xs = named (id_of p) (upward (parent_of p) x.steps x.first) in
     let L = c.loop-k in
     let i = c.act.result - 1 in
@@ -90,7 +90,7 @@ loop-k-preserved c =
 pub returns : goal.returns
 returns c =
     let x = c.args in
-    let p = plan_of x.sheet.now x.contents in
+    let p = plan_in x.sheet.now in
     let xs = named (id_of p) (upward (parent_of p) x.steps x.first) in
     let L = c.loop-k in
     naming_end xs _ _ (L.k + 1) L.invariant.2 (names_length p c.requires.1 x.first x.steps c.requires.3 ∙ omega arith)

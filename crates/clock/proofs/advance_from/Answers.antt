@@ -8,7 +8,7 @@ use native.Mathlib.Omega.{arith}
 use lib.ListN.{get_or}
 use Rattle.number.specs.Order.{zero_or_pos}
 use Rattle.calendar.specs.declared.Period.{Period}
-use Rattle.calendar.specs.Records.{exception_day, hours_on}
+use Rattle.calendar.specs.Records.{exception_day}
 use Rattle.date.specs.Years.{end_day}
 use Rattle.worktime.specs.Count.{count_mono}
 use Rattle.worktime.specs.Walks.{end_minute}
@@ -25,18 +25,15 @@ use Rattle.calendar.specs.Value.{hours_of}
 use Rattle.clock.proofs.advance_from.Goals as goal
 use Rattle.clock.proofs.advance_from.Goals.{then-j-calendar+else-stand-work, else-j-calendar}
 
-pub sums_of-sums-requires : goal.sums_of-sums-requires
-sums_of-sums-requires c = row_ordered c.args.calendar.now.valid
-
-pub ahead-stand-requires : goal.ahead-stand-requires
-ahead-stand-requires c = let p = c.requires in (c.sums_of-sums.ensures.rising, c.sums_of-sums.ensures.none, p.0, omega (arith, p.2), p.3, p.4)
+pub of-sums-requires : goal.of-sums-requires
+of-sums-requires c = row_ordered c.args.calendar.now.valid
 
 pub returns-then-day-gt-LAST_DAY : goal.returns-then-day-gt-LAST_DAY
 returns-then-day-gt-LAST_DAY c =
     let a = c.args in
     let w = worked_by a.calendar.now in
     let day = exception_day a.calendar.now.exceptions.sheet.now a.calendar.now.exceptions.at c.ahead-stand.result.at in
-    let stand = c.ahead-stand.ensures.0 a.calendar.now.week.now c.args.calendar.now.valid c.sums_of-sums.ensures in
+    let stand = c.ahead-stand.ensures.0 a.calendar.now.week.now c.args.calendar.now.valid c.of-sums.ensures in
     sym
     (advance_none w (a.d * 1440) a.work (omega arith)
     (omega (arith, stand.record_next (omega arith), (c.ahead-stand.ensures.2 (omega arith)).0, c.day-day.ensures.0, count_mono w {s = end_minute} {t = day * 1440} (omega (arith, c.day-day.ensures.0)))))
@@ -51,7 +48,7 @@ returns-then-stand-work c =
     let m = record_minute c.args.calendar.now.valid j x (omega arith) (omega arith) (omega (arith, f.1)) in
     let day = c.day-day.ensures.0 in
     let from = ap (λ q. q.from) c.period-period.ensures in
-    let stand = c.ahead-stand.ensures.0 a.calendar.now.week.now c.args.calendar.now.valid c.sums_of-sums.ensures in
+    let stand = c.ahead-stand.ensures.0 a.calendar.now.week.now c.args.calendar.now.valid c.of-sums.ensures in
     ap Ok (omega (arith, day, from))
     ∙ sym (advance_at w (omega arith) (omega (arith, c.requires.1)) (omega (arith, m.high, day)) m.closes (omega (arith, m.full, stand.record_next (omega arith), f.0)))
 
@@ -60,10 +57,10 @@ returns-then-sums-eq0 c =
     let a = c.args in
     let r = c.ahead-stand.result in
     let w = worked_by a.calendar.now in
-    let ss = c.sums_of-sums.result in
+    let ss = c.of-sums.result.entries in
     let zero : (x : ℕ) → regular ss x ≡ 0 =
-    λ x. ⊎_elim (λ z. z) (λ l. absurd (omega (arith, c.if-sums-eq0.true, regular_some ss c.sums_of-sums.ensures.rising x l))) (zero_or_pos (regular ss x)) in
-    let stand = c.ahead-stand.ensures.0 a.calendar.now.week.now c.args.calendar.now.valid c.sums_of-sums.ensures in
+    λ x. ⊎_elim (λ z. z) (λ l. absurd (omega (arith, c.if-sums-eq0.true, regular_some ss c.of-sums.ensures.rising x l))) (zero_or_pos (regular ss x)) in
+    let stand = c.ahead-stand.ensures.0 a.calendar.now.week.now c.args.calendar.now.valid c.of-sums.ensures in
     let before : r.at < a.calendar.now.exceptions.n → a.work ≤ r.start =
     λ l. elim c.if-j-calendar.branch [ then-j-calendar+else-stand-work w ↦ omega (arith, w.if-stand-work.false) | else-j-calendar w ↦ absurd (omega (arith, w.if-j-calendar.false)) ] in
     let last : r.at < a.calendar.now.exceptions.n → ⊥ = λ l. omega (arith, before l, (c.ahead-stand.ensures.2 l).0, c.ahead-stand.ensures.1, zero (exception_day a.calendar.now.exceptions.sheet.now a.calendar.now.exceptions.at r.at)) in
@@ -88,7 +85,7 @@ returns-then-next c =
     λ l. elim c.if-j-calendar.branch [ then-j-calendar+else-stand-work w ↦ omega (arith, w.if-stand-work.false) | else-j-calendar w ↦ absurd (omega (arith, w.if-j-calendar.false)) ] in
     let f = c.day_after-next.ensures in
     let o =
-    on-weekday c.sums_of-sums.ensures r.at _ r.passed r.over r.start a.work c.day_after-next.result (c.ahead-stand.ensures.0 a.calendar.now.week.now c.args.calendar.now.valid c.sums_of-sums.ensures) c.ahead-stand.ensures.1
+    on-weekday c.of-sums.ensures r.at _ r.passed r.over r.start a.work c.day_after-next.result (c.ahead-stand.ensures.0 a.calendar.now.week.now c.args.calendar.now.valid c.of-sums.ensures) c.ahead-stand.ensures.1
     (λ l. (c.ahead-stand.ensures.2 l).0) before f.0 f.1 in
     sym
     (advance_none w (a.d * 1440) a.work (omega arith)
@@ -102,7 +99,7 @@ overflow_sub-result-2 c =
     λ l. elim c.if-j-calendar.branch [ then-j-calendar+else-stand-work w ↦ omega (arith, w.if-stand-work.false) | else-j-calendar w ↦ absurd (omega (arith, w.if-j-calendar.false)) ] in
     let f = c.day_after-next.ensures in
     let o =
-    on-weekday c.sums_of-sums.ensures r.at _ r.passed r.over r.start a.work c.day_after-next.result (c.ahead-stand.ensures.0 a.calendar.now.week.now c.args.calendar.now.valid c.sums_of-sums.ensures) c.ahead-stand.ensures.1
+    on-weekday c.of-sums.ensures r.at _ r.passed r.over r.start a.work c.day_after-next.result (c.ahead-stand.ensures.0 a.calendar.now.week.now c.args.calendar.now.valid c.of-sums.ensures) c.ahead-stand.ensures.1
     (λ l. (c.ahead-stand.ensures.2 l).0) before f.0 f.1 in
     o.low
 
@@ -110,7 +107,7 @@ pub row_select-requires : goal.row_select-requires
 row_select-requires c =
     let k = c.day_after-next.result % 7 in
     let f = c.day_after-next.ensures in
-    (row_ordered c.args.calendar.now.valid k (omega arith), omega arith, omega (arith, f.0, f.1, c.sums_of-sums.ensures.each k (omega arith)))
+    (row_ordered c.args.calendar.now.valid k (omega arith), omega arith, omega (arith, f.0, f.1, c.of-sums.ensures.each k (omega arith)))
 
 pub returns : goal.returns
 returns c =
@@ -122,8 +119,8 @@ returns c =
     λ l. elim c.if-j-calendar.branch [ then-j-calendar+else-stand-work w ↦ omega (arith, w.if-stand-work.false) | else-j-calendar w ↦ absurd (omega (arith, w.if-j-calendar.false)) ] in
     let f = c.day_after-next.ensures in
     let o =
-    on-weekday c.sums_of-sums.ensures r.at _ r.passed r.over r.start a.work c.day_after-next.result (c.ahead-stand.ensures.0 a.calendar.now.week.now c.args.calendar.now.valid c.sums_of-sums.ensures) c.ahead-stand.ensures.1
+    on-weekday c.of-sums.ensures r.at _ r.passed r.over r.start a.work c.day_after-next.result (c.ahead-stand.ensures.0 a.calendar.now.week.now c.args.calendar.now.valid c.of-sums.ensures) c.ahead-stand.ensures.1
     (λ l. (c.ahead-stand.ensures.2 l).0) before f.0 f.1 in
     let m = hand_select (hours_of a.calendar.now) (x - 1) (c.args.calendar.now.valid.ordered (x - 1)) (get_or a.calendar.now.week.now (x % 7) []) (sym o.hours) _ _ (omega arith)
-    (omega (arith, f.0, f.1, c.sums_of-sums.ensures.each (x % 7) (omega arith))) c.row_select.ensures.0 in
+    (omega (arith, f.0, f.1, c.of-sums.ensures.each (x % 7) (omega arith))) c.row_select.ensures.0 in
     sym (advance_at w (omega arith) (omega (arith, c.requires.1)) (omega (arith, m.high)) m.closes (omega (arith, m.full, o.counted, f.0, c.ahead-stand.ensures.1)))

@@ -3,7 +3,6 @@ use Rattle.std.specs.Prelude.{Ok}
 use mathlib.Core.Path.{refl, sym, ap, ◌∙◌}
 use native.Mathlib.Omega.{arith}
 use Rattle.calendar.specs.Hours.{worked}
-use Rattle.calendar.specs.Records.{hours_on}
 use Rattle.calendar.specs.ValidLaws.{hand_ordered}
 use mir.Syntax.{w64}
 use mir.Facts.{to_z_pos}

@@ -19,11 +19,8 @@ use Rattle.clock.specs.OwnDayLaws.{days_small, days_end, none_first, first_own, 
 use Rattle.clock.proofs.days_work.Goals as goal
 use Rattle.clock.proofs.days_work.Goals.{then-next-day, else-next-day}
 
-pub sums_of-sums-requires : goal.sums_of-sums-requires
-sums_of-sums-requires c = row_ordered c.args.calendar.now.valid
-
-pub regular_work-sum-requires : goal.regular_work-sum-requires
-regular_work-sum-requires c = let p = c.requires in (c.sums_of-sums.ensures.rising, p.0, p.1)
+pub of-sums-requires : goal.of-sums-requires
+of-sums-requires c = row_ordered c.args.calendar.now.valid
 
 pub loop-j-init : goal.loop-j-init
 loop-j-init c =
@@ -64,10 +61,10 @@ pub returns-then-e-day : goal.returns-then-e-day
 returns-then-e-day c =
     let p = c.requires in
     let i = c.loop-j.invariant in
-    ended _ _ _ _ _ _ _ _ _ c.args.calendar.now.valid p.0 p.1 i.1 i.3 i.5 (λ k h l. omega (arith, c.if-e-day.true, c.day-day.ensures.0, c.args.calendar.now.valid.sorted c.loop-j.j k h l)) (i.4 c.args.calendar.now.week.now c.sums_of-sums.ensures)
+    ended _ _ _ _ _ _ _ _ _ c.args.calendar.now.valid p.0 p.1 i.1 i.3 i.5 (λ k h l. omega (arith, c.if-e-day.true, c.day-day.ensures.0, c.args.calendar.now.valid.sorted c.loop-j.j k h l)) (i.4 c.args.calendar.now.week.now c.of-sums.ensures)
 
 pub overflow_sub-regular : goal.overflow_sub-regular
-overflow_sub-regular c = let k = weekday c.day-day.result in c.sums_of-sums.ensures.rising.0 k (k + 1) (omega arith) (omega arith)
+overflow_sub-regular c = let k = weekday c.day-day.result in c.of-sums.ensures.rising.0 k (k + 1) (omega arith) (omega arith)
 
 pub work-requires : goal.work-requires
 work-requires c = omega (arith, c.args.calendar.now.valid.long)
@@ -84,8 +81,8 @@ regularOf ss x = get_or ss (weekday x + 1) 0 - get_or ss (weekday x) 0
 stepped : (c : goal.After-row_known-1) →
     let a = c.args in
     let x = c.day-day.result in
-    (week : List (List Period)) → Sums week c.sums_of-sums.result
-    → days_work (hours_on week a.calendar.now.exceptions.sheet.now a.calendar.now.exceptions.at (c.loop-j.j + 1)) a.d (a.e - a.d) + regularOf c.sums_of-sums.result x ≡ c.loop-j.sum + c.work.result + c.if-next-day.out
+    (week : List (List Period)) → Sums week c.of-sums.result.entries
+    → days_work (hours_on week a.calendar.now.exceptions.sheet.now a.calendar.now.exceptions.at (c.loop-j.j + 1)) a.d (a.e - a.d) + regularOf c.of-sums.result.entries x ≡ c.loop-j.sum + c.work.result + c.if-next-day.out
 stepped c week sums =
     let a = c.args in
     let i = c.loop-j.invariant in
@@ -98,11 +95,11 @@ stepped c week sums =
     elim c.if-next-day.branch [
       | then-next-day w ↦
           let none = none_first week a.calendar.now.exceptions.sheet.now a.calendar.now.exceptions.at x j (λ y h z. omega (arith, i.5 y h, w.if-next-day.true)) in
-          let rise = c.sums_of-sums.ensures.rising.0 (weekday x) (weekday x + 1) (omega arith) (omega arith) in
+          let rise = c.of-sums.ensures.rising.0 (weekday x) (weekday x + 1) (omega arith) (omega arith) in
           omega (
             arith,
             i.4 week sums,
-            first_own week a.calendar.now.exceptions.sheet.now a.calendar.now.exceptions.at j x is _ c.work.ensures.0 a.d (a.e - a.d) r.0 k sums none (regularOf c.sums_of-sums.result x) (omega (arith, rise)),
+            first_own week a.calendar.now.exceptions.sheet.now a.calendar.now.exceptions.at j x is _ c.work.ensures.0 a.d (a.e - a.d) r.0 k sums none (regularOf c.of-sums.result.entries x) (omega (arith, rise)),
             w.out-is,
           )
       | else-next-day w ↦
@@ -119,22 +116,22 @@ pub overflow_add-sum : goal.overflow_add-sum
 overflow_add-sum c =
     let p = c.requires in
     let i = c.loop-j.invariant in
-    omega (arith, small _ _ _ _ _ _ _ _ _ c.args.calendar.now.valid p.0 p.1 i.1 (i.4 c.args.calendar.now.week.now c.sums_of-sums.ensures) c.work.ensures.1)
+    omega (arith, small _ _ _ _ _ _ _ _ _ c.args.calendar.now.valid p.0 p.1 i.1 (i.4 c.args.calendar.now.week.now c.of-sums.ensures) c.work.ensures.1)
 
 pub overflow_add-sum-in-loop-j : goal.overflow_add-sum-in-loop-j
 overflow_add-sum-in-loop-j c =
     let p = c.requires in
     let i = c.loop-j.invariant in
     let x = c.day-day.result in
-    let u = c.sums_of-sums.ensures.rising in
-    let f = small _ _ _ _ _ _ _ _ _ c.args.calendar.now.valid p.0 p.1 i.1 (i.4 c.args.calendar.now.week.now c.sums_of-sums.ensures) c.work.ensures.1 in
+    let u = c.of-sums.ensures.rising in
+    let f = small _ _ _ _ _ _ _ _ _ c.args.calendar.now.valid p.0 p.1 i.1 (i.4 c.args.calendar.now.week.now c.of-sums.ensures) c.work.ensures.1 in
     elim c.if-next-day.branch [
       | then-next-day w ↦ omega (arith, w.out-is, f)
       | else-next-day w ↦ omega (arith, w.out-is, f, u.0 (weekday x + 1) 7 (omega arith) (omega arith), u.1)
     ]
 
 pub overflow_sub-sum : goal.overflow_sub-sum
-overflow_sub-sum c = omega (arith, stepped c c.args.calendar.now.week.now c.sums_of-sums.ensures)
+overflow_sub-sum c = omega (arith, stepped c c.args.calendar.now.week.now c.of-sums.ensures)
 
 pub overflow_add-next : goal.overflow_add-next
 overflow_add-next c = omega (arith, c.day-day.ensures.1)
@@ -160,4 +157,4 @@ returns c =
     let p = c.requires in
     let i = c.loop-j.invariant in
     let e : c.loop-j.j ≡ c.args.calendar.now.exceptions.n = omega (arith, i.1, c.loop-j-test.false) in
-    rw e at (ended _ _ _ _ _ _ _ _ _ c.args.calendar.now.valid p.0 p.1 i.1 i.3 i.5 (λ k h l. absurd (omega arith)) (i.4 c.args.calendar.now.week.now c.sums_of-sums.ensures))
+    rw e at (ended _ _ _ _ _ _ _ _ _ c.args.calendar.now.valid p.0 p.1 i.1 i.3 i.5 (λ k h l. absurd (omega arith)) (i.4 c.args.calendar.now.week.now c.of-sums.ensures))

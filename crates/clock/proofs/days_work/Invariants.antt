@@ -11,6 +11,6 @@ use Rattle.clock.proofs.days_work.Given as goal
 abbrev pub invariant-loop-j : goal.invariant-loop-j
 invariant-loop-j l =
     (l.from ≤ l.j) × (l.j ≤ l.calendar.exceptions.n) × (l.d ≤ l.next) × (l.next ≤ l.e)
-    × ((week : List (List Period)) → Sums week l.sums → l.sum ≡ days_work (hours_on week l.calendar.exceptions.sheet.now l.calendar.exceptions.at l.j) l.d (l.e - l.d))
+    × ((week : List (List Period)) → Sums week l.sums.entries → l.sum ≡ days_work (hours_on week l.calendar.exceptions.sheet.now l.calendar.exceptions.at l.j) l.d (l.e - l.d))
     × ((i : ℕ) → i < l.j → exception_day l.calendar.exceptions.sheet.now l.calendar.exceptions.at i < l.next)
     × ((l.next ≡ l.d) ⊎ ((0 < l.j) × (l.next ≡ exception_day l.calendar.exceptions.sheet.now l.calendar.exceptions.at (l.j - 1) + 1)))

@@ -1,8 +1,8 @@
 -- `clock::next_start` meets its contract. The loop has passed no worked minute: as many stand before its day and minute as before `t`.
 use mathlib.Core.Path.{◌≡◌}
-use Prim.Native.Nat.{◌≤◌, ◌<◌, ◌+◌, ◌*◌, ◌-◌}
+use Prim.Native.Nat.{◌≤◌, ◌<◌, ◌+◌, ◌*◌}
 use Rattle.calendar.specs.Exceptions.{FirstOf}
-use Rattle.date.specs.Years.{first_day, end_day}
+use Rattle.date.specs.Years.{first_day}
 use Rattle.worktime.specs.Worked.{count}
 use Rattle.worktime.specs.Walks.{first_minute}
 use Rattle.clock.specs.On.{worked_by}

@@ -4,7 +4,7 @@ use Prim.Native.Nat.{◌*◌, ◌/◌, ◌%◌}
 use native.Mathlib.Omega.{arith}
 use Rattle.date.specs.Years.{years_before, years_after}
 use Rattle.calendar.specs.HoursLaws.{rank_mono}
-use Rattle.calendar.specs.Records.{hours_on, periods_of}
+use Rattle.calendar.specs.Records.{periods_of}
 use Rattle.calendar.specs.ValidLaws.{hand_ordered}
 use Rattle.worktime.proofs.Shift.{retreat_zero, retreat_out, retreat_at}
 use Rattle.clock.specs.On.{worked_by}

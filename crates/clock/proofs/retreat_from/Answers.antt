@@ -10,19 +10,16 @@ use Rattle.clock.specs.RetreatLaws.{record_refuses, record_answers, over_refuses
 use Rattle.clock.proofs.retreat_from.Goals as goal
 use Rattle.clock.proofs.retreat_from.Goals.{then-j-gt0+else-stand-work, else-j-gt0}
 
-pub sums_of-sums-requires : goal.sums_of-sums-requires
-sums_of-sums-requires c = row_ordered c.args.calendar.now.valid
-
-pub back-stand-requires : goal.back-stand-requires
-back-stand-requires c = let p = c.requires in let u = c.sums_of-sums.ensures in (u.rising, u.none, p.0, omega (arith, p.2), p.3, p.4)
+pub of-sums-requires : goal.of-sums-requires
+of-sums-requires c = row_ordered c.args.calendar.now.valid
 
 pub returns-then-day-lt-FIRST_DAY : goal.returns-then-day-lt-FIRST_DAY
 returns-then-day-lt-FIRST_DAY c =
     let r = c.back-stand.result in
     let j = c.if-j-gt0.true in
     let f = c.back-stand.ensures.2 j in
-    let v = c.back-stand.ensures.0 c.args.calendar.now.week.now c.args.calendar.now.valid c.sums_of-sums.ensures in
-    record_refuses c.args.calendar.now.valid c.sums_of-sums.ensures c.args.d r.at r.passed r.over c.args.work v.0 c.back-stand.ensures.1 (omega (arith, c.requires.2)) v.1 j r.start f.0 c.if-stand-work.true f.1 _ c.day-day.ensures.0 (omega (arith, c.if-day-lt-FIRST_DAY.true))
+    let v = c.back-stand.ensures.0 c.args.calendar.now.week.now c.args.calendar.now.valid c.of-sums.ensures in
+    record_refuses c.args.calendar.now.valid c.of-sums.ensures c.args.d r.at r.passed r.over c.args.work v.0 c.back-stand.ensures.1 (omega (arith, c.requires.2)) v.1 j r.start f.0 c.if-stand-work.true f.1 _ c.day-day.ensures.0 (omega (arith, c.if-day-lt-FIRST_DAY.true))
 
 pub overflow_sub-left-then-stand-work : goal.overflow_sub-left-then-stand-work
 overflow_sub-left-then-stand-work c = omega (arith, c.work.ensures.0, (c.back-stand.ensures.2 c.if-j-gt0.true).1)
@@ -32,8 +29,8 @@ returns-then-stand-work c =
     let r = c.back-stand.result in
     let j = c.if-j-gt0.true in
     let f = c.back-stand.ensures.2 j in
-    let v = c.back-stand.ensures.0 c.args.calendar.now.week.now c.args.calendar.now.valid c.sums_of-sums.ensures in
-    record_answers c.args.calendar.now.valid c.sums_of-sums.ensures c.args.d r.at r.passed r.over c.args.work v.0 c.back-stand.ensures.1 (omega (arith, c.requires.2)) v.1 j r.start f.0 c.if-stand-work.true f.1 _ c.day-day.ensures.0
+    let v = c.back-stand.ensures.0 c.args.calendar.now.week.now c.args.calendar.now.valid c.of-sums.ensures in
+    record_answers c.args.calendar.now.valid c.of-sums.ensures c.args.d r.at r.passed r.over c.args.work v.0 c.back-stand.ensures.1 (omega (arith, c.requires.2)) v.1 j r.start f.0 c.if-stand-work.true f.1 _ c.day-day.ensures.0
     _ _ (ap (λ (p : Period). p.from) c.period-period.ensures) c.work.ensures.0 (omega (arith, c.if-day-lt-FIRST_DAY.false))
 
 pub overflow_sub-rest : goal.overflow_sub-rest
@@ -42,38 +39,38 @@ overflow_sub-rest c = omega (arith, c.back-stand.ensures.1)
 pub returns-then-stand-rest : goal.returns-then-stand-rest
 returns-then-stand-rest c =
     let r = c.back-stand.result in
-    let v = c.back-stand.ensures.0 c.args.calendar.now.week.now c.args.calendar.now.valid c.sums_of-sums.ensures in
+    let v = c.back-stand.ensures.0 c.args.calendar.now.week.now c.args.calendar.now.valid c.of-sums.ensures in
     let late : 0 < r.at → c.args.work ≤ r.start =
     λ j. elim c.if-j-gt0.branch [ then-j-gt0+else-stand-work w ↦ omega (arith, w.if-stand-work.false) | else-j-gt0 w ↦ absurd (omega (arith, w.if-j-gt0.false, j)) ] in
-    over_refuses c.args.calendar.now.valid c.sums_of-sums.ensures c.args.d r.at r.passed r.over c.args.work v.0 c.back-stand.ensures.1 (omega (arith, c.requires.2)) v.1 r.start (λ j. (c.back-stand.ensures.2 j).0) late c.if-stand-rest.true
+    over_refuses c.args.calendar.now.valid c.of-sums.ensures c.args.d r.at r.passed r.over c.args.work v.0 c.back-stand.ensures.1 (omega (arith, c.requires.2)) v.1 r.start (λ j. (c.back-stand.ensures.2 j).0) late c.if-stand-rest.true
 
 pub day_after-next-requires : goal.day_after-next-requires
 day_after-next-requires c =
-    let u = c.sums_of-sums.ensures in
-    let v = c.back-stand.ensures.0 c.args.calendar.now.week.now c.args.calendar.now.valid c.sums_of-sums.ensures in
-    (u.rising, u.none, regular_some c.sums_of-sums.result u.rising v.1.next (omega (arith, v.1.is, c.if-stand-rest.false, c.back-stand.ensures.1)), omega (arith, c.back-stand.ensures.4))
+    let u = c.of-sums.ensures in
+    let v = c.back-stand.ensures.0 c.args.calendar.now.week.now c.args.calendar.now.valid c.of-sums.ensures in
+    (regular_some c.of-sums.result.entries u.rising v.1.next (omega (arith, v.1.is, c.if-stand-rest.false, c.back-stand.ensures.1)), omega (arith, c.back-stand.ensures.4))
 
 pub returns-then-next-le-FIRST_DAY : goal.returns-then-next-le-FIRST_DAY
 returns-then-next-le-FIRST_DAY c =
     let r = c.back-stand.result in
-    let v = c.back-stand.ensures.0 c.args.calendar.now.week.now c.args.calendar.now.valid c.sums_of-sums.ensures in
+    let v = c.back-stand.ensures.0 c.args.calendar.now.week.now c.args.calendar.now.valid c.of-sums.ensures in
     let late : 0 < r.at → c.args.work ≤ r.start =
     λ j. elim c.if-j-gt0.branch [ then-j-gt0+else-stand-work w ↦ omega (arith, w.if-stand-work.false) | else-j-gt0 w ↦ absurd (omega (arith, w.if-j-gt0.false, j)) ] in
     let y = c.day_after-next in
-    day_refuses c.args.calendar.now.valid c.sums_of-sums.ensures c.args.d r.at r.passed r.over c.args.work v.0 c.back-stand.ensures.1 (omega (arith, c.requires.2)) v.1 r.start (λ j. (c.back-stand.ensures.2 j).0) late
+    day_refuses c.args.calendar.now.valid c.of-sums.ensures c.args.d r.at r.passed r.over c.args.work v.0 c.back-stand.ensures.1 (omega (arith, c.requires.2)) v.1 r.start (λ j. (c.back-stand.ensures.2 j).0) late
     y.result (omega (arith, c.if-stand-rest.false)) y.ensures.0 y.ensures.1 (omega (arith, c.if-next-le-FIRST_DAY.true))
 
 pub row_select-requires : goal.row_select-requires
 row_select-requires c =
     let y = c.day_after-next in
-    (row_ordered c.args.calendar.now.valid (y.result % 7) (omega arith), omega arith, omega (arith, y.ensures.0, y.ensures.1, day_some c.sums_of-sums.ensures y.result))
+    (row_ordered c.args.calendar.now.valid (y.result % 7) (omega arith), omega arith, omega (arith, y.ensures.0, y.ensures.1, day_some c.of-sums.ensures y.result))
 
 pub returns : goal.returns
 returns c =
     let r = c.back-stand.result in
-    let v = c.back-stand.ensures.0 c.args.calendar.now.week.now c.args.calendar.now.valid c.sums_of-sums.ensures in
+    let v = c.back-stand.ensures.0 c.args.calendar.now.week.now c.args.calendar.now.valid c.of-sums.ensures in
     let late : 0 < r.at → c.args.work ≤ r.start =
     λ j. elim c.if-j-gt0.branch [ then-j-gt0+else-stand-work w ↦ omega (arith, w.if-stand-work.false) | else-j-gt0 w ↦ absurd (omega (arith, w.if-j-gt0.false, j)) ] in
     let y = c.day_after-next in
-    day_answers c.args.calendar.now.valid c.sums_of-sums.ensures c.args.d r.at r.passed r.over c.args.work v.0 c.back-stand.ensures.1 (omega (arith, c.requires.2)) v.1 r.start (λ j. (c.back-stand.ensures.2 j).0) late
+    day_answers c.args.calendar.now.valid c.of-sums.ensures c.args.d r.at r.passed r.over c.args.work v.0 c.back-stand.ensures.1 (omega (arith, c.requires.2)) v.1 r.start (λ j. (c.back-stand.ensures.2 j).0) late
     y.result (omega (arith, c.if-stand-rest.false)) y.ensures.0 y.ensures.1 (omega (arith, c.if-next-le-FIRST_DAY.false)) _ _ refl c.row_select.ensures.0

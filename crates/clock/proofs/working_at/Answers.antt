@@ -5,7 +5,6 @@ use native.Mathlib.Omega.{arith}
 use Prim.Native.Nat.{◌/◌, ◌%◌}
 use Rattle.std.proofs.Common.{Some}
 use Rattle.calendar.specs.Hours.{worked}
-use Rattle.calendar.specs.Records.{hours_on}
 use Rattle.date.specs.Years.{years_before, years_after, years_within}
 use Rattle.worktime.proofs.Answers.{working_at_out, working_at_in}
 use Rattle.clock.specs.Days.{hand_next, day_next_here, day_next_later, day_next_never, worked_time}

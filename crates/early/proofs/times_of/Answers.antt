@@ -5,7 +5,7 @@ use Rattle.project.specs.declared.Project.{Project}
 use Rattle.early.proofs.times_of.Goals as goal
 
 pub read_project-project-requires : goal.read_project-project-requires
-read_project-project-requires c = c.requires.header.within
+read_project-project-requires c = c.args.sheet.now.read.header.within
 
 pub returns : goal.returns
 unfolding plan_of

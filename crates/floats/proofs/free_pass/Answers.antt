@@ -9,21 +9,21 @@ use Rattle.memory.specs.State.{fill_act}
 use Rattle.memory.specs.Fields.{free_float}
 use Rattle.topology.specs.Frame.{Frame}
 use Rattle.topology.specs.FrameLaws.{frame_fill, frame_then}
-use Rattle.order.specs.Plan.{plan_of}
+use Rattle.order.specs.Plan.{plan_in}
 use Rattle.order.specs.Checks.{order}
 use Rattle.dates.specs.KeptLaws.{ready_kept, recorded_kept}
 use Rattle.floats.specs.PassLaws.{pass_cleared}
 use Rattle.floats.proofs.free_pass.Goals as goal
 
-pub free_each-requires : goal.free_each-requires
-free_each-requires c =
+pub back-requires-clause-ready : goal.back-requires-clause-ready
+back-requires-clause-ready c =
     let x = c.args in
     let S = state x.tables.now in
     let T = state c.fill_act.new.self in
     let h = c.fill_act.ensures in
     let g = h.0 ∙ ap (λ (m : ℕ). fill_act S free_float m 0) c.requires.0.activities in
-    let F : Frame 12 16 0 0 S T = rw g (frame_fill 12 16 0 0 free_float (omega arith) (omega arith) S x.contents.activities 0) in
-    (ready_kept c.requires.0 F h.1 (omega arith), recorded_kept F (plan_of x.sheet.now x.contents) refl refl refl c.requires.1)
+    let F : Frame 12 16 0 0 S T = rw g (frame_fill 12 16 0 0 free_float (omega arith) (omega arith) S x.plan.now.sheet.contents.activities 0) in
+    (ready_kept c.requires.0 F h.1 (omega arith), recorded_kept F (plan_in x.plan.now.sheet) refl refl refl c.requires.1)
 
 pub returns : goal.returns
 returns c =
@@ -32,6 +32,6 @@ returns c =
     let T = state c.fill_act.new.self in
     let h = c.fill_act.ensures in
     let g = h.0 ∙ ap (λ (m : ℕ). fill_act S free_float m 0) c.requires.0.activities in
-    let F : Frame 12 16 0 0 S T = rw g (frame_fill 12 16 0 0 free_float (omega arith) (omega arith) S x.contents.activities 0) in
-    let r = c.free_each.ensures in
-    (λ e. r.0 e ∙ pass_cleared x.sheet.now x.contents F g x.finish (reverse (order (plan_of x.sheet.now x.contents))) e, frame_then 12 16 0 0 F r.1, same_then h.1 r.2)
+    let F : Frame 12 16 0 0 S T = rw g (frame_fill 12 16 0 0 free_float (omega arith) (omega arith) S x.plan.now.sheet.contents.activities 0) in
+    let r = c.back.ensures in
+    (λ e. r.0 e ∙ pass_cleared x.plan.now.sheet.bytes.now x.plan.now.sheet.contents F g x.finish (reverse (order (plan_in x.plan.now.sheet))) e, frame_then 12 16 0 0 F r.1, same_then h.1 r.2)

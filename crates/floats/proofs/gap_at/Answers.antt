@@ -2,7 +2,7 @@
 use mathlib.Core.Path.{◌∙◌}
 use native.Mathlib.Omega.{arith}
 use Rattle.clock.specs.On.{worked_by}
-use Rattle.order.specs.Plan.{plan_of}
+use Rattle.order.specs.Plan.{plan_in}
 use Rattle.bounds.specs.ReadyLaws.{kept_within}
 use Rattle.bounds.specs.LinkLaws.{to_in, lead_fits}
 use Rattle.number.specs.Exits.{handed_on}
@@ -13,7 +13,7 @@ pub tie_at-tie-requires : goal.tie_at-tie-requires
 tie_at-tie-requires c = let q = c.requires in omega (arith, q.0.links, kept_within q.0, q.1)
 
 pub forward_bound-requires : goal.forward_bound-requires
-forward_bound-requires c = let q = c.requires in (q.0.read, q.0.located, lead_fits q.0 _ q.1 _ c.tie_at-tie.ensures)
+forward_bound-requires c = let q = c.requires in lead_fits q.0 _ q.1 _ c.tie_at-tie.ensures
 
 pub act-target-requires : goal.act-target-requires
 act-target-requires c =
@@ -25,7 +25,7 @@ returns c =
     let w = worked_by x.calendar.now in
     c.between.ensures
     ∙ gap_between c.requires.0 x.k c.requires.1 _ c.tie_at-tie.ensures w x.start x.finish _ c.forward_bound.ensures _ _ _ c.in_ok-b.was
-    (c.target_field-field.ensures.0 (plan_of x.sheet.now x.contents)) c.act-target.ensures.0
+    (c.target_field-field.ensures.0 (plan_in x.plan.now.sheet)) c.act-target.ensures.0
 
 pub returns-in_err-b : goal.returns-in_err-b
 returns-in_err-b c = rw (handed_on _ _ c.from_residual.ensures.1) (let x = c.args in

@@ -3,7 +3,7 @@ use mathlib.Core.Path.{sym, ap, ◌∙◌}
 use native.Mathlib.Omega.{arith}
 use Rattle.project.specs.declared.Activity.{Activity}
 use Rattle.calendars.specs.CalendarLaws.{in_plan_worked}
-use Rattle.order.specs.Plan.{plan_of}
+use Rattle.order.specs.Plan.{plan_in}
 use Rattle.passes.specs.Dates.{leaves}
 use Rattle.memory.specs.State.{State}
 use Rattle.memory.specs.Seen.{state}
@@ -27,10 +27,10 @@ pub returns : goal.returns
 returns c =
     let x = c.args in
     let q = c.requires in
-    let p = plan_of x.sheet.now x.contents in
+    let p = plan_in x.sheet.now in
     let S = state x.tables.now in
     let h =
-    held_to p S x.i x.free (omega (arith, activities_are x.sheet.now x.contents, q.1)) _ (in_plan_worked q.2.in_plan) _ (ap (λ (a : Activity). a.kind) q.2.is) _ _ _
+    held_to p S x.i x.free (omega (arith, activities_are x.sheet.now.bytes.now x.sheet.now.contents, q.1)) _ (in_plan_worked q.2.in_plan) _ (ap (λ (a : Activity). a.kind) q.2.is) _ _ _
     c.act-es.ensures.0 c.act-ef.ensures.0 c.act-left.ensures.0 _ _ (sym c.held_move.ensures ∙ c.in_ok-moved.was)
     in
     let e = c.store_move.ensures.0 in
@@ -40,10 +40,10 @@ returns c =
 pub returns-in_err-moved : goal.returns-in_err-moved
 returns-in_err-moved c = rw (handed_on _ _ c.from_residual.ensures.1) (let x = c.args in
     let q = c.requires in
-    let p = plan_of x.sheet.now x.contents in
+    let p = plan_in x.sheet.now in
     let S = state x.tables.now in
     let h =
-    held_refused p S x.i x.free (omega (arith, activities_are x.sheet.now x.contents, q.1)) _ (in_plan_worked q.2.in_plan) _ (ap (λ (a : Activity). a.kind) q.2.is) _ _ _
+    held_refused p S x.i x.free (omega (arith, activities_are x.sheet.now.bytes.now x.sheet.now.contents, q.1)) _ (in_plan_worked q.2.in_plan) _ (ap (λ (a : Activity). a.kind) q.2.is) _ _ _
     c.act-es.ensures.0 c.act-ef.ensures.0 c.act-left.ensures.0 _ (sym c.held_move.ensures ∙ c.in_err-moved.was)
     in
     (h, frame_refl 12 16 0 0 S, same_refl x.tables.now))

@@ -6,7 +6,7 @@ use mir.Syntax.{w64}
 use mir.Facts.{to_z-of_z}
 use Rattle.clock.specs.On.{worked_by}
 use Rattle.memory.specs.Seen.{state}
-use Rattle.order.specs.Plan.{plan_of}
+use Rattle.order.specs.Plan.{plan_in}
 use Rattle.calendars.specs.CalendarLaws.{in_plan_worked}
 use Rattle.bounds.specs.ReadyLaws.{activities_are}
 use Rattle.number.specs.Exits.{handed_on}
@@ -24,18 +24,18 @@ pub returns : goal.returns
 returns c =
     let x = c.args in
     let q = c.requires in
-    let p = plan_of x.sheet.now x.contents in
+    let p = plan_in x.plan.now.sheet in
     let S = state x.tables.now in
     let w = worked_by x.calendar.now in
-    let l = ef_at p S x.i (omega (arith, activities_are x.sheet.now x.contents, q.2)) in
+    let l = ef_at p S x.i (omega (arith, activities_are x.plan.now.sheet.bytes.now x.plan.now.sheet.contents, q.2)) in
     let e = rw (to_z-of_z {w = w64} {z = c.in_ok-slack.slack} (record { sfits = search rules })) at c.least_slack.ensures in
     e ∙ slack_found q.0 x.i x.finish _ w (in_plan_worked q.3) (c.act-ef.ensures.0 ∙ sym l) _ (sym c.between.ensures ∙ c.in_ok-slack.was)
 
 pub returns-in_err-slack : goal.returns-in_err-slack
 returns-in_err-slack c = rw (handed_on _ _ c.from_residual.ensures.1) (let x = c.args in
     let q = c.requires in
-    let p = plan_of x.sheet.now x.contents in
+    let p = plan_in x.plan.now.sheet in
     let S = state x.tables.now in
     let w = worked_by x.calendar.now in
-    let l = ef_at p S x.i (omega (arith, activities_are x.sheet.now x.contents, q.2)) in
+    let l = ef_at p S x.i (omega (arith, activities_are x.plan.now.sheet.bytes.now x.plan.now.sheet.contents, q.2)) in
     slack_refused q.0 x.i x.finish _ w (in_plan_worked q.3) (c.act-ef.ensures.0 ∙ sym l) _ (sym c.between.ensures ∙ c.in_err-slack.was))

@@ -5,15 +5,11 @@ use Rattle.forward.proofs.early_of.Goals as goal
 
 pub activity_of-activity-requires : goal.activity_of-activity-requires
 activity_of-activity-requires c =
-    (c.requires.0.read, c.requires.2)
-
-pub calendar_of-calendar-requires : goal.calendar_of-calendar-requires
-calendar_of-calendar-requires c =
-    (c.requires.0.read, c.requires.0.located)
+    c.requires.2
 
 pub early_with-requires : goal.early_with-requires
 early_with-requires c =
-    (c.requires.0, c.requires.1, c.requires.2, c.activity_of-activity.ensures, in_plan_own c.calendar_of-calendar.ensures c.args.i c.activity_of-activity.ensures refl)
+    (c.requires.0, c.requires.1, c.requires.2, c.activity_of-activity.ensures, in_plan_own c.calendar-calendar.ensures c.args.i c.activity_of-activity.ensures refl)
 
 pub returns : goal.returns
 returns c = c.early_with.ensures

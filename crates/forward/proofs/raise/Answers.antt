@@ -11,14 +11,14 @@ act-k-requires c =
 
 pub loop-k-init : goal.loop-k-init
 loop-k-init c =
-    raising_start c.args.sheet.now c.args.contents c.args.t c.args.tables.now c.args.i c.args.floor c.requires.0 c.requires.2 _ c.act-k.ensures.0
+    raising_start c.args.plan.now c.args.tables.now c.args.i c.args.floor c.requires.0 c.requires.2 _ c.act-k.ensures.0
 
 pub raised_by-requires : goal.raised_by-requires
 raised_by-requires c =
     (c.requires.0, c.requires.1, c.loop-k-test.true)
 
 pub returns-in_err-s : goal.returns-in_err-s
-returns-in_err-s c = rw (handed_on _ _ c.from_residual.ensures.1) (raising_stop c.args.sheet.now c.args.contents c.args.t c.args.tables.now c.args.i c.args.floor c.requires.0 c.loop-k.invariant c.loop-k-test.true (c.raised_by.ensures _ c.requires.3) _ c.in_err-s.was)
+returns-in_err-s c = rw (handed_on _ _ c.from_residual.ensures.1) (raising_stop c.args.plan.now c.args.tables.now c.args.i c.args.floor c.requires.0 c.loop-k.invariant c.loop-k-test.true (c.raised_by.ensures _ c.requires.3) _ c.in_err-s.was)
 
 pub link-k-requires : goal.link-k-requires
 link-k-requires c =
@@ -26,12 +26,12 @@ link-k-requires c =
 
 pub loop-k-smaller : goal.loop-k-smaller
 loop-k-smaller c =
-    raising_less c.args.sheet.now c.args.contents c.args.t c.args.tables.now c.args.i c.args.floor c.requires.0 _ _ c.loop-k-test.true c.link-k.ensures.0
+    raising_less c.args.plan.now c.args.tables.now c.args.i c.args.floor c.requires.0 _ _ c.loop-k-test.true c.link-k.ensures.0
 
 pub loop-k-preserved : goal.loop-k-preserved
 loop-k-preserved c =
-    raising_turn c.args.sheet.now c.args.contents c.args.t c.args.tables.now c.args.i c.args.floor c.requires.0 c.loop-k.invariant c.loop-k-test.true (c.raised_by.ensures _ c.requires.3) _ c.in_ok-s.was _ c.link-k.ensures.0
+    raising_turn c.args.plan.now c.args.tables.now c.args.i c.args.floor c.requires.0 c.loop-k.invariant c.loop-k-test.true (c.raised_by.ensures _ c.requires.3) _ c.in_ok-s.was _ c.link-k.ensures.0
 
 pub returns : goal.returns
 returns c =
-    raising_end c.args.sheet.now c.args.contents c.args.t c.args.tables.now c.args.i c.args.floor c.requires.0 c.loop-k.invariant c.loop-k-test.false
+    raising_end c.args.plan.now c.args.tables.now c.args.i c.args.floor c.requires.0 c.loop-k.invariant c.loop-k-test.false

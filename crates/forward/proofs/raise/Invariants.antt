@@ -4,7 +4,7 @@ use Rattle.forward.specs.RaiseLaws.{Raising}
 use Rattle.forward.proofs.raise.Given as goal
 
 abbrev pub invariant-loop-k : goal.invariant-loop-k
-invariant-loop-k l = Raising l.sheet l.contents l.t l.tables l.i l.floor l.start l.k
+invariant-loop-k l = Raising l.plan l.tables l.i l.floor l.start l.k
 
 abbrev pub decreases-loop-k : goal.decreases-loop-k
-decreases-loop-k l = l.t - l.k
+decreases-loop-k l = l.tables.kept - l.k

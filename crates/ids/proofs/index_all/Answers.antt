@@ -6,7 +6,7 @@ use Rattle.memory.specs.State.{fill_act}
 use Rattle.memory.specs.Fields.{root}
 use Rattle.memory.specs.SeenLaws.{same_then}
 use Rattle.std.proofs.lemmas.Result.{err_from_is_err_and}
-use Rattle.order.specs.Plan.{plan_of}
+use Rattle.order.specs.Plan.{plan_in}
 use Rattle.order.specs.Checks.{judge_activity}
 use Rattle.ids.specs.Index.{Indexed}
 use Rattle.memory.specs.Seen.{state}
@@ -18,9 +18,9 @@ use Rattle.ids.proofs.index_all.Goals as goal
 pub loop-i-init : goal.loop-i-init
 loop-i-init c =
     let x = c.args in
-    let p = plan_of x.sheet.now x.contents in
+    let p = plan_in x.sheet.now in
     let S = state x.tables.now in
-    let a = x.contents.activities in
+    let a = x.sheet.now.contents.activities in
     let T = c.fill_act.new.self in
     let f = c.fill_act.ensures in
     let n = c.requires.activities in

@@ -5,7 +5,7 @@ use native.Mathlib.Omega.{arith}
 use mir.Syntax.{w32}
 use mir.Val.{to_z, of_z}
 use mir.Facts.{to_z-of_z}
-use Rattle.order.specs.Plan.{plan_of}
+use Rattle.order.specs.Plan.{plan_of, plan_in}
 use Rattle.ids.specs.Index.{PlaceFor}
 use Rattle.memory.specs.Seen.{state}
 use Rattle.ids.specs.JudgeLaws.{judged_met, judged_negative, judged_long, judged_uncalendared, judged_fine}
@@ -16,13 +16,13 @@ unfolding plan_of
 returns-in_default c =
     let x = c.args in
     let v = c.in_default.ensures in
-    (record { is = judged_met (plan_of x.sheet.now x.contents) x.i (omega arith) _ _ c.id_of-id.ensures.0 v.0 (omega (arith, v.1)) }, tt)
+    (record { is = judged_met (plan_in x.sheet.now) x.i (omega arith) _ _ c.id_of-id.ensures.0 v.0 (omega (arith, v.1)) }, tt)
 
 pub returns-then-minutes-lt0 : goal.returns-then-minutes-lt0
 unfolding plan_of
 returns-then-minutes-lt0 c =
     let x = c.args in
-    let p = plan_of x.sheet.now x.contents in
+    let p = plan_in x.sheet.now in
     let S = state x.tables.now in
     let d = c.id_of-id.ensures.0 in
     let v = c.in-Err.ensures in
@@ -34,7 +34,7 @@ pub returns-then-minutes-gt48000000 : goal.returns-then-minutes-gt48000000
 unfolding plan_of
 returns-then-minutes-gt48000000 c =
     let x = c.args in
-    let p = plan_of x.sheet.now x.contents in
+    let p = plan_in x.sheet.now in
     let S = state x.tables.now in
     let d = c.id_of-id.ensures.0 in
     let v = c.in-Err.ensures in
@@ -42,26 +42,26 @@ returns-then-minutes-gt48000000 c =
     let s : to_z w32 (of_z w32 m.result) ≡ m.result = to_z-of_z {w = w32} (record { sfits = m.type_inv }) in
     (record { is = judged_long p x.i (omega arith) _ _ d v.0 (omega arith) _ m.ensures (rw s at c.if-minutes-lt0.false) (rw s at c.if-minutes-gt48000000.true) }, tt)
 
-pub returns-then-calendar_of-contents : goal.returns-then-calendar_of-contents
+pub returns-then-calendar_of-sheet : goal.returns-then-calendar_of-sheet
 unfolding plan_of
-returns-then-calendar_of-contents c =
+returns-then-calendar_of-sheet c =
     let x = c.args in
-    let p = plan_of x.sheet.now x.contents in
+    let p = plan_in x.sheet.now in
     let S = state x.tables.now in
     let d = c.id_of-id.ensures.0 in
     let v = c.in-Err.ensures in
     let m = c.minutes_of-minutes in
     let s : to_z w32 (of_z w32 m.result) ≡ m.result = to_z-of_z {w = w32} (record { sfits = m.type_inv }) in
-    (record { is = judged_uncalendared p x.i (omega arith) _ _ d v.0 (omega arith) _ m.ensures (rw s at c.if-minutes-lt0.false) (rw s at c.if-minutes-gt48000000.false) _ c.calendar_of.ensures.0 c.if-calendar_of-contents.true }, tt)
+    (record { is = judged_uncalendared p x.i (omega arith) _ _ d v.0 (omega arith) _ m.ensures (rw s at c.if-minutes-lt0.false) (rw s at c.if-minutes-gt48000000.false) _ c.calendar_of.ensures.0 c.if-calendar_of-sheet.true }, tt)
 
 pub returns : goal.returns
 unfolding plan_of
 returns c =
     let x = c.args in
-    let p = plan_of x.sheet.now x.contents in
+    let p = plan_in x.sheet.now in
     let S = state x.tables.now in
     let d = c.id_of-id.ensures.0 in
     let v = c.in-Err.ensures in
     let m = c.minutes_of-minutes in
     let s : to_z w32 (of_z w32 m.result) ≡ m.result = to_z-of_z {w = w32} (record { sfits = m.type_inv }) in
-    (record { is = judged_fine p x.i (omega arith) _ _ d v.0 (omega arith) _ m.ensures (rw s at c.if-minutes-lt0.false) (rw s at c.if-minutes-gt48000000.false) _ c.calendar_of.ensures.0 c.if-calendar_of-contents.false }, subst (λ (id : ℕ). PlaceFor p S x.i id c.in-Err.vacancy.parent c.in-Err.vacancy.side) d v.1)
+    (record { is = judged_fine p x.i (omega arith) _ _ d v.0 (omega arith) _ m.ensures (rw s at c.if-minutes-lt0.false) (rw s at c.if-minutes-gt48000000.false) _ c.calendar_of.ensures.0 c.if-calendar_of-sheet.false }, subst (λ (id : ℕ). PlaceFor p S x.i id c.in-Err.vacancy.parent c.in-Err.vacancy.side) d v.1)

@@ -16,14 +16,14 @@ returns-then-up-eq0 c =
     let x = c.args in
     let up = (state x.tables.now).act parent in
     let L = c.loop-k in
-    (climb_none up x.tables.now.activities x.i L.up L.k L.invariant (omega arith), omega arith)
+    (climb_none up x.tables.now.activities x.i L.up L.k L.invariant (omega arith), tt)
 
 pub returns-then-up-i : goal.returns-then-up-i
 returns-then-up-i c =
     let x = c.args in
     let up = (state x.tables.now).act parent in
     let L = c.loop-k in
-    (climb_back up x.tables.now.activities x.i L.up L.k L.invariant (omega arith) (omega arith), omega arith)
+    (climb_back up x.tables.now.activities x.i L.up L.k L.invariant (omega arith) (omega arith), (omega arith, omega arith))
 
 pub loop-k-preserved : goal.loop-k-preserved
 loop-k-preserved c =
@@ -37,4 +37,4 @@ returns c =
     let x = c.args in
     let up = (state x.tables.now).act parent in
     let L = c.loop-k in
-    (climb_end up x.tables.now.activities x.i L.up L.k L.invariant (omega arith), omega arith)
+    (climb_end up x.tables.now.activities x.i L.up L.k L.invariant (omega arith), tt)

@@ -1,6 +1,6 @@
 -- `ids::parent_one` meets its contract.
 use mathlib.Core.Path.{refl, ap, ◌∙◌}
-use Rattle.order.specs.Plan.{plan_of}
+use Rattle.order.specs.Plan.{plan_of, plan_in}
 use Rattle.order.specs.Checks.{refuse}
 use Rattle.memory.specs.Seen.{state}
 use Rattle.ids.specs.Answers.{OfParents}
@@ -12,7 +12,7 @@ use Rattle.ids.proofs.parent_one.Goals as goal
 pub returns-then-id-eq0 : goal.returns-then-id-eq0
 returns-then-id-eq0 c =
     let x = c.args in
-    let p = plan_of x.sheet.now x.contents in
+    let p = plan_in x.sheet.now in
     let S = state x.tables.now in
     let P = c.requires.4 in
     let d = c.parent_of-id.ensures.0 in
@@ -27,7 +27,7 @@ pub returns-in_default : goal.returns-in_default
 unfolding plan_of
 returns-in_default c =
     let x = c.args in
-    let p = plan_of x.sheet.now x.contents in
+    let p = plan_in x.sheet.now in
     let S = state x.tables.now in
     let P = c.requires.4 in
     let d = c.parent_of-id.ensures.0 in
@@ -41,7 +41,7 @@ pub returns : goal.returns
 unfolding plan_of
 returns c =
     let x = c.args in
-    let p = plan_of x.sheet.now x.contents in
+    let p = plan_in x.sheet.now in
     let S = state x.tables.now in
     let P = c.requires.4 in
     let d = c.parent_of-id.ensures.0 in

@@ -6,7 +6,7 @@ use Rattle.memory.specs.State.{fill_act}
 use Rattle.memory.specs.Fields.{is_summary}
 use Rattle.memory.specs.SeenLaws.{same_then}
 use Rattle.std.proofs.lemmas.Result.{err_from_is_err_and}
-use Rattle.order.specs.Plan.{plan_of}
+use Rattle.order.specs.Plan.{plan_of, plan_in}
 use Rattle.order.specs.Checks.{judge_parent}
 use Rattle.ids.specs.LentLaws.{still_lent}
 use Rattle.ids.specs.Parented.{Parented}
@@ -20,11 +20,11 @@ pub loop-i-init : goal.loop-i-init
 unfolding plan_of
 loop-i-init c =
     let x = c.args in
-    let p = plan_of x.sheet.now x.contents in
+    let p = plan_in x.sheet.now in
     let S = state x.tables.now in
     let e = c.fill_act.ensures.0 ∙ ap (λ (m : ℕ). fill_act S is_summary m 0) c.requires.0.activities in (
       c.fill_act.ensures.1,
-      passing_start OfParents (Parented p) (judge_parent p) x.contents.activities S (unmarked_kept p S _ e) (unmarked p S _ e),
+      passing_start OfParents (Parented p) (judge_parent p) x.sheet.now.contents.activities S (unmarked_kept p S _ e) (unmarked p S _ e),
     )
 
 pub parent_one-requires : goal.parent_one-requires
@@ -35,7 +35,7 @@ parent_one-requires c =
       still_lent c.requires.0 c.loop-i.invariant.0,
       omega arith,
       c.requires.1,
-      indexed_kept (plan_of x.sheet.now x.contents) X.kept c.requires.2,
+      indexed_kept (plan_in x.sheet.now) X.kept c.requires.2,
       X.holds,
     )
 

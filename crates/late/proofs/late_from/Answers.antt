@@ -1,6 +1,6 @@
 -- `late::late_from` meets its contract. Each way out has its law.
 use mathlib.Core.Path.{sym, ◌∙◌}
-use Rattle.order.specs.Plan.{plan_of}
+use Rattle.order.specs.Plan.{plan_in}
 use Rattle.memory.specs.Seen.{state}
 use Rattle.dates.specs.Columns.{early_in, late_in}
 use Rattle.number.specs.Exits.{handed_on}
@@ -11,7 +11,7 @@ use Rattle.late.proofs.late_from.Goals as goal
 pub returns : goal.returns
 returns c =
     let R = c.requires.0 in
-    let p = plan_of c.args.sheet.now c.args.contents in
+    let p = plan_in c.args.plan.now.sheet in
     let S = state c.args.tables.now in
     let d = early_in p S in
     let m = late_in p S c.args.last in
@@ -24,7 +24,7 @@ returns c =
 
 pub returns-in_err-g : goal.returns-in_err-g
 returns-in_err-g c = rw (handed_on _ _ c.from_residual-in_err-g.ensures.1) (let R = c.requires.0 in
-    let p = plan_of c.args.sheet.now c.args.contents in
+    let p = plan_in c.args.plan.now.sheet in
     let S = state c.args.tables.now in
     let d = early_in p S in
     let m = late_in p S c.args.last in
@@ -34,7 +34,7 @@ returns-in_err-g c = rw (handed_on _ _ c.from_residual-in_err-g.ensures.1) (let 
 
 pub returns-in_err-f : goal.returns-in_err-f
 returns-in_err-f c = rw (handed_on _ _ c.from_residual.ensures.1) (let R = c.requires.0 in
-    let p = plan_of c.args.sheet.now c.args.contents in
+    let p = plan_in c.args.plan.now.sheet in
     let S = state c.args.tables.now in
     let d = early_in p S in
     let m = late_in p S c.args.last in

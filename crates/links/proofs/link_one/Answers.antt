@@ -4,7 +4,7 @@ use lib.ListN.{length-set}
 use Rattle.std.proofs.Common.{inl, inr}
 use Rattle.std.proofs.lemmas.Result.{err_from_is_err_and}
 use Rattle.memory.specs.SeenLaws.{same_refl}
-use Rattle.order.specs.Plan.{plan_of}
+use Rattle.order.specs.Plan.{plan_in}
 use Rattle.links.specs.StoreLaws.{kept_short}
 use Rattle.links.proofs.link_one.Goals as goal
 
@@ -25,7 +25,7 @@ store_tie-requires c =
     let h = c.requires in
     let J = h.0 in
     let A = rw c.in-Some.is at c.in_ok-ends.ensures in
-    (J.lent, h.1, J.activities, J.lengths_are, A.2, kept_short (plan_of x.sheet.now x.contents) x.k A.0 A.1, h.2)
+    (J.lent, h.1, J.activities, J.lengths_are, A.2, kept_short (plan_in x.sheet.now) x.k A.0 A.1, h.2)
 
 pub returns : goal.returns
 returns c =

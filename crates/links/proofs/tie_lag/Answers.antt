@@ -2,28 +2,28 @@
 use mathlib.Core.Path.{ap, ◌∙◌}
 use native.Mathlib.Omega.{arith}
 use mir.Facts.{to_z-of_z}
-use Rattle.order.specs.Plan.{plan_of}
+use Rattle.order.specs.Plan.{plan_of, plan_in}
 use Rattle.ties.specs.Widened.{widened_back}
 use Rattle.links.specs.StoreLaws.{short_before, lag_is}
 use Rattle.links.proofs.tie_lag.Goals as goal
 
 pub minutes_of-minutes-requires : goal.minutes_of-minutes-requires
 unfolding plan_of
-minutes_of-minutes-requires c = let h = c.requires in (h.0, omega (arith, h.4.from_below, h.4.to_below))
+minutes_of-minutes-requires c = let h = c.requires in omega (arith, h.3.from_below, h.3.to_below)
 
 pub bounds-calendars-calendar : goal.bounds-calendars-calendar
 unfolding plan_of
-bounds-calendars-calendar c = let h = c.requires in omega (arith, h.7, h.3.size)
+bounds-calendars-calendar c = let h = c.requires in omega (arith, h.6, h.2.size)
 
 pub lag_minutes-requires : goal.lag_minutes-requires
 unfolding plan_of
 lag_minutes-requires c =
     let x = c.args in
     let h = c.requires in
-    let F = h.2 x.from h.4.from_below in
+    let F = h.1 x.from h.3.from_below in
     rw (widened_back _ (record { sfits = c.minutes_of-minutes.type_inv }), c.minutes_of-minutes.ensures, c.lag_of-lag.ensures) (
-      short_before (plan_of x.sheet.now x.contents) x.k h.5,
-      omega (arith, h.3.is x.calendar h.7, h.3.low x.calendar h.7),
+      short_before (plan_in x.sheet.now) x.k h.4,
+      omega (arith, h.2.is x.calendar h.6, h.2.low x.calendar h.6),
       omega (arith, F.whole, F.short),
     )
 
@@ -32,9 +32,9 @@ unfolding plan_of
 returns c =
     let x = c.args in
     let h = c.requires in
-    let p = plan_of x.sheet.now x.contents in
+    let p = plan_in x.sheet.now in
     let e = rw (widened_back _ (record { sfits = c.minutes_of-minutes.type_inv })) at c.lag_minutes.ensures.0 in
     rw (to_z-of_z (record { sfits = c.lag_minutes.type_inv }))
     (e
-    ∙ lag_is p x.k x.from x.to h.4 _ _ _ c.lag_of-lag.ensures (h.3.is x.calendar h.7 ∙ ap p.day_length h.6)
+    ∙ lag_is p x.k x.from x.to h.3 _ _ _ c.lag_of-lag.ensures (h.2.is x.calendar h.6 ∙ ap p.day_length h.5)
     c.minutes_of-minutes.ensures)

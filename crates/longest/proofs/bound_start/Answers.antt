@@ -2,7 +2,7 @@
 use mathlib.Core.Path.{sym, ◌∙◌}
 use native.Mathlib.Omega.{arith}
 use Rattle.memory.specs.Seen.{state}
-use Rattle.order.specs.Plan.{plan_of}
+use Rattle.order.specs.Plan.{plan_in}
 use Rattle.dates.specs.Columns.{early_in}
 use Rattle.number.specs.Exits.{handed_on}
 use Rattle.longest.specs.OwnLaws.{own_worked, own_place, link_in, start_left}
@@ -11,7 +11,7 @@ use Rattle.longest.proofs.bound_start.Goals as goal
 
 pub returns-in_err-b : goal.returns-in_err-b
 returns-in_err-b c = rw (handed_on _ _ c.from_residual.ensures.1) (let x = c.args in
-    let p = plan_of x.sheet.now x.contents in
+    let p = plan_in x.plan.now.sheet in
     let d = early_in p (state x.tables.now) in
     let b = c.link_bound in
     sym (start_no_bound p d x.i x.k b.result c.in_err-b.field-0.0 b.ensures c.in_err-b.was))
@@ -21,7 +21,7 @@ link-code-requires c = (omega (arith, c.requires.0.ready.links, link_in c.requir
 
 pub returns-in_err-s : goal.returns-in_err-s
 returns-in_err-s c = rw (handed_on _ _ c.from_residual-in_err-s.ensures.1) (let x = c.args in
-    let p = plan_of x.sheet.now x.contents in
+    let p = plan_in x.plan.now.sheet in
     let d = early_in p (state x.tables.now) in
     let b = c.link_bound in
     let q = c.start_for in
@@ -34,7 +34,7 @@ returns-in_err-s c = rw (handed_on _ _ c.from_residual-in_err-s.ensures.1) (let 
 pub returns : goal.returns
 returns c =
     let x = c.args in
-    let p = plan_of x.sheet.now x.contents in
+    let p = plan_in x.plan.now.sheet in
     let d = early_in p (state x.tables.now) in
     let b = c.link_bound in
     let q = c.start_for in

@@ -2,7 +2,7 @@
 use mathlib.Core.Path.{sym, ◌∙◌}
 use native.Mathlib.Omega.{arith}
 use Rattle.memory.specs.Seen.{state}
-use Rattle.order.specs.Plan.{plan_of}
+use Rattle.order.specs.Plan.{plan_in}
 use Rattle.dates.specs.Columns.{early_in}
 use Rattle.number.specs.Exits.{handed_on}
 use Rattle.longest.specs.OwnLaws.{link_in, start_read, from_inside, completed_read}
@@ -11,7 +11,7 @@ use Rattle.longest.proofs.drives.Goals as goal
 
 pub returns-in_err-u : goal.returns-in_err-u
 returns-in_err-u c = rw (handed_on _ _ c.from_residual.ensures.1) (let x = c.args in
-    let p = plan_of x.sheet.now x.contents in
+    let p = plan_in x.plan.now.sheet in
     let d = early_in p (state x.tables.now) in
     let b = c.bound_start in
     λ go. drives_refused p d x.i x.k go b.result b.ensures c.in_err-u.field-0.0 c.in_err-u.was)
@@ -19,7 +19,7 @@ returns-in_err-u c = rw (handed_on _ _ c.from_residual.ensures.1) (let x = c.arg
 pub returns-then-u-act : goal.returns-then-u-act
 returns-then-u-act c =
     let x = c.args in
-    let p = plan_of x.sheet.now x.contents in
+    let p = plan_in x.plan.now.sheet in
     let d = early_in p (state x.tables.now) in
     let b = c.bound_start in
     let e = start_read c.requires.0 x.i c.requires.2 c.act.result c.act.ensures.0 in
@@ -34,7 +34,7 @@ recorded_at-recorded-requires c = omega (arith, c.requires.0.ready.activities, f
 pub returns : goal.returns
 returns c =
     let x = c.args in
-    let p = plan_of x.sheet.now x.contents in
+    let p = plan_in x.plan.now.sheet in
     let d = early_in p (state x.tables.now) in
     let b = c.bound_start in
     let e = start_read c.requires.0 x.i c.requires.2 c.act.result c.act.ensures.0 in

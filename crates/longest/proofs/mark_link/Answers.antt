@@ -4,7 +4,7 @@ use mathlib.Core.Path.{ap, ◌∙◌}
 use native.Mathlib.Omega.{arith}
 use Rattle.memory.specs.Seen.{state}
 use Rattle.memory.specs.SeenLaws.{same_refl}
-use Rattle.order.specs.Plan.{plan_of}
+use Rattle.order.specs.Plan.{plan_in}
 use Rattle.topology.specs.FrameLaws.{frame_refl}
 use Rattle.dates.specs.Columns.{early_in}
 use Rattle.bounds.specs.ReadyLaws.{activities_are}
@@ -17,7 +17,7 @@ use Rattle.longest.proofs.mark_link.Goals as goal
 pub returns-in_err-sets : goal.returns-in_err-sets
 returns-in_err-sets c =
     rw (handed_on _ _ c.from_residual.ensures.1) (let x = c.args in
-    let p = plan_of x.sheet.now x.contents in
+    let p = plan_in x.plan.now.sheet in
     let S = state x.tables.now in
     let b = c.drives in
     (λ other go. mark_refused p (early_in p S) x.i x.k S other go b.result b.ensures c.in_err-sets.field-0.0 c.in_err-sets.was, frame_refl 16 17 0 0 S, same_refl x.tables.now))
@@ -25,7 +25,7 @@ returns-in_err-sets c =
 pub returns-else-sets : goal.returns-else-sets
 returns-else-sets c =
     let x = c.args in
-    let p = plan_of x.sheet.now x.contents in
+    let p = plan_in x.plan.now.sheet in
     let S = state x.tables.now in
     let b = c.drives in
     (λ other go. mark_leaves p (early_in p S) x.i x.k S other go b.result b.ensures (c.in_ok-sets.was ∙ ap Ok c.if-sets.false), frame_refl 16 17 0 0 S, same_refl x.tables.now)
@@ -39,7 +39,7 @@ put_act-requires c = (omega (arith, c.requires.0.ready.activities, from_inside c
 pub returns-then-sets : goal.returns-then-sets
 returns-then-sets c =
     let x = c.args in
-    let p = plan_of x.sheet.now x.contents in
+    let p = plan_in x.plan.now.sheet in
     let S = state x.tables.now in
     let b = c.drives in
     let g = c.link-from in
@@ -47,7 +47,7 @@ returns-then-sets c =
     let e = c.put_act.ensures in (
       λ other go.
           mark_sets p (early_in p S) x.i x.k S other go b.result b.ensures (c.in_ok-sets.was ∙ ap Ok c.if-sets.true) T g.result
-          (omega (arith, from_inside c.requires.0 x.k c.requires.3 g.result g.ensures.0, activities_are x.sheet.now x.contents))
+          (omega (arith, from_inside c.requires.0 x.k c.requires.3 g.result g.ensures.0, activities_are x.plan.now.sheet.bytes.now x.plan.now.sheet.contents))
           (from_read c.requires.0 x.k c.requires.3 g.result g.ensures.0) e.0,
       frame_mark (frame_refl 16 17 0 0 S) g.result 1 e.0,
       e.1,

@@ -3,7 +3,6 @@ use Rattle.std.specs.Prelude.{Ok}
 use borrow.Author.Rules.{rules}
 use mathlib.Core.Path.{◌≡◌, sym, ap, ◌∙◌}
 use mathlib.Core.Bool.{true, false}
-use mathlib.Core.List.{List}
 use Prim.Native.Nat.{ℕ, ◌<◌}
 use native.Mathlib.Omega.{arith}
 use mir.Facts.{to_z-of_z}
@@ -13,7 +12,6 @@ use Rattle.std.proofs.Common.{◌≢◌}
 use Rattle.number.specs.Zed.{up}
 use Rattle.number.specs.Bit.{bit}
 use Rattle.number.specs.BitLaws.{mark_none, mark_some}
-use Rattle.sheet.specs.declared.Contents.{Contents}
 use Rattle.project.specs.declared.Activity.{Activity}
 use Rattle.project.specs.declared.Status.{Status}
 use Rattle.project.specs.declared.Status.TheVariants.{NotStarted}
@@ -22,25 +20,25 @@ use Rattle.memory.specs.declared.Tables.{Tables}
 use Rattle.memory.specs.Seen.{state}
 use Rattle.memory.specs.Fields.{is_summary}
 use Rattle.placing.specs.declared.Actual.TheVariants.{Unstarted}
-use Rattle.order.specs.Plan.{Plan, plan_of}
+use Rattle.order.specs.Plan.{Plan, plan_in, plan_of}
 use Rattle.order.specs.Ids.{summary}
 use Rattle.passes.specs.Plan.{recorded, full}
-use Rattle.calendars.specs.declared.plan_calendar.PlanCalendar.{PlanCalendar}
+use Rattle.calendars.specs.declared.plan_sheet.PlanSheet.{PlanSheet}
 use Rattle.dates.specs.Standing.{Ready}
 use Rattle.remaining.specs.LeftLaws.{recorded_summary, recorded_none, full_summary, full_else, left_unstarted, is_below}
 use Rattle.remaining.specs.RowLaws.{row_kept}
 use Rattle.remaining.proofs.record_one.Goals as goal
 
 -- the mark m tells summaries from others
-module _ {s : List ℕ} {x : Contents} {calendars : List PlanCalendar} {t : ℕ} {tables : Tables} (R : Ready s x calendars t tables) {i m : ℕ} (l : i < x.activities) (e : m ≡ (state tables).act is_summary i) where
-  marked : m ≡ bit (summary (plan_of s x) i)
+module _ {plan : PlanSheet} {tables : Tables} (R : Ready plan tables) {i m : ℕ} (l : i < plan.sheet.contents.activities) (e : m ≡ (state tables).act is_summary i) where
+  marked : m ≡ bit (summary (plan_in plan.sheet) i)
   unfolding plan_of
   marked = e ∙ R.standing.marks i l
 
-  is-summary : m ≢ 0 → summary (plan_of s x) i ≡ true
+  is-summary : m ≢ 0 → summary (plan_in plan.sheet) i ≡ true
   is-summary n = mark_some _ marked n
 
-  no-summary : m ≡ 0 → summary (plan_of s x) i ≡ false
+  no-summary : m ≡ 0 → summary (plan_in plan.sheet) i ≡ false
   no-summary z = mark_none _ marked z
 
 -- activity i, no summary
@@ -55,14 +53,14 @@ module _ (p : Plan) (i : ℕ) {a : Activity} (e : a ≡ p.activity i) (n : summa
 pub keep-requires : goal.keep-requires
 keep-requires c =
     let x = c.args in
-    let p = plan_of x.sheet.now x.contents in
+    let p = plan_in x.plan.now.sheet in
     let y = is-summary c.requires.0 c.requires.1 c.act-mark.ensures.0 c.if-mark-ne0.true in
     (omega (arith, c.requires.0.activities, c.requires.1), is_below p x.i (Ok Unstarted) (sym (recorded_summary p x.i y)), omega arith)
 
 pub returns-then-mark-ne0 : goal.returns-then-mark-ne0
 returns-then-mark-ne0 c =
     let x = c.args in
-    let p = plan_of x.sheet.now x.contents in
+    let p = plan_in x.plan.now.sheet in
     let y = is-summary c.requires.0 c.requires.1 c.act-mark.ensures.0 c.if-mark-ne0.true in
     let e = recorded_summary p x.i y in (
       row_kept p x.i _ _ Unstarted 0 c.keep.ensures.0 (sym e) (left_unstarted p x.i e ∙ ap Ok (full_summary p x.i y)),
@@ -70,22 +68,13 @@ returns-then-mark-ne0 c =
     )
 
 pub activity_of-activity-requires : goal.activity_of-activity-requires
-activity_of-activity-requires c = (c.requires.0.read, c.requires.1)
+activity_of-activity-requires c = c.requires.1
 
 pub record_dated-requires : goal.record_dated-requires
 record_dated-requires c =
     let x = c.args in
     let e = c.activity_of-activity.ensures in
-    let n = no-summary c.requires.0 c.requires.1 c.act-mark.ensures.0 c.if-mark-ne0.false in (
-      c.requires.0.read,
-      c.requires.0.located,
-      c.requires.0.activities,
-      c.requires.1,
-      e,
-      n,
-      whole_is (plan_of x.sheet.now x.contents) x.i e n (record { sfits = search rules }) c.minutes_of-whole.ensures.0,
-      c.minutes_of-whole.ensures.1,
-    )
+    let n = no-summary c.requires.0 c.requires.1 c.act-mark.ensures.0 c.if-mark-ne0.false in (c.requires.0.activities, c.requires.1, e, n, whole_is (plan_in x.plan.now.sheet) x.i e n (record { sfits = search rules }) c.minutes_of-whole.ensures.0, c.minutes_of-whole.ensures.1)
 
 pub returns-in_default : goal.returns-in_default
 returns-in_default c = c.record_dated.ensures
@@ -93,7 +82,7 @@ returns-in_default c = c.record_dated.ensures
 pub keep-requires-2 : goal.keep-requires-2
 keep-requires-2 c =
     let x = c.args in
-    let p = plan_of x.sheet.now x.contents in
+    let p = plan_in x.plan.now.sheet in
     let n = no-summary c.requires.0 c.requires.1 c.act-mark.ensures.0 c.if-mark-ne0.false in
     let r = none-recorded p x.i c.activity_of-activity.ensures n c.status_of-status.ensures c.in-NotStarted.is in
     (omega (arith, c.requires.0.activities, c.requires.1), is_below p x.i (Ok Unstarted) (sym r), c.minutes_of-whole.ensures.1)
@@ -101,7 +90,7 @@ keep-requires-2 c =
 pub returns : goal.returns
 returns c =
     let x = c.args in
-    let p = plan_of x.sheet.now x.contents in
+    let p = plan_in x.plan.now.sheet in
     let e = c.activity_of-activity.ensures in
     let n = no-summary c.requires.0 c.requires.1 c.act-mark.ensures.0 c.if-mark-ne0.false in
     let r = none-recorded p x.i e n c.status_of-status.ensures c.in-NotStarted.is in

@@ -4,7 +4,7 @@ use native.Mathlib.Omega.{arith}
 use Rattle.memory.specs.Seen.{state}
 use Rattle.memory.specs.SeenLaws.{same_refl, same_then}
 use Rattle.topology.specs.FrameLaws.{frame_refl, frame_then}
-use Rattle.order.specs.Plan.{plan_of}
+use Rattle.order.specs.Plan.{plan_of, plan_in}
 use Rattle.placing.proofs.PlacingSound.{clash}
 use Rattle.dates.specs.KeptLaws.{ready_kept}
 use Rattle.number.specs.Exits.{handed_on}
@@ -15,7 +15,7 @@ pub loop-i-init : goal.loop-i-init
 loop-i-init c =
     let x = c.args in
     let S = state x.tables.now in
-    (same_refl _, frame_refl 14 20 0 0 S, passed_start (plan_of x.sheet.now x.contents) S)
+    (same_refl _, frame_refl 14 20 0 0 S, passed_start (plan_in x.plan.now.sheet) S)
 
 pub record_one-requires : goal.record_one-requires
 record_one-requires c =
@@ -27,7 +27,7 @@ unfolding plan_of
 returns-in_err-record_one c = rw (handed_on _ _ c.from_residual.ensures.1) (let e = c.record_one.ensures in
     let L = c.loop-i in
     let x = c.args in
-    let p = plan_of x.sheet.now x.contents in (
+    let p = plan_in x.plan.now.sheet in (
       passed_stop p L.i _ _ L.invariant.2 _ e.0 _ c.in_err-record_one.was (omega arith),
       λ d. clash (cc),
       frame_then 14 20 0 0 L.invariant.1 e.0.frame,
@@ -39,7 +39,7 @@ loop-i-preserved c =
     let e = c.record_one.ensures in
     let L = c.loop-i in
     let x = c.args in
-    let p = plan_of x.sheet.now x.contents in (
+    let p = plan_in x.plan.now.sheet in (
       same_then L.invariant.0 e.1,
       frame_then 14 20 0 0 L.invariant.1 e.0.frame,
       passed_turn p L.i _ _ L.invariant.2 _ e.0 c.in_ok-record_one.was,
@@ -50,7 +50,7 @@ unfolding plan_of
 returns c =
     let L = c.loop-i in
     let x = c.args in
-    let p = plan_of x.sheet.now x.contents in
-    let d : L.i ≡ x.contents.activities = omega arith in
+    let p = plan_in x.plan.now.sheet in
+    let d : L.i ≡ x.plan.now.sheet.contents.activities = omega arith in
     let e = passed_end p L.i (state L.tables) d L.invariant.2 in
     (e.0, λ q. e.1, L.invariant.1, L.invariant.0)

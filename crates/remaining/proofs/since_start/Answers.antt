@@ -7,7 +7,7 @@ use mir.Facts.{to_z-of_z}
 use mir.Syntax.{w64}
 use mir.Val.{SFits}
 use Rattle.worktime.specs.Walks.{between}
-use Rattle.order.specs.Plan.{plan_of}
+use Rattle.order.specs.Plan.{plan_in}
 use Rattle.calendars.specs.CalendarLaws.{in_plan_worked}
 use Rattle.dates.specs.ReadLaws.{plan_data_date}
 use Rattle.number.specs.Exits.{handed_on}
@@ -18,8 +18,8 @@ pub returns-in-None : goal.returns-in-None
 returns-in-None c =
     let x = c.args in
     sym
-    (since_none (plan_of x.sheet.now x.contents) x.i x.start _ x.whole
-    (sym (plan_data_date x.sheet.now x.contents) ∙ sym c.read_optional_date.ensures ∙ c.in-None.is) c.requires.2)
+    (since_none (plan_in x.sheet.now) x.i x.start _ x.whole
+    (sym (plan_data_date x.sheet.now.bytes.now x.sheet.now.contents) ∙ sym c.read_optional_date.ensures ∙ c.in-None.is) c.requires.1)
 
 pub returns-in_ok-done-in-Some : goal.returns-in_ok-done-in-Some
 returns-in_ok-done-in-Some c =
@@ -29,14 +29,14 @@ returns-in_ok-done-in-Some c =
     let u = c.max-by.ensures ∙ ap (λ (m : ℕ). max m x.start) c.midnight.ensures.0 in
     ap Ok n
     ∙ sym
-    (since_done (plan_of x.sheet.now x.contents) x.i x.start _ _ x.whole _
-    (sym (plan_data_date x.sheet.now x.contents) ∙ sym c.read_optional_date.ensures ∙ c.in-Some.is) c.requires.2
-    ((λ z. between (sym (in_plan_worked c.requires.1) z) x.start (sym u z)) ∙ sym c.between.ensures ∙ c.in_ok-done-in-Some.was))
+    (since_done (plan_in x.sheet.now) x.i x.start _ _ x.whole _
+    (sym (plan_data_date x.sheet.now.bytes.now x.sheet.now.contents) ∙ sym c.read_optional_date.ensures ∙ c.in-Some.is) c.requires.1
+    ((λ z. between (sym (in_plan_worked c.requires.0) z) x.start (sym u z)) ∙ sym c.between.ensures ∙ c.in_ok-done-in-Some.was))
 
 pub returns-in_err-done-in-Some : goal.returns-in_err-done-in-Some
 returns-in_err-done-in-Some c = rw (handed_on _ _ c.from_residual.ensures.1) (let x = c.args in
     let u = c.max-by.ensures ∙ ap (λ (m : ℕ). max m x.start) c.midnight.ensures.0 in
     sym
-    (since_refused (plan_of x.sheet.now x.contents) x.i x.start _ _ _
-    (sym (plan_data_date x.sheet.now x.contents) ∙ sym c.read_optional_date.ensures ∙ c.in-Some.is)
-    ((λ z. between (sym (in_plan_worked c.requires.1) z) x.start (sym u z)) ∙ sym c.between.ensures ∙ c.in_err-done-in-Some.was)))
+    (since_refused (plan_in x.sheet.now) x.i x.start _ _ _
+    (sym (plan_data_date x.sheet.now.bytes.now x.sheet.now.contents) ∙ sym c.read_optional_date.ensures ∙ c.in-Some.is)
+    ((λ z. between (sym (in_plan_worked c.requires.0) z) x.start (sym u z)) ∙ sym c.between.ensures ∙ c.in_err-done-in-Some.was)))

@@ -16,6 +16,6 @@ loop-f-preserved c =
     let p = L.invariant.0 in
     let q = ap (λ (n : ℕ). L.f * n) p.links in (
       search rules,
-      columns_then (64 * s.activities) s.links (of_link x.t) (inl (omega arith)) (omega arith) (omega arith) L.invariant.1
-          (column_cleared (64 * s.activities) s.links x.t L.f (omega arith) (clear_at (omega (arith, p, q)) (omega (arith, p, q)) c.clear_cells.ensures)),
+      columns_then (64 * s.activities) s.links (of_link x.tables.now.kept) (inl (omega arith)) (omega arith) (omega arith) L.invariant.1
+          (column_cleared (64 * s.activities) s.links x.tables.now.kept L.f (omega arith) (clear_at (omega (arith, p, p.kept, q)) (omega (arith, p, p.kept, q)) c.clear_cells.ensures)),
     )

@@ -12,10 +12,10 @@ use Rattle.memory.specs.Fields.{total_float, shown_free, is_critical, is_longest
 use Rattle.results.proofs.put_floats.Goals as goal
 
 pub put_act-requires-2 : goal.put_act-requires-2
-put_act-requires-2 c = (omega (arith, c.requires.0, c.put_act_signed.ensures.1.activities, c.put_act.ensures.1.activities), omega arith, omega (arith, c.number_of.ensures, bit_le c.args.x.critical))
+put_act-requires-2 c = (omega (arith, c.requires.0, c.put_act_signed.ensures.1.activities, c.put_act.ensures.1.activities), omega arith, omega (arith, c.from.ensures, bit_le c.args.x.critical))
 
 pub put_act-requires-3 : goal.put_act-requires-3
-put_act-requires-3 c = (omega (arith, c.requires.0, c.put_act_signed.ensures.1.activities, c.put_act.ensures.1.activities, c.put_act-2.ensures.1.activities), omega arith, omega (arith, c.number_of-2.ensures, bit_le c.args.x.path))
+put_act-requires-3 c = (omega (arith, c.requires.0, c.put_act_signed.ensures.1.activities, c.put_act.ensures.1.activities, c.put_act-2.ensures.1.activities), omega arith, omega (arith, c.from-2.ensures, bit_le c.args.x.path))
 
 pub returns : goal.returns
 returns c =
@@ -26,6 +26,6 @@ returns c =
       c.put_act-3.ensures.0
           ∙ (λ z. put_act ((c.put_act-2.ensures.0
           ∙ (λ z. put_act ((c.put_act.ensures.0
-          ∙ ap (λ (T : State). put_act T shown_free i x.free) (c.put_act_signed.ensures.0 ∙ ap (put_act_z S total_float i) f)) z) is_critical i (c.number_of.ensures z))) z) is_longest i (c.number_of-2.ensures z)),
+          ∙ ap (λ (T : State). put_act T shown_free i x.free) (c.put_act_signed.ensures.0 ∙ ap (put_act_z S total_float i) f)) z) is_critical i (c.from.ensures z))) z) is_longest i (c.from-2.ensures z)),
       same_then c.put_act_signed.ensures.1 (same_then c.put_act.ensures.1 (same_then c.put_act-2.ensures.1 c.put_act-3.ensures.1)),
     )

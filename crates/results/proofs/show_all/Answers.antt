@@ -3,20 +3,20 @@ use native.Mathlib.Omega.{arith}
 use Rattle.memory.specs.Seen.{state}
 use Rattle.memory.specs.SeenLaws.{same_refl, same_then}
 use Rattle.topology.specs.FrameLaws.{frame_then}
-use Rattle.order.specs.Plan.{plan_of}
+use Rattle.order.specs.Plan.{plan_of, plan_in}
 use Rattle.number.specs.Exits.{handed_on}
 use Rattle.results.specs.View.{shown_to}
 use Rattle.results.proofs.RowLaws.{to_show_kept, shows_start, shows_turn, shows_stop, shows_end}
 use Rattle.results.proofs.show_all.Goals as goal
 
 pub read_project-project-requires : goal.read_project-project-requires
-read_project-project-requires c = omega (arith, c.requires.read.header.within)
+read_project-project-requires c = omega (arith, c.args.plan.now.sheet.read.header.within)
 
 pub loop-i-init : goal.loop-i-init
 unfolding plan_of
 loop-i-init c =
     let x = c.args in
-    let p = plan_of x.sheet.now x.contents in
+    let p = plan_in x.plan.now.sheet in
     (same_refl _, c.read_project-project.ensures, shows_start p (state x.tables.now))
 
 pub show_one-requires : goal.show_one-requires
@@ -27,7 +27,7 @@ show_one-requires c =
 pub returns-in_err-show_one : goal.returns-in_err-show_one
 unfolding plan_of
 returns-in_err-show_one c = rw (handed_on _ _ c.from_residual.ensures.1) (let x = c.args in
-    let p = plan_of x.sheet.now x.contents in
+    let p = plan_in x.plan.now.sheet in
     let L = c.loop-i in
     let e = c.show_one.ensures in
     let T = state c.show_one.new.tables in (
@@ -40,7 +40,7 @@ pub loop-i-preserved : goal.loop-i-preserved
 unfolding plan_of
 loop-i-preserved c =
     let x = c.args in
-    let p = plan_of x.sheet.now x.contents in
+    let p = plan_in x.plan.now.sheet in
     let L = c.loop-i in
     let e = c.show_one.ensures in
     (same_then L.invariant.0 e.2, L.invariant.1, shows_turn p (state x.tables.now) (state L.tables) _ L.i L.invariant.2 (omega arith) _ e.0 e.1 c.in_ok-show_one.was)
@@ -49,6 +49,6 @@ pub returns : goal.returns
 unfolding plan_of
 returns c =
     let x = c.args in
-    let p = plan_of x.sheet.now x.contents in
+    let p = plan_in x.plan.now.sheet in
     let L = c.loop-i in
     ((λ f other. shows_end p (state x.tables.now) (state L.tables) L.i L.invariant.2 (omega arith) f other), L.invariant.2.frame, L.invariant.0)

@@ -3,7 +3,7 @@ use native.Mathlib.Omega.{arith}
 use Rattle.memory.specs.Seen.{state}
 use Rattle.memory.specs.SeenLaws.{same_then}
 use Rattle.topology.specs.FrameLaws.{frame_then, frame_wider}
-use Rattle.order.specs.Plan.{plan_of}
+use Rattle.order.specs.Plan.{plan_of, plan_in}
 use Rattle.results.specs.View.{ran_in, shown_in}
 use Rattle.results.proofs.RowLaws.{to_show, to_show_kept}
 use Rattle.number.specs.Exits.{handed_on}
@@ -15,14 +15,14 @@ unfolding plan_of
 show_all-requires c =
     let x = c.args in
     let h = c.requires in
-    let p = plan_of x.sheet.now x.contents in
+    let p = plan_in x.plan.now.sheet in
     let S₀ = state x.tables.now in to_show h.0 h.2 h.1
 
 pub returns-in_err-show_all : goal.returns-in_err-show_all
 unfolding plan_of
 returns-in_err-show_all c = rw (handed_on _ _ c.from_residual.ensures.1) (let x = c.args in
     let h = c.requires in
-    let p = plan_of x.sheet.now x.contents in
+    let p = plan_in x.plan.now.sheet in
     let S₀ = state x.tables.now in
     let e = c.show_all.ensures in
     let T = state c.show_all.new.tables in
@@ -33,7 +33,7 @@ unfolding plan_of
 roll_up-requires c =
     let x = c.args in
     let h = c.requires in
-    let p = plan_of x.sheet.now x.contents in
+    let p = plan_in x.plan.now.sheet in
     let S₀ = state x.tables.now in
     let e = c.show_all.ensures in
     (to_show_kept (omega arith) e.1 e.2 (to_show h.0 h.2 h.1), to_roll_kept p (omega arith) e.1 (to_roll h.0))
@@ -43,7 +43,7 @@ unfolding plan_of
 returns c =
     let x = c.args in
     let h = c.requires in
-    let p = plan_of x.sheet.now x.contents in
+    let p = plan_in x.plan.now.sheet in
     let S₀ = state x.tables.now in
     let e = c.show_all.ensures in
     let d = c.roll_up.ensures in

@@ -5,7 +5,7 @@ use native.Mathlib.Omega.{arith}
 use Rattle.memory.specs.Seen.{state}
 use Rattle.memory.specs.SeenLaws.{same_refl, same_then}
 use Rattle.topology.specs.FrameLaws.{frame_refl, frame_then}
-use Rattle.order.specs.Plan.{plan_of}
+use Rattle.order.specs.Plan.{plan_of, plan_in}
 use Rattle.results.specs.View.{shown_in}
 use Rattle.results.proofs.RowLaws.{to_show_kept}
 use Rattle.number.specs.Exits.{handed_on}
@@ -25,12 +25,12 @@ roll_depth-requires c =
     let h = c.requires in
     let L = c.loop-d in
     let F = L.invariant.1.frame in
-    (to_show_kept (omega arith) F L.invariant.0 h.0, deep_kept (plan_of x.sheet.now x.contents) (state x.tables.now) (state L.tables) F h.1, omega arith, omega arith, h.2)
+    (to_show_kept (omega arith) F L.invariant.0 h.0, deep_kept (plan_in x.plan.now.sheet) (state x.tables.now) (state L.tables) F h.1, omega arith, omega arith, h.2)
 
 pub returns-in_err-roll_depth : goal.returns-in_err-roll_depth
 unfolding plan_of
 returns-in_err-roll_depth c = rw (handed_on _ _ c.from_residual.ensures.1) (let x = c.args in
-    let p = plan_of x.sheet.now x.contents in
+    let p = plan_in x.plan.now.sheet in
     let S₀ = state x.tables.now in
     let L = c.loop-d in
     let e = c.roll_depth.ensures in
@@ -43,7 +43,7 @@ pub loop-d-preserved : goal.loop-d-preserved
 unfolding plan_of
 loop-d-preserved c =
     let x = c.args in
-    let p = plan_of x.sheet.now x.contents in
+    let p = plan_in x.plan.now.sheet in
     let S₀ = state x.tables.now in
     let L = c.loop-d in
     let e = c.roll_depth.ensures in
@@ -55,7 +55,7 @@ pub returns : goal.returns
 unfolding plan_of
 returns c =
     let x = c.args in
-    let p = plan_of x.sheet.now x.contents in
+    let p = plan_in x.plan.now.sheet in
     let S₀ = state x.tables.now in
     let L = c.loop-d in
     let n : L.d ≡ 0 = omega arith in

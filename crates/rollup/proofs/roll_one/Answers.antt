@@ -7,7 +7,7 @@ use Rattle.memory.specs.SeenLaws.{same_refl}
 use Rattle.memory.specs.Fields.{parent, first_child}
 use Rattle.topology.specs.Frame.{Frame}
 use Rattle.topology.specs.FrameLaws.{frame_refl}
-use Rattle.order.specs.Plan.{plan_of}
+use Rattle.order.specs.Plan.{plan_of, plan_in}
 use Rattle.results.specs.View.{shown_in}
 use Rattle.results.proofs.RowLaws.{shown_frame}
 use Rattle.number.specs.Exits.{handed_on}
@@ -16,26 +16,26 @@ use Rattle.rollup.specs.Roll.{child_sum}
 use Rattle.rollup.specs.RollingLaws.{one_none, one_done, one_refused}
 use Rattle.rollup.proofs.roll_one.Goals as goal
 
-pub returns-then-first-contents : goal.returns-then-first-contents
+pub returns-then-first-plan : goal.returns-then-first-plan
 unfolding plan_of
-returns-then-first-contents c =
+returns-then-first-plan c =
     let x = c.args in
     let h = c.requires in
-    let p = plan_of x.sheet.now x.contents in
+    let p = plan_in x.plan.now.sheet in
     let S = state x.tables.now in
-    ((λ q. one_none p S h.1 x.s h.2 (omega (arith, c.act-first.ensures.0, c.if-first-contents.true)) q), frame_refl 20 30 0 0 S, same_refl _)
+    ((λ q. one_none p S h.1 x.s h.2 (omega (arith, c.act-first.ensures.0, c.if-first-plan.true)) q), frame_refl 20 30 0 0 S, same_refl _)
 
 pub sum_children-x-requires : goal.sum_children-x-requires
 unfolding plan_of
 sum_children-x-requires c =
     let x = c.args in
     let h = c.requires in
-    let p = plan_of x.sheet.now x.contents in
+    let p = plan_in x.plan.now.sheet in
     let S = state x.tables.now in (
       omega (arith, h.0.activities, h.2),
       subst (λ (n : ℕ). LinkedIn parent first_child n 0 S) (sym h.0.activities) h.1.children,
       c.act-first.ensures.0,
-      omega (arith, h.0.activities, c.if-first-contents.false),
+      omega (arith, h.0.activities, c.if-first-plan.false),
     )
 
 pub summed_of-requires : goal.summed_of-requires
@@ -43,15 +43,15 @@ unfolding plan_of
 summed_of-requires c =
     let x = c.args in
     let h = c.requires in
-    let p = plan_of x.sheet.now x.contents in
+    let p = plan_in x.plan.now.sheet in
     let S = state x.tables.now in
-    (h.0.read, h.0.located, h.0.days, h.2, h.0.named x.s h.2, h.3, c.sum_children-x.ensures.1)
+    (h.0.days, h.2, h.0.named x.s h.2, h.3, c.sum_children-x.ensures.1)
 
 pub put_shown-requires : goal.put_shown-requires
 put_shown-requires c =
     let x = c.args in
     let h = c.requires in
-    let p = plan_of x.sheet.now x.contents in
+    let p = plan_in x.plan.now.sheet in
     let S = state x.tables.now in
     (omega (arith, h.0.activities, h.2), rw c.in_ok-y.was at c.summed_of.ensures.1)
 
@@ -60,9 +60,9 @@ unfolding plan_of
 returns c =
     let x = c.args in
     let h = c.requires in
-    let p = plan_of x.sheet.now x.contents in
+    let p = plan_in x.plan.now.sheet in
     let S = state x.tables.now in
-    let l : S.act first_child x.s < x.contents.activities = omega (arith, c.act-first.ensures.0, c.if-first-contents.false) in
+    let l : S.act first_child x.s < x.plan.now.sheet.contents.activities = omega (arith, c.act-first.ensures.0, c.if-first-plan.false) in
     let y = c.in_ok-y.y in
     let e = c.put_shown.ensures in (
       (λ q. one_done p S h.1 x.s h.2 l _ _ (c.sum_children-x.ensures.0 ∙ ap (λ (n : ℕ). child_sum S n x.s) h.0.activities) c.summed_of.ensures.0 y _ c.in_ok-y.was e.0 q),
@@ -74,9 +74,9 @@ pub returns-in_err-y : goal.returns-in_err-y
 unfolding plan_of
 returns-in_err-y c = rw (handed_on _ _ c.from_residual.ensures.1) (let x = c.args in
     let h = c.requires in
-    let p = plan_of x.sheet.now x.contents in
+    let p = plan_in x.plan.now.sheet in
     let S = state x.tables.now in
-    let l : S.act first_child x.s < x.contents.activities = omega (arith, c.act-first.ensures.0, c.if-first-contents.false) in (
+    let l : S.act first_child x.s < x.plan.now.sheet.contents.activities = omega (arith, c.act-first.ensures.0, c.if-first-plan.false) in (
       (λ q. one_refused p S h.1 x.s h.2 l _ _ (c.sum_children-x.ensures.0 ∙ ap (λ (n : ℕ). child_sum S n x.s) h.0.activities) c.summed_of.ensures.0 _ (shown_in p S) c.in_err-y.was q),
       frame_refl 20 30 0 0 S,
       same_refl _,

@@ -10,7 +10,7 @@ use mir.Val.{SFits}
 use Rattle.calendar.specs.Hours.{worked}
 use Rattle.worktime.specs.Walks.{between}
 use Rattle.project.specs.declared.Activity.{Activity}
-use Rattle.order.specs.Plan.{plan_of}
+use Rattle.order.specs.Plan.{plan_of, plan_in}
 use Rattle.calendars.specs.CalendarLaws.{in_plan_worked}
 use Rattle.results.specs.Showing.{critical_in}
 use Rattle.number.specs.Exits.{handed_on}
@@ -18,53 +18,50 @@ use Rattle.rollup.specs.RollingLaws.{summed_at, summed_refused}
 use Rattle.rollup.proofs.summed_of.Goals as goal
 
 pub activity_of-activity-requires : goal.activity_of-activity-requires
-activity_of-activity-requires c = let h = c.requires in (h.0, h.3)
+activity_of-activity-requires c = let h = c.requires in h.1
 
-pub calendar_of-calendar-requires : goal.calendar_of-calendar-requires
-calendar_of-calendar-requires c = let h = c.requires in (h.0, h.1)
-
-pub bounds-calendars-k : goal.bounds-calendars-k
+pub bounds-plan-k : goal.bounds-plan-k
 unfolding plan_of
-bounds-calendars-k c =
+bounds-plan-k c =
     let x = c.args in
     let h = c.requires in
-    let p = plan_of x.sheet.now x.contents in
+    let p = plan_in x.plan.now.sheet in
     let k = c.activity_of-activity.result.calendar in
     let e : k ≡ (p.activity x.s).calendar = ap (λ (a : Activity). a.calendar) c.activity_of-activity.ensures in
-    let n : k ≤ x.contents.calendars = omega (arith, e, h.4) in omega (arith, e, h.4, h.2.size)
+    let n : k ≤ x.plan.now.sheet.contents.calendars = omega (arith, e, h.2) in omega (arith, e, h.2, h.0.size)
 
 pub is_critical-critical-requires : goal.is_critical-critical-requires
 unfolding plan_of
 is_critical-critical-requires c =
     let x = c.args in
     let h = c.requires in
-    let p = plan_of x.sheet.now x.contents in
+    let p = plan_in x.plan.now.sheet in
     let k = c.activity_of-activity.result.calendar in
     let e : k ≡ (p.activity x.s).calendar = ap (λ (a : Activity). a.calendar) c.activity_of-activity.ensures in
-    let n : k ≤ x.contents.calendars = omega (arith, e, h.4) in omega (arith, h.2.is k n, h.2.low k n)
+    let n : k ≤ x.plan.now.sheet.contents.calendars = omega (arith, e, h.2) in omega (arith, h.0.is k n, h.0.low k n)
 
 pub returns : goal.returns
 unfolding plan_of
 returns c =
     let x = c.args in
     let h = c.requires in
-    let p = plan_of x.sheet.now x.contents in
+    let p = plan_in x.plan.now.sheet in
     let k = c.activity_of-activity.result.calendar in
     let e : k ≡ (p.activity x.s).calendar = ap (λ (a : Activity). a.calendar) c.activity_of-activity.ensures in
-    let n : k ≤ x.contents.calendars = omega (arith, e, h.4) in
+    let n : k ≤ x.plan.now.sheet.contents.calendars = omega (arith, e, h.2) in
     let f : SFits w64 c.in_ok-total.total = record { sfits = search rules } in
     let g = rw (to_z-of_z f) at c.is_critical-critical.ensures in
-    let l = h.2.is k n ∙ ap p.day_length e in (
-      summed_at p x.s x.x c.in_ok-total.total _ _ (sym (c.between.ensures ∙ ap (λ (v : ℕ → Bool). between v x.x.finish x.x.late) (in_plan_worked c.calendar_of-calendar.ensures ∙ ap (λ (j : ℕ). worked (p.hours j)) e)) ∙ c.in_ok-total.was) (to_z-of_z f) (g ∙ (λ t. critical_in (h.5 t).critical_by (l t) c.in_ok-total.total x.x.path)),
-      record { es = h.6.es; ef = h.6.ef; ls = h.6.ls; lf = h.6.lf; free = omega arith; finish = h.6.finish; late = h.6.late },
+    let l = h.0.is k n ∙ ap p.day_length e in (
+      summed_at p x.s x.x c.in_ok-total.total _ _ (sym (c.between.ensures ∙ ap (λ (v : ℕ → Bool). between v x.x.finish x.x.late) (in_plan_worked c.calendar-calendar.ensures ∙ ap (λ (j : ℕ). worked (p.hours j)) e)) ∙ c.in_ok-total.was) (to_z-of_z f) (g ∙ (λ t. critical_in (h.3 t).critical_by (l t) c.in_ok-total.total x.x.path)),
+      record { es = h.4.es; ef = h.4.ef; ls = h.4.ls; lf = h.4.lf; free = omega arith; finish = h.4.finish; late = h.4.late },
     )
 
 pub returns-in_err-total : goal.returns-in_err-total
 unfolding plan_of
 returns-in_err-total c = rw (handed_on _ _ c.from_residual.ensures.1) (let x = c.args in
     let h = c.requires in
-    let p = plan_of x.sheet.now x.contents in
+    let p = plan_in x.plan.now.sheet in
     let k = c.activity_of-activity.result.calendar in
     let e : k ≡ (p.activity x.s).calendar = ap (λ (a : Activity). a.calendar) c.activity_of-activity.ensures in
-    let n : k ≤ x.contents.calendars = omega (arith, e, h.4) in
-    (summed_refused p x.s x.x _ (sym (c.between.ensures ∙ ap (λ (v : ℕ → Bool). between v x.x.finish x.x.late) (in_plan_worked c.calendar_of-calendar.ensures ∙ ap (λ (j : ℕ). worked (p.hours j)) e)) ∙ c.in_err-total.was), tt))
+    let n : k ≤ x.plan.now.sheet.contents.calendars = omega (arith, e, h.2) in
+    (summed_refused p x.s x.x _ (sym (c.between.ensures ∙ ap (λ (v : ℕ → Bool). between v x.x.finish x.x.late) (in_plan_worked c.calendar-calendar.ensures ∙ ap (λ (j : ℕ). worked (p.hours j)) e)) ∙ c.in_err-total.was), tt))

@@ -4,22 +4,19 @@ use Prim.Native.Nat.{ℕ, ◌/◌, max}
 use native.Mathlib.Omega.{arith}
 use mir.Facts.{to_z-of_z}
 use Rattle.memory.specs.Seen.{state}
-use Rattle.order.specs.Plan.{plan_of}
+use Rattle.order.specs.Plan.{plan_of, plan_in}
 use Rattle.results.specs.Results.{finish_day}
 use Rattle.results.specs.Rows.{signed_day_of}
 use Rattle.results.specs.View.{shown_in}
 use Rattle.rows.specs.WritingLaws.{day_none, day_more}
 use Rattle.rows.proofs.finish_day.Goals as goal
 
-pub origin_of-d-requires : goal.origin_of-d-requires
-origin_of-d-requires c = c.requires.0
-
 pub loop-i-init : goal.loop-i-init
 unfolding plan_of
 loop-i-init c =
     let x = c.args in
     let S = state x.tables.now in
-    let p = plan_of x.sheet.now x.contents in
+    let p = plan_in x.sheet.now in
     (omega (arith, c.origin_of-d.ensures.1), λ q. ap (λ (t : ℕ). t / 1440) c.origin_of-d.ensures.0 ∙ day_none p q S)
 
 pub loop-i-preserved : goal.loop-i-preserved
@@ -27,7 +24,7 @@ unfolding plan_of
 loop-i-preserved c =
     let x = c.args in
     let S = state x.tables.now in
-    let p = plan_of x.sheet.now x.contents in
+    let p = plan_in x.sheet.now in
     let L = c.loop-i in
     let g = c.act.ensures in (
       omega (arith, c.max-d.ensures, g.1, L.invariant.0),
@@ -42,8 +39,8 @@ unfolding plan_of
 returns c =
     let x = c.args in
     let S = state x.tables.now in
-    let p = plan_of x.sheet.now x.contents in
+    let p = plan_in x.sheet.now in
     let L = c.loop-i in
-    let n : L.i ≡ x.contents.activities = omega arith in
+    let n : L.i ≡ x.sheet.now.contents.activities = omega arith in
     λ q. rw (to_z-of_z (record { sfits = c.signed_day_of.type_inv }))
     (c.signed_day_of.ensures ∙ ap signed_day_of (L.invariant.1 q ∙ ap (finish_day p q (shown_in p S)) n))

@@ -2,7 +2,7 @@
 use mathlib.Core.Path.{◌≡◌}
 use Prim.Native.Nat.{◌^◌, ◌<◌}
 use Rattle.memory.specs.Seen.{state}
-use Rattle.order.specs.Plan.{plan_of}
+use Rattle.order.specs.Plan.{plan_in}
 use Rattle.passes.specs.Run.{Ran}
 use Rattle.results.specs.Results.{finish_day}
 use Rattle.results.specs.View.{shown_in}
@@ -11,4 +11,4 @@ use Rattle.rows.proofs.finish_day.Given as goal
 abbrev pub invariant-loop-i : goal.invariant-loop-i
 invariant-loop-i l =
     (l.d < 2 ^ 63)
-    × ((q : Ran) → l.d ≡ finish_day (plan_of l.sheet l.fn.contents) q (shown_in (plan_of l.sheet l.fn.contents) (state l.tables)) l.i)
+    × ((q : Ran) → l.d ≡ finish_day (plan_in l.sheet) q (shown_in (plan_in l.sheet) (state l.tables)) l.i)

@@ -7,8 +7,7 @@ use lib.ListN.{length-set}
 use mir.Facts.{to_z-of_z, to_z_pos}
 use mir.Syntax.{w64}
 use mir.Val.{SFits}
-use lib.IntN.{ℤ, pos}
-use Rattle.number.specs.BitLaws.{bit_le}
+use lib.IntN.{ℤ}
 use Rattle.number.specs.Sign.{whole_days}
 use Rattle.rows.specs.Writing.{stored_from}
 use Rattle.rows.proofs.write_floats.Goals as goal
@@ -21,12 +20,6 @@ whole_days-total_days-requires c = omega (arith, c.requires.1)
 
 pub whole_days-free_days-requires : goal.whole_days-free_days-requires
 whole_days-free_days-requires c = omega (arith, c.requires.1)
-
-pub overflow_cast-critical : goal.overflow_cast-critical
-overflow_cast-critical c = record { sfits = omega (arith, c.number_of-critical.ensures, bit_le c.args.x.critical) }
-
-pub overflow_cast-path : goal.overflow_cast-path
-overflow_cast-path c = record { sfits = omega (arith, c.number_of-path.ensures, bit_le c.args.x.path) }
 
 pub shape_of-results : goal.shape_of-results
 shape_of-results c = simp length-set refl
@@ -43,7 +36,7 @@ returns c =
     ∷ (to_z-of_z {w = w64} (record { sfits = c.whole_days-free_days.type_inv }) ∙ c.whole_days-free_days.ensures ∙ h) z
     ∷ to_z-of_z f z
     ∷ g z
-    ∷ (to_z_pos w64 (omega (arith, c.number_of-critical.ensures, bit_le x.critical)) ∙ ap pos c.number_of-critical.ensures) z
-    ∷ (to_z_pos w64 (omega (arith, c.number_of-path.ensures, bit_le x.path)) ∙ ap pos c.number_of-path.ensures) z
+    ∷ (to_z-of_z {w = w64} (record { sfits = c.from-critical.type_inv }) ∙ c.from-critical.ensures) z
+    ∷ (to_z-of_z {w = w64} (record { sfits = c.from-path.type_inv }) ∙ c.from-path.ensures) z
     ∷ []
     )

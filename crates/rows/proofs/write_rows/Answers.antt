@@ -6,7 +6,7 @@ use native.Mathlib.Omega.{arith}
 use lib.IntN.{ℤ}
 use lib.ListN.{length, drop}
 use Rattle.memory.specs.Seen.{state}
-use Rattle.order.specs.Plan.{plan_of}
+use Rattle.order.specs.Plan.{plan_of, plan_in}
 use Rattle.rows.specs.Writing.{row_in, rows_in}
 use Rattle.rows.specs.WritingLaws.{rows_none, rows_more, rows_same, stored_length}
 use Rattle.rows.proofs.write_rows.Goals as goal
@@ -15,7 +15,7 @@ pub loop-i-init : goal.loop-i-init
 loop-i-init c =
     let x = c.args in
     let S = state x.tables.now in
-    let p = plan_of x.sheet.now x.contents in
+    let p = plan_in x.sheet.now in
     (refl, rows_none p S x.results.now)
 
 pub write_row-requires : goal.write_row-requires
@@ -25,7 +25,7 @@ pub loop-i-preserved : goal.loop-i-preserved
 loop-i-preserved c =
     let x = c.args in
     let S = state x.tables.now in
-    let p = plan_of x.sheet.now x.contents in
+    let p = plan_in x.sheet.now in
     let L = c.loop-i in
     let e = c.write_row.ensures in (
       ap length e ∙ stored_length (row_in p S L.i) L.results (15 * L.i) 0 ∙ L.invariant.0,
@@ -40,7 +40,7 @@ unfolding plan_of
 returns c =
     let x = c.args in
     let S = state x.tables.now in
-    let p = plan_of x.sheet.now x.contents in
+    let p = plan_in x.sheet.now in
     let L = c.loop-i in
-    let n : L.i ≡ x.contents.activities = omega arith in
-    λ e other. L.invariant.1 ∙ (λ z. rows_in p S (n z) ++ drop (15 * n z) x.results.now) ∙ ap (λ (zs : List ℤ). zs ++ drop (15 * x.contents.activities) x.results.now) (rows_same p S e other x.contents.activities (omega arith))
+    let n : L.i ≡ x.sheet.now.contents.activities = omega arith in
+    λ e other. L.invariant.1 ∙ (λ z. rows_in p S (n z) ++ drop (15 * n z) x.results.now) ∙ ap (λ (zs : List ℤ). zs ++ drop (15 * x.sheet.now.contents.activities) x.results.now) (rows_same p S e other x.sheet.now.contents.activities (omega arith))

@@ -1,11 +1,10 @@
 -- `run::early_dates` meets its contract.
-use borrow.Author.Rules.{rules}
-use mathlib.Core.Path.{refl, ◌∙◌}
+use mathlib.Core.Path.{refl}
 use native.Mathlib.Omega.{arith}
 use Rattle.memory.specs.Seen.{state}
 use Rattle.memory.specs.SeenLaws.{same_then}
 use Rattle.topology.specs.FrameLaws.{frame_acts, frame_then}
-use Rattle.order.specs.Plan.{plan_of}
+use Rattle.order.specs.Plan.{plan_in}
 use Rattle.dates.specs.KeptLaws.{ready_kept, recorded_kept}
 use Rattle.number.specs.Exits.{handed_on}
 use Rattle.run.specs.RunLaws.{not_done, early_stops, early_goes}
@@ -13,7 +12,7 @@ use Rattle.run.proofs.early_dates.Goals as goal
 
 pub returns-in_err-remaining : goal.returns-in_err-remaining
 returns-in_err-remaining c = rw (handed_on _ _ c.from_residual.ensures.1) (let x = c.args in
-    let p = plan_of x.sheet.now x.contents in
+    let p = plan_in x.plan.now.sheet in
     let call = c.remaining in
     let T = state call.new.tables in (
       early_stops p T T call.result c.in_err-remaining.field-0.0 call.ensures.0 c.in_err-remaining.was,
@@ -33,7 +32,7 @@ forward_pass-requires c =
 pub returns : goal.returns
 returns c =
     let x = c.args in
-    let p = plan_of x.sheet.now x.contents in
+    let p = plan_in x.plan.now.sheet in
     let first = c.remaining in
     let second = c.forward_pass in
     let T₁ = state first.new.tables in

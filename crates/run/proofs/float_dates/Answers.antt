@@ -1,10 +1,9 @@
 -- `run::float_dates` meets its contract.
-use borrow.Author.Rules.{rules}
-use mathlib.Core.Path.{refl, sym, ◌∙◌}
+use mathlib.Core.Path.{refl}
 use native.Mathlib.Omega.{arith}
 use Rattle.memory.specs.Seen.{state}
 use Rattle.memory.specs.SeenLaws.{same_then}
-use Rattle.order.specs.Plan.{plan_of}
+use Rattle.order.specs.Plan.{plan_in}
 use Rattle.topology.specs.FrameLaws.{frame_acts, frame_then}
 use Rattle.dates.specs.KeptLaws.{ready_kept, recorded_kept}
 use Rattle.number.specs.Exits.{handed_on}
@@ -16,7 +15,7 @@ returns-in_err-free_pass c = rw (handed_on _ _ c.from_residual.ensures.1) (let x
     let call = c.free_pass in
     let a = call.ensures in
     let T = state call.new.tables in (
-      λ e. floats_stop (plan_of x.sheet.now x.contents) x.finish (state x.tables.now) T T call.result a.0 c.in_err-free_pass.field-0.0 c.in_err-free_pass.was e,
+      λ e. floats_stop (plan_in x.plan.now.sheet) x.finish (state x.tables.now) T T call.result a.0 c.in_err-free_pass.field-0.0 c.in_err-free_pass.was e,
       frame_acts 12 17 0 0 12 16 (omega arith) (omega arith) a.1,
       a.2,
     ))
@@ -27,7 +26,7 @@ path_pass-requires c =
     let call = c.free_pass in
     let a = call.ensures in (
       ready_kept c.requires.0 a.1 a.2 (omega arith),
-      recorded_kept a.1 (plan_of x.sheet.now x.contents) refl refl refl c.requires.1,
+      recorded_kept a.1 (plan_in x.plan.now.sheet) refl refl refl c.requires.1,
     )
 
 pub returns : goal.returns
@@ -40,7 +39,7 @@ returns c =
     let S = state x.tables.now in
     let T₁ = state first.new.tables in
     let T = state second.new.tables in (
-      floats_go (plan_of x.sheet.now x.contents) x.finish S T₁ T first.result a.0 b.1 c.in_ok-free_pass.was second.result b.0,
+      floats_go (plan_in x.plan.now.sheet) x.finish S T₁ T first.result a.0 b.1 c.in_ok-free_pass.was second.result b.0,
       frame_then 12 17 0 0 (frame_acts 12 17 0 0 12 16 (omega arith) (omega arith) a.1) (frame_acts 12 17 0 0 16 17 (omega arith) (omega arith) b.1),
       same_then a.2 b.2,
     )

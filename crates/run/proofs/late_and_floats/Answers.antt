@@ -1,11 +1,10 @@
 -- `run::late_and_floats` meets its contract.
-use borrow.Author.Rules.{rules}
-use mathlib.Core.Path.{refl, sym, subst, ◌∙◌}
+use mathlib.Core.Path.{refl, subst}
 use native.Mathlib.Omega.{arith}
 use Rattle.memory.specs.Seen.{state}
 use Rattle.memory.specs.SeenLaws.{same_then}
 use Rattle.topology.specs.FrameLaws.{frame_acts, frame_then}
-use Rattle.order.specs.Plan.{plan_of}
+use Rattle.order.specs.Plan.{plan_in}
 use Rattle.dates.specs.Columns.{early_in}
 use Rattle.number.specs.Exits.{handed_on}
 use Rattle.run.specs.Stages.{LateIn}
@@ -15,7 +14,7 @@ use Rattle.run.proofs.late_and_floats.Goals as goal
 
 pub returns-in_err-last : goal.returns-in_err-last
 returns-in_err-last c = rw (handed_on _ _ c.from_residual.ensures.1) (let x = c.args in
-    let p = plan_of x.sheet.now x.contents in
+    let p = plan_in x.plan.now.sheet in
     let S = state x.tables.now in
     let call = c.late_dates in
     let T = state call.new.tables in (
@@ -29,12 +28,12 @@ float_dates-requires c =
     let x = c.args in
     let call = c.late_dates in (
       ready_kept c.requires.0 call.ensures.1 call.ensures.2 (omega arith),
-      recorded_kept call.ensures.1 (plan_of x.sheet.now x.contents) refl refl refl c.requires.1,
+      recorded_kept call.ensures.1 (plan_in x.plan.now.sheet) refl refl refl c.requires.1,
     )
 
 pub returns-in_err-float_dates : goal.returns-in_err-float_dates
 returns-in_err-float_dates c = rw (handed_on _ _ c.from_residual-in_err-float_dates.ensures.1) (let x = c.args in
-    let p = plan_of x.sheet.now x.contents in
+    let p = plan_in x.plan.now.sheet in
     let S = state x.tables.now in
     let first = c.late_dates in
     let second = c.float_dates in
@@ -49,7 +48,7 @@ returns-in_err-float_dates c = rw (handed_on _ _ c.from_residual-in_err-float_da
 pub returns : goal.returns
 returns c =
     let x = c.args in
-    let p = plan_of x.sheet.now x.contents in
+    let p = plan_in x.plan.now.sheet in
     let S = state x.tables.now in
     let first = c.late_dates in
     let second = c.float_dates in

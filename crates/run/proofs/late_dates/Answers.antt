@@ -1,10 +1,9 @@
 -- `run::late_dates` meets its contract.
-use borrow.Author.Rules.{rules}
-use mathlib.Core.Path.{refl, sym, ◌∙◌}
+use mathlib.Core.Path.{sym, ◌∙◌}
 use Rattle.memory.specs.Seen.{state}
 use Rattle.memory.specs.SeenLaws.{same_refl}
 use Rattle.topology.specs.FrameLaws.{frame_refl}
-use Rattle.order.specs.Plan.{plan_of}
+use Rattle.order.specs.Plan.{plan_in}
 use Rattle.dates.specs.Columns.{early_in}
 use Rattle.number.specs.Exits.{handed_on}
 use Rattle.run.specs.RunLaws.{late_ends, late_stops, late_goes}
@@ -12,7 +11,7 @@ use Rattle.run.proofs.late_dates.Goals as goal
 
 pub returns-in_err-last : goal.returns-in_err-last
 returns-in_err-last c = rw (handed_on _ _ c.from_residual.ensures.1) (let x = c.args in
-    let p = plan_of x.sheet.now x.contents in
+    let p = plan_in x.plan.now.sheet in
     let S = state x.tables.now in (
       late_ends p S S c.in_err-last.field-0.0 (sym (c.end_of.ensures.0 (early_in p S) c.requires.2) ∙ c.in_err-last.was),
       frame_refl 10 12 0 0 S,
@@ -25,7 +24,7 @@ backward_pass-requires c =
 
 pub returns-in_err-backward_pass : goal.returns-in_err-backward_pass
 returns-in_err-backward_pass c = rw (handed_on _ _ c.from_residual-in_err-backward_pass.ensures.1) (let x = c.args in
-    let p = plan_of x.sheet.now x.contents in
+    let p = plan_in x.plan.now.sheet in
     let S = state x.tables.now in
     let call = c.backward_pass in
     let T = state call.new.tables in (
@@ -37,7 +36,7 @@ returns-in_err-backward_pass c = rw (handed_on _ _ c.from_residual-in_err-backwa
 pub returns : goal.returns
 returns c =
     let x = c.args in
-    let p = plan_of x.sheet.now x.contents in
+    let p = plan_in x.plan.now.sheet in
     let S = state x.tables.now in
     let call = c.backward_pass in
     let T = state call.new.tables in (

@@ -1,13 +1,12 @@
 -- `run::run` meets its contract.
 use Rattle.std.specs.Prelude.{Result}
 use Rattle.worktime.specs.declared.ClockError.{ClockError}
-use borrow.Author.Rules.{rules}
-use mathlib.Core.Path.{◌≡◌, refl, subst, ◌∙◌}
+use mathlib.Core.Path.{◌≡◌, refl, subst}
 use native.Mathlib.Omega.{arith}
 use Rattle.memory.specs.Seen.{state}
 use Rattle.memory.specs.SeenLaws.{same_then}
 use Rattle.topology.specs.FrameLaws.{frame_acts, frame_then}
-use Rattle.order.specs.Plan.{plan_of}
+use Rattle.order.specs.Plan.{plan_in}
 use Rattle.dates.specs.Columns.{early_in, ended}
 use Rattle.number.specs.Exits.{handed_on}
 use Rattle.run.specs.Stages.{early_dates}
@@ -17,7 +16,7 @@ use Rattle.run.proofs.run.Goals as goal
 
 pub returns-in_err-early_dates : goal.returns-in_err-early_dates
 returns-in_err-early_dates c = rw (handed_on _ _ c.from_residual.ensures.1) (let x = c.args in
-    let p = plan_of x.sheet.now x.contents in
+    let p = plan_in x.plan.now.sheet in
     let call = c.early_dates in
     let T = state call.new.tables in (
       run_early p T T call.result c.in_err-early_dates.field-0.0 call.ensures.0 c.in_err-early_dates.was,
@@ -29,7 +28,7 @@ returns-in_err-early_dates c = rw (handed_on _ _ c.from_residual.ensures.1) (let
 pub late_and_floats-requires : goal.late_and_floats-requires
 late_and_floats-requires c =
     let x = c.args in
-    let p = plan_of x.sheet.now x.contents in
+    let p = plan_in x.plan.now.sheet in
     let call = c.early_dates in
     let T = state call.new.tables in (
       ready_kept c.requires call.ensures.2 call.ensures.3 (omega arith),
@@ -40,7 +39,7 @@ late_and_floats-requires c =
 pub returns : goal.returns
 returns c =
     let x = c.args in
-    let p = plan_of x.sheet.now x.contents in
+    let p = plan_in x.plan.now.sheet in
     let first = c.early_dates in
     let second = c.late_and_floats in (
       second.ensures.0,

@@ -3,7 +3,7 @@ use mathlib.Core.Path.{subst, ◌∙◌}
 use native.Mathlib.Omega.{arith}
 use Rattle.memory.specs.Seen.{state}
 use Rattle.memory.specs.SeenLaws.{same_then}
-use Rattle.order.specs.Plan.{plan_of}
+use Rattle.order.specs.Plan.{plan_in}
 use Rattle.run.specs.Stages.{RunIn}
 use Rattle.dates.specs.KeptLaws.{ready_kept}
 use Rattle.sched.proofs.CallLaws.{run_refuses}
@@ -12,7 +12,7 @@ use Rattle.sched.proofs.run_plan.Goals as goal
 pub returns-in-Err : goal.returns-in-Err
 returns-in-Err c =
     let x = c.args in
-    let p = plan_of x.sheet.now x.contents in
+    let p = plan_in x.plan.now.sheet in
     let ran = c.run in
     let call = c.refuse in (
       λ m L.
@@ -24,7 +24,7 @@ returns-in-Err c =
 pub show_plan-requires : goal.show_plan-requires
 show_plan-requires c =
     let x = c.args in
-    let p = plan_of x.sheet.now x.contents in
+    let p = plan_in x.plan.now.sheet in
     let ran = c.run in (
       ready_kept c.requires.0 ran.ensures.2 ran.ensures.3 (omega arith),
       ran.ensures.1 c.in-Ok.last c.in-Ok.is,
@@ -38,6 +38,6 @@ show_plan-requires c =
 pub returns-in-Ok : goal.returns-in-Ok
 returns-in-Ok c =
     let x = c.args in
-    let p = plan_of x.sheet.now x.contents in
+    let p = plan_in x.plan.now.sheet in
     let ran = c.run in
     (λ m L. c.show_plan.ensures.0 m (record { results_is = L.results_is; names_is = L.names_is; names_length = L.names_length; work_length = ran.ensures.3.cells ∙ L.work_length }), same_then ran.ensures.3 c.show_plan.ensures.1)

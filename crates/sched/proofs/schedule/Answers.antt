@@ -1,9 +1,12 @@
 -- `sched::schedule` meets its contract.
-use mathlib.Core.Path.{sym, ◌∙◌}
-use lib.ListN.{length}
+use Rattle.std.specs.Prelude.{List, ℕ, ◌+◌, ◌*◌, ◌≤◌, max, length}
+use Rattle.std.proofs.Common.{sym, ap₂, subst, ◌∙◌}
 use Rattle.number.specs.Exits.{handed_on}
 use Rattle.sheet.specs.ReadLaws.{read_known}
-use Rattle.sched.specs.Outcome.{Lent}
+use Rattle.sheet.specs.declared.Contents.{Contents}
+use Rattle.memory.specs.State.{Room}
+use Rattle.order.specs.Plan.{plan_of}
+use Rattle.sched.specs.Outcome.{Lent, planned}
 use Rattle.sched.proofs.CallLaws.{room_has, room_for_lem, unread_is, short_is, planned_is}
 use Rattle.sched.proofs.schedule.Goals as goal
 
@@ -19,18 +22,20 @@ has_room-requires c =
     let k = read_known x.sheet.now c.in_ok-contents.contents (sym c.in_ok-contents.ensures) in
     (k.activities_few, k.links_few)
 
+pub new-requires : goal.new-requires
+new-requires c = read_known c.args.sheet.now c.in_ok-contents.contents (sym c.in_ok-contents.ensures)
+
 pub plan_sheet-requires : goal.plan_sheet-requires
 plan_sheet-requires c =
     let x = c.args in
-    let k = read_known x.sheet.now c.in_ok-contents.contents (sym c.in_ok-contents.ensures) in
     let h = room_has c.in_ok-contents.contents.activities c.in_ok-contents.contents.links (length x.results.now) (length x.names.now) (length x.work.now) (sym c.has_room.ensures ∙ c.if-not-has_room.false) in
-    (k, h.0, h.1, h.2)
+    subst (λ (k : Contents). (15 * k.activities ≤ length x.results.now) × (max (k.activities + 1) k.links ≤ length x.names.now) × Room k.activities k.links x.work.now) (sym c.new.ensures.1) h
 
 pub returns : goal.returns
 returns c =
     let x = c.args in
     let m : Lent = (record { results = x.results.now; names = x.names.now; work = x.work.now }) in
-    c.plan_sheet.ensures
+    c.plan_sheet.ensures ∙ ap₂ (λ (s : List ℕ) (k : Contents). planned m (plan_of s k)) c.new.ensures.0 c.new.ensures.1
     ∙ planned_is x.sheet.now m c.in_ok-contents.contents (sym c.in_ok-contents.ensures) (sym (room_for_lem x.sheet.now c.in_ok-contents.contents m) ∙ sym c.has_room.ensures ∙ c.if-not-has_room.false)
 
 pub returns-then-not-has_room : goal.returns-then-not-has_room

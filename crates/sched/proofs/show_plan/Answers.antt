@@ -3,7 +3,7 @@ use mathlib.Core.Path.{refl, sym, ap, subst, ◌∙◌}
 use native.Mathlib.Omega.{arith}
 use Rattle.memory.specs.Seen.{state}
 use Rattle.memory.specs.SeenLaws.{same_then}
-use Rattle.order.specs.Plan.{plan_of}
+use Rattle.order.specs.Plan.{plan_in}
 use Rattle.passes.specs.Run.{Ran}
 use Rattle.dates.specs.Columns.{ended}
 use Rattle.results.specs.View.{ran_in, shown_in}
@@ -17,7 +17,7 @@ use Rattle.sched.proofs.show_plan.Goals as goal
 pub returns-in-Err : goal.returns-in-Err
 returns-in-Err c =
     let x = c.args in
-    let p = plan_of x.sheet.now x.contents in
+    let p = plan_in x.plan.now.sheet in
     let S = state x.tables.now in
     let shown = c.results in
     let call = c.refuse in
@@ -35,14 +35,14 @@ accept-requires c =
     let shown = c.results in (
       to_write
           (ready_kept c.requires.0 shown.ensures.1 shown.ensures.2 (omega arith))
-          c.requires.2 (recorded_kept shown.ensures.1 (plan_of x.sheet.now x.contents) refl refl refl c.requires.1),
+          c.requires.2 (recorded_kept shown.ensures.1 (plan_in x.plan.now.sheet) refl refl refl c.requires.1),
       c.requires.3,
     )
 
 pub returns-in-Ok : goal.returns-in-Ok
 returns-in-Ok c =
     let x = c.args in
-    let p = plan_of x.sheet.now x.contents in
+    let p = plan_in x.plan.now.sheet in
     let S = state x.tables.now in
     let shown = c.results in
     let call = c.accept in

@@ -3,4 +3,4 @@ use Rattle.std.proofs.Common.{◌≤◌, length}
 use Rattle.sheet_cases.proofs.build.Given as goal
 
 abbrev pub invariant-loop : goal.invariant-loop
-invariant-loop l = (l.from ≤ l.next) × (l.next ≤ length l.file) × (l.size ≤ length l.sheet)
+invariant-loop l = (length l.rest ≤ length l.file) × (l.size ≤ length l.sheet)

@@ -1,7 +1,7 @@
 -- `ties::link_check` meets its contract.
 use native.Mathlib.Omega.{arith}
 use Rattle.std.proofs.lemmas.Result.{err_from_is_err_and}
-use Rattle.order.specs.Plan.{plan_of}
+use Rattle.order.specs.Plan.{plan_of, plan_in}
 use Rattle.memory.specs.Seen.{state}
 use Rattle.ties.specs.CheckSteps.{check_ignored, check_long, check_kept}
 use Rattle.ties.proofs.link_check.Goals as goal
@@ -20,16 +20,16 @@ pub returns-then-is_either_marked : goal.returns-then-is_either_marked
 unfolding plan_of
 returns-then-is_either_marked c =
     let x = c.args in
-    check_ignored (plan_of x.sheet.now x.contents) (state x.tables.now) c.requires.4 x.k _ c.in_ok-ends.ensures _ c.is_either_marked.ensures c.if-is_either_marked.true
+    check_ignored (plan_in x.sheet.now) (state x.tables.now) c.requires.4 x.k _ c.in_ok-ends.ensures _ c.is_either_marked.ensures c.if-is_either_marked.true
 
 pub returns-then-is_tie_too_long : goal.returns-then-is_tie_too_long
 unfolding plan_of
 returns-then-is_tie_too_long c =
     let x = c.args in
-    check_long (plan_of x.sheet.now x.contents) (state x.tables.now) c.requires.4 x.k _ c.in_ok-ends.ensures _ c.is_either_marked.ensures c.if-is_either_marked.false _ c.is_tie_too_long.ensures c.if-is_tie_too_long.true
+    check_long (plan_in x.sheet.now) (state x.tables.now) c.requires.4 x.k _ c.in_ok-ends.ensures _ c.is_either_marked.ensures c.if-is_either_marked.false _ c.is_tie_too_long.ensures c.if-is_tie_too_long.true
 
 pub returns : goal.returns
 unfolding plan_of
 returns c =
     let x = c.args in
-    check_kept (plan_of x.sheet.now x.contents) (state x.tables.now) c.requires.4 x.k c.in_ok-ends.ends c.in_ok-ends.ensures _ c.is_either_marked.ensures c.if-is_either_marked.false _ c.is_tie_too_long.ensures c.if-is_tie_too_long.false
+    check_kept (plan_in x.sheet.now) (state x.tables.now) c.requires.4 x.k c.in_ok-ends.ends c.in_ok-ends.ensures _ c.is_either_marked.ensures c.if-is_either_marked.false _ c.is_tie_too_long.ensures c.if-is_tie_too_long.false

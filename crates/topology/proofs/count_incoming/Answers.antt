@@ -1,16 +1,17 @@
 -- `topology::count_incoming` meets its contract.
-use mathlib.Core.Path.{sym, ap, subst, ◌∙◌}
+use Prim.Native.Nat.{ℕ}
+use mathlib.Core.Path.{ap, ◌∙◌}
 use native.Mathlib.Omega.{arith}
 use Rattle.memory.specs.State.{State}
 use Rattle.memory.specs.Seen.{state}
 use Rattle.memory.specs.Fields.{from_field, to_field, waiting, order_at}
 use Rattle.network.specs.Kahn.{into}
-use Rattle.topology.specs.Links.{Ends}
+use Rattle.topology.specs.Links.{links_of, Ends}
 use Rattle.topology.specs.LinksLaws.{links_same, ends_same}
 use Rattle.topology.specs.StepLaws.{fill_zero}
 use Rattle.topology.specs.Frame.{Frame}
 use Rattle.topology.specs.FrameLaws.{frame_fill, frame_then}
-use Rattle.memory.specs.SeenLaws.{same_then}
+use Rattle.memory.specs.SeenLaws.{same_then, sized}
 use Rattle.topology.proofs.count_incoming.Goals as goal
 
 pub count_links-requires : goal.count_links-requires
@@ -22,7 +23,7 @@ count_links-requires c =
     let T = state ys in
     let e = c.fill_act.ensures.0 in
     let d = c.fill_act.ensures.1 in
-    (omega (arith, d.links), subst (λ n. Ends n x.t T) (sym d.activities) (ends_same S T (ap (λ (W : State). W.link from_field) e) (ap (λ (W : State). W.link to_field) e) p.1), fill_zero ys S waiting x.tables.now.activities d.activities e)
+    (sized d (λ n k. Ends n k T) (ends_same S T (ap (λ (W : State). W.link from_field) e) (ap (λ (W : State). W.link to_field) e) p), fill_zero ys S waiting x.tables.now.activities d.activities e)
 
 pub returns : goal.returns
 returns c =
@@ -30,7 +31,7 @@ returns c =
     let S = state x.tables.now in
     let T = state c.fill_act.new.self in
     let e = c.fill_act.ensures.0 in
-    let f = links_same S T (ap (λ (W : State). W.link from_field) e) (ap (λ (W : State). W.link to_field) e) x.t in
+    let f = links_same S T (ap (λ (W : State). W.link from_field) e) (ap (λ (W : State). W.link to_field) e) x.tables.now.kept in
     let F : Frame waiting order_at 0 0 S T = rw e (frame_fill waiting order_at 0 0 waiting (omega arith) (omega arith) S x.tables.now.activities 0) in
     let r = c.count_links.ensures in
-    (λ i. r.0 i ∙ ap (λ (ls : _). into ls i) f, frame_then waiting order_at 0 0 F r.1, same_then c.fill_act.ensures.1 r.2)
+    (λ i. r.0 i ∙ ap (λ (n : ℕ). into (links_of T n) i) c.fill_act.ensures.1.kept ∙ ap (λ (ls : _). into ls i) f, frame_then waiting order_at 0 0 F r.1, same_then c.fill_act.ensures.1 r.2)

@@ -9,4 +9,4 @@ use Rattle.topology.proofs.count_links.Given as goal
 abbrev pub invariant-loop-k : goal.invariant-loop-k
 invariant-loop-k l =
     SameSlice l.initial.tables l.tables × Frame waiting order_at 0 0 (state l.initial.tables) (state l.tables)
-    × Counted (links_of (state l.initial.tables) l.t) ((state l.tables).act waiting) l.k
+    × Counted (links_of (state l.initial.tables) l.initial.tables.kept) ((state l.tables).act waiting) l.k

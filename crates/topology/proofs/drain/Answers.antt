@@ -1,5 +1,4 @@
 -- `topology::drain` meets its contract: h activities are out.
-use mathlib.Core.Path.{sym, subst}
 use mathlib.Core.List.{[]}
 use Prim.Native.Nat.{◌+◌}
 use native.Mathlib.Omega.{arith}
@@ -10,7 +9,7 @@ use Rattle.network.specs.Array.{Progress}
 use Rattle.topology.specs.Links.{links_of}
 use Rattle.topology.specs.Order.{ChainsOut, Draining}
 use Rattle.topology.specs.OrderLaws.{chains_out_kept, draining_now, draining_step}
-use Rattle.memory.specs.SeenLaws.{same_then}
+use Rattle.memory.specs.SeenLaws.{same_then, sized, sized_back}
 use Rattle.topology.proofs.drain.Goals as goal
 
 pub release-r-requires : goal.release-r-requires
@@ -19,12 +18,7 @@ release-r-requires c =
     let p = c.requires in
     let a = L.invariant.0.activities in
     let x = c.args in
-    let T = state L.tables in (
-      omega arith,
-      c.loop-h-test.true,
-      subst (λ n. ChainsOut n x.t T) (sym a) (chains_out_kept L.invariant.1.kept p.1),
-      subst (λ n. Progress (links_of T x.t) n (T.act order_at) (T.act waiting) L.h L.r []) (sym a) (draining_now L.invariant.1),
-    )
+    let T = state L.tables in (c.loop-h-test.true, sized L.invariant.0 (λ n k. ChainsOut n k T) (chains_out_kept L.invariant.1.kept p.0), sized L.invariant.0 (λ n k. Progress (links_of T k) n (T.act order_at) (T.act waiting) L.h L.r []) (draining_now L.invariant.1))
 
 pub loop-h-smaller : goal.loop-h-smaller
 loop-h-smaller c =
@@ -35,5 +29,5 @@ loop-h-preserved c =
     let L = c.loop-h in
     let x = c.args in
     let e = c.release-r.ensures in
-    let d = subst (λ n. Draining n x.t (state L.tables) (state c.release-r.new.tables) (L.h + 1) c.release-r.result) L.invariant.0.activities e.0 in
+    let d = sized_back L.invariant.0 (λ n k. Draining n k (state L.tables) (state c.release-r.new.tables) (L.h + 1) c.release-r.result) e.0 in
     (same_then L.invariant.0 e.1, draining_step L.invariant.1 (state c.release-r.new.tables) c.release-r.result d.kept d.progress)

@@ -1,8 +1,11 @@
 -- `topology::name_loop` meets its contract.
-use mathlib.Core.Path.{◌≡◌, sym, subst}
+use mathlib.Core.Path.{◌≡◌, refl, sym, ap, subst, ◌∙◌}
+use Prim.Native.Nat.{ℕ}
+use Rattle.std.specs.Prelude.{Option, None, Some, unwrap_or, IsSome}
+use Rattle.memory.specs.State.{State}
 use native.Mathlib.Omega.{arith}
 use Rattle.memory.specs.Seen.{state}
-use Rattle.memory.specs.SeenLaws.{same_then}
+use Rattle.memory.specs.SeenLaws.{same_then, sized, sized_back}
 use Rattle.memory.specs.Fields.{waiting, seen, path_at}
 use Rattle.network.specs.Kahn.{first_waiting}
 use Rattle.topology.specs.Links.{links_of}
@@ -10,8 +13,23 @@ use Rattle.topology.specs.Frame.{Frame}
 use Rattle.topology.specs.FrameLaws.{frame_fill, frame_acts}
 use Rattle.topology.specs.StepLaws.{fill_zero}
 use Rattle.topology.specs.Loop.{Stuck, WalkedBack}
-use Rattle.topology.specs.LoopLaws.{stuck_left, named_loop_lem, named_from}
+use Rattle.topology.specs.LoopLaws.{stuck_left, stuck_inside, stuck_first, named_loop_lem, named_from}
 use Rattle.topology.proofs.name_loop.Goals as goal
+
+-- one that waits is found, since some do
+found : (a t : ℕ) (S : State) → Stuck a t S → (o : Option ℕ) → unwrap_or o a ≡ first_waiting (links_of S t) (S.act waiting) a 0 → IsSome o
+found a t S s None e = absurd (omega (arith, stuck_inside s (first_waiting (links_of S t) (S.act waiting) a 0) (stuck_first s)))
+found a t S s (Some i) e = refl
+
+pub unwrap-start-requires : goal.unwrap-start-requires
+unwrap-start-requires c =
+    let x = c.args in
+    let p = c.requires in
+    let S = state x.tables.now in
+    let T = state c.fill_act.new.self in
+    let e = c.fill_act.ensures in
+    let F : Frame seen 10 0 0 S T = rw e.0 (frame_fill seen 10 0 0 seen (omega arith) (omega arith) S x.tables.now.activities 0) in
+    found _ _ T (sized e.1 (λ n k. Stuck n k T) (stuck_left F p)) c.first_waiting.result (c.first_waiting.ensures.0 (links_of T c.fill_act.new.self.kept))
 
 pub walk_back-w-requires : goal.walk_back-w-requires
 walk_back-w-requires c =
@@ -21,12 +39,7 @@ walk_back-w-requires c =
     let T = state c.fill_act.new.self in
     let e = c.fill_act.ensures in
     let a = e.1.activities in
-    let F : Frame seen 10 0 0 S T = rw e.0 (frame_fill seen 10 0 0 seen (omega arith) (omega arith) S x.tables.now.activities 0) in (
-      omega (arith, e.1),
-      subst (λ n. Stuck n x.t T) (sym a) (stuck_left F p.1),
-      fill_zero c.fill_act.new.self S seen x.tables.now.activities a e.0,
-      c.first_waiting-start.ensures.1 (links_of T x.t),
-    )
+    let F : Frame seen 10 0 0 S T = rw e.0 (frame_fill seen 10 0 0 seen (omega arith) (omega arith) S x.tables.now.activities 0) in (sized e.1 (λ n k. Stuck n k T) (stuck_left F p), fill_zero c.fill_act.new.self S seen x.tables.now.activities a e.0, sym (ap (λ o. unwrap_or o c.fill_act.new.self.activities) c.unwrap-start.ensures) ∙ c.first_waiting.ensures.0 (links_of T c.fill_act.new.self.kept))
 
 pub returns : goal.returns
 returns c =
@@ -38,11 +51,11 @@ returns c =
     let e = c.fill_act.ensures in
     let a = e.1.activities in
     let F : Frame seen path_at 0 0 S T = rw e.0 (frame_fill seen path_at 0 0 seen (omega arith) (omega arith) S x.tables.now.activities 0) in
-    let s = stuck_left (frame_acts seen 10 0 0 seen path_at (omega arith) (omega arith) F) p.1 in
-    let start = c.first_waiting-start.result in
-    let f = subst (λ n. start ≡ first_waiting (links_of T x.t) (T.act waiting) n 0) a (c.first_waiting-start.ensures.1 (links_of T x.t)) in
+    let s = stuck_left (frame_acts seen 10 0 0 seen path_at (omega arith) (omega arith) F) p in
+    let start = c.unwrap-start.result in
+    let f = subst (λ n. start ≡ first_waiting (links_of T x.tables.now.kept) (T.act waiting) n 0) a (sym (ap (λ o. unwrap_or o c.fill_act.new.self.activities) c.unwrap-start.ensures) ∙ c.first_waiting.ensures.0 (links_of T x.tables.now.kept)) in
     let way = c.walk_back-w.result in
     let w = c.walk_back-w.ensures in
-    let v = subst (λ n. WalkedBack n x.t T U start way.from way.end) a w.0 in
+    let v = sized_back e.1 (λ n k. WalkedBack n k T U start way.from way.end) w.0 in
     let d = c.copy_loop.ensures in
     (named_from F (named_loop_lem s f v d.2 d.0 d.1), same_then e.1 (same_then w.1 d.3))

@@ -1,14 +1,12 @@
 -- `topology::order_activities` meets its contract.
-use mathlib.Core.Path.{sym, subst}
 use mathlib.Core.List.{[]}
-use native.Mathlib.Omega.{arith}
 use Rattle.memory.specs.Fields.{waiting, order_at}
 use Rattle.memory.specs.Seen.{state}
 use Rattle.network.specs.Array.{Progress}
 use Rattle.topology.specs.Links.{links_of}
 use Rattle.topology.specs.Order.{ChainsOut, Draining}
 use Rattle.topology.specs.OrderLaws.{chains_out_kept, draining_now, topological}
-use Rattle.memory.specs.SeenLaws.{same_then}
+use Rattle.memory.specs.SeenLaws.{same_then, sized, sized_back}
 use Rattle.topology.proofs.order_activities.Goals as goal
 
 pub drain-requires : goal.drain-requires
@@ -20,11 +18,7 @@ drain-requires c =
     let a = same_then e.3 f.1 in
     let S = state c.chain_both.new.tables in
     let T = state c.start_queue-end.new.tables in
-    let d : Draining x.tables.now.activities x.t S T 0 c.start_queue-end.result = subst (λ n. Draining n x.t S T 0 c.start_queue-end.result) e.3.activities f.0 in (
-      omega (arith, p.0, a),
-      subst (λ n. ChainsOut n x.t T) (sym a.activities) (chains_out_kept d.kept e.1),
-      subst (λ n. Progress (links_of T x.t) n (T.act order_at) (T.act waiting) 0 c.start_queue-end.result []) (sym a.activities) (draining_now d),
-    )
+    let d = sized_back e.3 (λ n k. Draining n k S T 0 c.start_queue-end.result) f.0 in (sized a (λ n k. ChainsOut n k T) (chains_out_kept d.kept e.1), sized a (λ n k. Progress (links_of T k) n (T.act order_at) (T.act waiting) 0 c.start_queue-end.result []) (draining_now d))
 
 pub returns : goal.returns
 returns c =
@@ -36,6 +30,6 @@ returns c =
     let S = state c.chain_both.new.tables in
     let T = state c.start_queue-end.new.tables in
     let U = state c.drain.new.tables in
-    let h = subst (λ n. Draining n x.t S T 0 c.start_queue-end.result) e.3.activities f.0 in
-    let i = subst (λ n. Draining n x.t T U c.drain.result c.drain.result) a.activities g.0 in
+    let h = sized_back e.3 (λ n k. Draining n k S T 0 c.start_queue-end.result) f.0 in
+    let i = sized_back a (λ n k. Draining n k T U c.drain.result c.drain.result) g.0 in
     (topological e.0 e.1 e.2 h i, same_then e.3 (same_then f.1 g.1))

@@ -12,4 +12,4 @@ returns c =
     let e = c.count_incoming.ensures in
     let f = c.first_ready.ensures in
     let U = state c.first_ready.new.tables in
-    (draining_start c.requires.1 e.0 e.1 (subst (λ n. Filled (U.act waiting) (U.act order_at) n c.first_ready.result) e.2.activities f.0) f.1, same_then e.2 f.2)
+    (draining_start c.requires e.0 e.1 (subst (λ n. Filled (U.act waiting) (U.act order_at) n c.first_ready.result) e.2.activities f.0) f.1, same_then e.2 f.2)

@@ -9,7 +9,7 @@ use Rattle.topology.proofs.waiting_before.Goals as goal
 pub loop-k-init : goal.loop-k-init
 loop-k-init c =
     let p = c.requires in
-    let x = c.args in looking_start p.3 x.x c.act-k.result p.1 c.act-k.ensures.0
+    let x = c.args in looking_start p.2 x.x c.act-k.result p.0 c.act-k.ensures.0
 
 pub returns-then-act-gt0 : goal.returns-then-act-gt0
 returns-then-act-gt0 c =
@@ -19,7 +19,7 @@ returns-then-act-gt0 c =
     let S = state x.tables.now in
     let e = c.link-y.ensures.0 in
     let w = c.act.ensures.0 ∙ ap (S.act waiting) e in
-    e ∙ looking_found p.3 L.invariant c.loop-k-test.true (omega (arith, w))
+    e ∙ looking_found p.2 L.invariant c.loop-k-test.true (omega (arith, w))
 
 pub loop-k-preserved : goal.loop-k-preserved
 loop-k-preserved c =
@@ -29,7 +29,7 @@ loop-k-preserved c =
     let S = state x.tables.now in
     let e = c.link-y.ensures.0 in
     let w = c.act.ensures.0 ∙ ap (S.act waiting) e in
-    looking_step p.3 L.invariant c.link-k.result c.loop-k-test.true (omega (arith, w)) c.link-k.ensures.0
+    looking_step p.2 L.invariant c.link-k.result c.loop-k-test.true (omega (arith, w)) c.link-k.ensures.0
 
 pub returns : goal.returns
-returns c = looking_end c.requires.3 c.loop-k.invariant (omega arith)
+returns c = looking_end c.requires.2 c.loop-k.invariant (omega arith)

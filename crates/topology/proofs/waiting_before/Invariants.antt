@@ -5,7 +5,7 @@ use Rattle.topology.specs.LoopLaws.{Looking}
 use Rattle.topology.proofs.waiting_before.Given as goal
 
 abbrev pub invariant-loop-k : goal.invariant-loop-k
-invariant-loop-k l = Looking l.t (state l.tables) l.x l.k
+invariant-loop-k l = Looking l.tables.kept (state l.tables) l.x l.k
 
 abbrev pub decreases-loop-k : goal.decreases-loop-k
-decreases-loop-k l = l.t - l.k
+decreases-loop-k l = l.tables.kept - l.k

@@ -15,41 +15,29 @@ use Rattle.clock.specs.StandLaws.{ahead_day, ahead_record}
 use Rattle.clock.proofs.records.ahead.Goals as goal
 use Rattle.clock.proofs.records.ahead.Goals.{then-next-day, else-next-day}
 
-pub overflow_mul-over : goal.overflow_mul-over
-overflow_mul-over c = let f = sum_small c.args.sums c.requires.0 c.args.d 0 c.requires.3 (omega arith) in omega (arith, f)
-
-pub overflow_add-over-3 : goal.overflow_add-over-3
-overflow_add-over-3 c = let f = sum_small c.args.sums c.requires.0 c.args.d (weekday c.args.d) c.requires.3 (omega arith) in omega (arith, f)
-
 pub loop-j-init : goal.loop-j-init
 loop-j-init c =
     let a = c.args in
     let p = c.requires in (
-      p.2.within,
-      p.4,
-      (sum_small a.sums p.0 a.d (weekday a.d) p.3 (omega arith)).1,
-      sym (regular_is a.sums a.d),
-      λ i l m. omega (arith, p.2.above i l m),
+      p.0.within,
+      p.2,
+      (sum_small a.sums.now.entries a.sums.now.rising a.d (weekday a.d) p.1 (omega arith)).1,
+      sym (regular_is a.sums.now.entries a.d),
+      λ i l m. omega (arith, p.0.above i l m),
       λ week valid sums.
           let e : count (worked_on week a.exceptions.now.sheet.now a.exceptions.now.at a.exceptions.now.n) (a.d * 1440) + 0 ≡ count (worked_on week a.exceptions.now.sheet.now a.exceptions.now.at a.exceptions.now.n) (a.d * 1440) = omega arith in
-          rw e (rw (regular_is a.sums a.d) at (ahead_day valid sums p.2)),
+          rw e (rw (regular_is a.sums.now.entries a.d) at (ahead_day valid sums p.0)),
     )
-
-pub day-day-requires : goal.day-day-requires
-day-day-requires c = omega (arith, c.args.exceptions.now.listed.0)
 
 pub overflow_mul-before : goal.overflow_mul-before
 overflow_mul-before c =
     let x = c.day-day in
-    let f = sum_small c.args.sums c.requires.0 x.result 0 x.ensures.1 (omega arith) in omega (arith, f)
+    let f = sum_small c.args.sums.now.entries c.args.sums.now.rising x.result 0 x.ensures.1 (omega arith) in omega (arith, f)
 
 pub overflow_add-before-in-loop-j : goal.overflow_add-before-in-loop-j
 overflow_add-before-in-loop-j c =
     let x = c.day-day in
-    let f = sum_small c.args.sums c.requires.0 x.result (weekday x.result) x.ensures.1 (omega arith) in omega (arith, f)
-
-pub overflow_sub-regular : goal.overflow_sub-regular
-overflow_sub-regular c = let k = weekday c.day-day.result in c.requires.0.0 k (k + 1) (omega arith) (omega arith)
+    let f = sum_small c.args.sums.now.entries c.args.sums.now.rising x.result (weekday x.result) x.ensures.1 (omega arith) in omega (arith, f)
 
 -- what the days up to day x have by their weekdays
 started : (ss : List ℕ) (over next x out : ℕ) → Rising ss → get_or ss 0 0 ≡ 0 → x < 4294967296 → next ≤ x + 1 → over ≡ regular ss next
@@ -67,55 +55,52 @@ started ss over next x out up z l m from way =
 pub overflow_add-start : goal.overflow_add-start
 overflow_add-start c =
     let x = c.day-day in
-    let f = sum_small c.args.sums c.requires.0 x.result (weekday x.result) x.ensures.1 (omega arith) in omega (arith, f, c.loop-j.invariant.1, c.requires.5)
+    let f = sum_small c.args.sums.now.entries c.args.sums.now.rising x.result (weekday x.result) x.ensures.1 (omega arith) in omega (arith, f, c.loop-j.invariant.1, c.requires.3)
 
 pub overflow_add-start-in-loop-j : goal.overflow_add-start-in-loop-j
 overflow_add-start-in-loop-j c =
     let day = c.day-day in
     let f =
-    started c.args.sums c.loop-j.over c.loop-j.next day.result c.if-next-day.out c.requires.0 c.requires.1 day.ensures.1
+    started c.args.sums.now.entries c.loop-j.over c.loop-j.next day.result c.if-next-day.out c.args.sums.now.rising c.args.sums.now.none day.ensures.1
     (omega (arith, day.ensures.0, c.loop-j.invariant.4 c.loop-j.j (omega arith) (omega arith))) c.loop-j.invariant.3
     (elim c.if-next-day.branch [ then-next-day w ↦ inl (w.if-next-day.true, w.out-is) | else-next-day w ↦ inr (w.if-next-day.false, w.out-is) ]) in
-    omega (arith, f.2, c.loop-j.invariant.1, c.requires.5)
+    omega (arith, f.2, c.loop-j.invariant.1, c.requires.3)
 
 pub overflow_sub-start : goal.overflow_sub-start
 overflow_sub-start c =
     let day = c.day-day in
     let f =
-    started c.args.sums c.loop-j.over c.loop-j.next day.result c.if-next-day.out c.requires.0 c.requires.1 day.ensures.1
+    started c.args.sums.now.entries c.loop-j.over c.loop-j.next day.result c.if-next-day.out c.args.sums.now.rising c.args.sums.now.none day.ensures.1
     (omega (arith, day.ensures.0, c.loop-j.invariant.4 c.loop-j.j (omega arith) (omega arith))) c.loop-j.invariant.3
     (elim c.if-next-day.branch [ then-next-day w ↦ inl (w.if-next-day.true, w.out-is) | else-next-day w ↦ inr (w.if-next-day.false, w.out-is) ]) in
     omega (arith, f.0)
-
-pub work-requires : goal.work-requires
-work-requires c = omega (arith, c.args.exceptions.now.listed.0)
 
 pub overflow_add-done : goal.overflow_add-done
 overflow_add-done c =
     let day = c.day-day in
     let f =
-    started c.args.sums c.loop-j.over c.loop-j.next day.result c.if-next-day.out c.requires.0 c.requires.1 day.ensures.1
+    started c.args.sums.now.entries c.loop-j.over c.loop-j.next day.result c.if-next-day.out c.args.sums.now.rising c.args.sums.now.none day.ensures.1
     (omega (arith, day.ensures.0, c.loop-j.invariant.4 c.loop-j.j (omega arith) (omega arith))) c.loop-j.invariant.3
     (elim c.if-next-day.branch [ then-next-day w ↦ inl (w.if-next-day.true, w.out-is) | else-next-day w ↦ inr (w.if-next-day.false, w.out-is) ]) in
-    omega (arith, f, c.loop-j.invariant.1, c.requires.5, c.work.ensures.1)
+    omega (arith, f, c.loop-j.invariant.1, c.requires.3, c.work.ensures.1)
 
 pub returns-then-work-done : goal.returns-then-work-done
 returns-then-work-done c =
     let i = c.loop-j.invariant in
     let day = c.day-day in
     let f =
-    started c.args.sums c.loop-j.over c.loop-j.next day.result c.if-next-day.out c.requires.0 c.requires.1 day.ensures.1
+    started c.args.sums.now.entries c.loop-j.over c.loop-j.next day.result c.if-next-day.out c.args.sums.now.rising c.args.sums.now.none day.ensures.1
     (omega (arith, day.ensures.0, c.loop-j.invariant.4 c.loop-j.j (omega arith) (omega arith))) c.loop-j.invariant.3
     (elim c.if-next-day.branch [ then-next-day w ↦ inl (w.if-next-day.true, w.out-is) | else-next-day w ↦ inr (w.if-next-day.false, w.out-is) ]) in
-    let own = ap (regular c.args.sums) day.ensures.0 in
+    let own = ap (regular c.args.sums.now.entries) day.ensures.0 in
     (i.5, i.1, λ _. (omega (arith, f.0, f.1, own), omega (arith, c.if-work-done.true, c.work.ensures.0)), i.2)
 
 pub overflow_add-over-in-loop-j : goal.overflow_add-over-in-loop-j
 overflow_add-over-in-loop-j c =
     let x = c.day-day in
     let k = weekday x.result in
-    let f = sum_small c.args.sums c.requires.0 x.result (k + 1) x.ensures.1 (omega arith) in
-    omega (arith, f, c.requires.0.0 k (k + 1) (omega arith) (omega arith))
+    let f = sum_small c.args.sums.now.entries c.args.sums.now.rising x.result (k + 1) x.ensures.1 (omega arith) in
+    omega (arith, f, c.args.sums.now.rising.0 k (k + 1) (omega arith) (omega arith))
 
 pub loop-j-preserved : goal.loop-j-preserved
 loop-j-preserved c =
@@ -124,15 +109,15 @@ loop-j-preserved c =
     let i = c.loop-j.invariant in
     let day = c.day-day in
     let f =
-    started c.args.sums c.loop-j.over c.loop-j.next day.result c.if-next-day.out c.requires.0 c.requires.1 day.ensures.1
+    started c.args.sums.now.entries c.loop-j.over c.loop-j.next day.result c.if-next-day.out c.args.sums.now.rising c.args.sums.now.none day.ensures.1
     (omega (arith, day.ensures.0, c.loop-j.invariant.4 c.loop-j.j (omega arith) (omega arith))) c.loop-j.invariant.3
     (elim c.if-next-day.branch [ then-next-day w ↦ inl (w.if-next-day.true, w.out-is) | else-next-day w ↦ inr (w.if-next-day.false, w.out-is) ]) in
     let x = day.result in
-    let own = ap (regular a.sums) day.ensures.0 in
-    let out = get_or a.sums (weekday x + 1) 0 - get_or a.sums (weekday x) 0 in
-    let small = sum_small a.sums p.0 x (weekday x + 1) day.ensures.1 (omega arith) in
-    let rise = p.0.0 (weekday x) (weekday x + 1) (omega arith) (omega arith) in
-    let g : get_or a.sums 7 0 * ((x + 1) / 7) + get_or a.sums (weekday x) 0 + out ≡ regular a.sums (x + 1) = omega (arith, regular_end a.sums p.0 p.1 x, rise) in (
+    let own = ap (regular a.sums.now.entries) day.ensures.0 in
+    let out = get_or a.sums.now.entries (weekday x + 1) 0 - get_or a.sums.now.entries (weekday x) 0 in
+    let small = sum_small a.sums.now.entries a.sums.now.rising x (weekday x + 1) day.ensures.1 (omega arith) in
+    let rise = a.sums.now.rising.0 (weekday x) (weekday x + 1) (omega arith) (omega arith) in
+    let g : get_or a.sums.now.entries 7 0 * ((x + 1) / 7) + get_or a.sums.now.entries (weekday x) 0 + out ≡ regular a.sums.now.entries (x + 1) = omega (arith, regular_end a.sums.now.entries a.sums.now.rising a.sums.now.none x, rise) in (
       omega arith,
       omega (arith, c.if-work-done.false),
       omega (arith, small, rise),
@@ -142,9 +127,9 @@ loop-j-preserved c =
           let r = ahead_record valid sums c.loop-j.j (omega arith) in
           let h : record_count week a.exceptions.now.sheet.now a.exceptions.now.at a.exceptions.now.n c.loop-j.j + record_work a.exceptions.now.sheet.now a.exceptions.now.at c.loop-j.j
           ≡ count (worked_on week a.exceptions.now.sheet.now a.exceptions.now.at a.exceptions.now.n) (a.d * 1440)
-          + (c.loop-j.passed + (get_or a.sums 7 0 * ((x + 1) / 7) + get_or a.sums (weekday x) 0) + c.if-next-day.out - c.loop-j.over + c.work.result) =
+          + (c.loop-j.passed + (get_or a.sums.now.entries 7 0 * ((x + 1) / 7) + get_or a.sums.now.entries (weekday x) 0) + c.if-next-day.out - c.loop-j.over + c.work.result) =
           omega (arith, (i.5 week valid sums).record_next (omega arith), f.0, f.1, own, c.work.ensures.0) in
-          rw (h, ap (λ y. regular a.sums (y + 1)) (sym day.ensures.0) ∙ sym g) at r,
+          rw (h, ap (λ y. regular a.sums.now.entries (y + 1)) (sym day.ensures.0) ∙ sym g) at r,
     )
 
 pub returns : goal.returns

@@ -12,5 +12,5 @@ use Rattle.clock.proofs.records.ahead.Given as goal
 
 abbrev pub invariant-loop-j : goal.invariant-loop-j
 invariant-loop-j l =
-    (l.j ≤ l.exceptions.n) × (l.passed < l.work) × (l.over < 2 ^ 43) × (l.over ≡ regular l.sums l.next) × ((i : ℕ) → l.j ≤ i → i < l.exceptions.n → l.next ≤ exception_day l.exceptions.sheet.now l.exceptions.at i + 1)
-    × ((week : List (List Period)) → Valid week l.exceptions.sheet.now l.exceptions.at l.exceptions.n → Sums week l.sums → Ahead week l.exceptions.sheet.now l.exceptions.at l.exceptions.n l.sums l.j (count (worked_on week l.exceptions.sheet.now l.exceptions.at l.exceptions.n) (l.d * 1440) + l.passed) l.over)
+    (l.j ≤ l.exceptions.n) × (l.passed < l.work) × (l.over < 2 ^ 43) × (l.over ≡ regular l.sums.entries l.next) × ((i : ℕ) → l.j ≤ i → i < l.exceptions.n → l.next ≤ exception_day l.exceptions.sheet.now l.exceptions.at i + 1)
+    × ((week : List (List Period)) → Valid week l.exceptions.sheet.now l.exceptions.at l.exceptions.n → Sums week l.sums.entries → Ahead week l.exceptions.sheet.now l.exceptions.at l.exceptions.n l.sums.entries l.j (count (worked_on week l.exceptions.sheet.now l.exceptions.at l.exceptions.n) (l.d * 1440) + l.passed) l.over)

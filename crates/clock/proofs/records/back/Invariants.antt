@@ -12,6 +12,6 @@ use Rattle.clock.proofs.records.back.Given as goal
 
 abbrev pub invariant-loop-j : goal.invariant-loop-j
 invariant-loop-j l =
-    (l.j ≤ l.from) × (l.passed < l.work) × (l.over < 2 ^ 43) × (l.over ≡ regular l.sums l.next) × ((i : ℕ) → i < l.j → exception_day l.exceptions.sheet.now l.exceptions.at i ≤ l.next)
-    × ((week : List (List Period)) → Valid week l.exceptions.sheet.now l.exceptions.at l.exceptions.n → Sums week l.sums
-    → (l.passed ≤ count (worked_on week l.exceptions.sheet.now l.exceptions.at l.exceptions.n) (l.d * 1440)) × Behind week l.exceptions.sheet.now l.exceptions.at l.exceptions.n l.sums l.j (count (worked_on week l.exceptions.sheet.now l.exceptions.at l.exceptions.n) (l.d * 1440) - l.passed) l.over)
+    (l.j ≤ l.from) × (l.passed < l.work) × (l.over < 2 ^ 43) × (l.over ≡ regular l.sums.entries l.next) × ((i : ℕ) → i < l.j → exception_day l.exceptions.sheet.now l.exceptions.at i ≤ l.next)
+    × ((week : List (List Period)) → Valid week l.exceptions.sheet.now l.exceptions.at l.exceptions.n → Sums week l.sums.entries
+    → (l.passed ≤ count (worked_on week l.exceptions.sheet.now l.exceptions.at l.exceptions.n) (l.d * 1440)) × Behind week l.exceptions.sheet.now l.exceptions.at l.exceptions.n l.sums.entries l.j (count (worked_on week l.exceptions.sheet.now l.exceptions.at l.exceptions.n) (l.d * 1440) - l.passed) l.over)

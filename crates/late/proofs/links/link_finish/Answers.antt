@@ -11,7 +11,7 @@ use Rattle.dates.specs.Standing.{as_tie}
 use Rattle.dates.specs.Columns.{early_in, late_in}
 use Rattle.passes.specs.Backward.{over_lag}
 use Rattle.passes.specs.Plan.{own}
-use Rattle.order.specs.Plan.{plan_of}
+use Rattle.order.specs.Plan.{plan_in}
 use Rattle.memory.specs.Seen.{state}
 use Rattle.number.specs.Zed.{up, dn}
 use Rattle.number.specs.Exits.{handed_on}
@@ -24,20 +24,20 @@ pub tie_at-tie-requires : goal.tie_at-tie-requires
 tie_at-tie-requires c = omega (arith, c.requires.0.links, c.requires.1, kept_within c.requires.0)
 
 pub successor_times-requires : goal.successor_times-requires
-successor_times-requires c = let R = c.requires.0 in (R.read, R.located, R.activities, to_in R _ c.requires.1 _ c.tie_at-tie.ensures)
+successor_times-requires c = let R = c.requires.0 in (R.activities, to_in R _ c.requires.1 _ c.tie_at-tie.ensures)
 
 pub over_lag-requires : goal.over_lag-requires
 over_lag-requires c =
     let R = c.requires.0 in
     let τ = c.tie_at-tie.result in
     let h : up τ.lag + dn τ.lag < 2 ^ 63 = omega (arith, lag_in R _ c.requires.1 _ c.tie_at-tie.ensures) in
-    (R.read, R.located, rw (to_z-of_z {w = w64} {z = τ.lag} (record { sfits = search rules })) h)
+    rw (to_z-of_z {w = w64} {z = τ.lag} (record { sfits = search rules })) h
 
 pub returns : goal.returns
 returns c =
     λ i last O.
     let R = c.requires.0 in
-    let p = plan_of c.args.sheet.now c.args.contents in
+    let p = plan_in c.args.plan.now.sheet in
     let S = state c.args.tables.now in
     let d = early_in p S in
     let m = late_in p S last in
@@ -52,7 +52,7 @@ returns c =
 pub returns-in_err-f : goal.returns-in_err-f
 returns-in_err-f c = rw (handed_on _ _ c.from_residual-in_err-f.ensures.1) (λ i last O.
     let R = c.requires.0 in
-    let p = plan_of c.args.sheet.now c.args.contents in
+    let p = plan_in c.args.plan.now.sheet in
     let S = state c.args.tables.now in
     let d = early_in p S in
     let m = late_in p S last in
@@ -67,7 +67,7 @@ returns-in_err-f c = rw (handed_on _ _ c.from_residual-in_err-f.ensures.1) (λ i
 pub returns-in_err-v : goal.returns-in_err-v
 returns-in_err-v c = rw (handed_on _ _ c.from_residual-in_err-v.ensures.1) (λ i last O.
     let R = c.requires.0 in
-    let p = plan_of c.args.sheet.now c.args.contents in
+    let p = plan_in c.args.plan.now.sheet in
     let S = state c.args.tables.now in
     let d = early_in p S in
     let m = late_in p S last in
@@ -81,7 +81,7 @@ returns-in_err-v c = rw (handed_on _ _ c.from_residual-in_err-v.ensures.1) (λ i
 pub returns-in_err-times : goal.returns-in_err-times
 returns-in_err-times c = rw (handed_on _ _ c.from_residual.ensures.1) (λ i last O.
     let R = c.requires.0 in
-    let p = plan_of c.args.sheet.now c.args.contents in
+    let p = plan_in c.args.plan.now.sheet in
     let S = state c.args.tables.now in
     let d = early_in p S in
     let m = late_in p S last in

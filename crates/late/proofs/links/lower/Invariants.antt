@@ -6,7 +6,7 @@ use Rattle.late.specs.StandLaws.{Lowering}
 use Rattle.late.proofs.links.lower.Given as goal
 
 abbrev pub invariant-loop-k : goal.invariant-loop-k
-invariant-loop-k l = (R : Ready l.sheet l.contents l.calendars l.t l.tables) → Lowering R l.i l.last l.latest l.k
+invariant-loop-k l = (R : Ready l.plan l.tables) → Lowering R l.i l.last l.latest l.k
 
 abbrev pub decreases-loop-k : goal.decreases-loop-k
-decreases-loop-k l = l.t - l.k
+decreases-loop-k l = l.tables.kept - l.k

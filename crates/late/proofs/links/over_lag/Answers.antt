@@ -9,7 +9,7 @@ use mir.Val.{to_z, of_z}
 use Rattle.number.specs.ZedLaws.{neg_dn}
 use Rattle.number.specs.Zed.{dn}
 use Rattle.calendars.specs.CalendarLaws.{in_plan_worked}
-use Rattle.order.specs.Plan.{plan_of}
+use Rattle.order.specs.Plan.{plan_in}
 use Rattle.worktime.specs.Walks.{next_start, shift}
 use Rattle.calendar.specs.Hours.{worked}
 use Rattle.number.specs.Exits.{handed_on}
@@ -21,20 +21,20 @@ returns-then-lag-eq0 c = λ d l t e f. sym (over_none _ d l t _ (f ∙ sym (to_z
 
 pub negate-back-requires : goal.negate-back-requires
 negate-back-requires c =
-    let h : dn c.args.lag < 2 ^ 63 = omega (arith, c.requires.2) in
+    let h : dn c.args.lag < 2 ^ 63 = omega (arith, c.requires) in
     rw (to_z-of_z c.ranges.lag) h
 
 pub shift-requires : goal.shift-requires
 shift-requires c =
-    let h : dn (neg_ℤ c.args.lag) < 2 ^ 63 = omega (arith, neg_dn c.args.lag, c.requires.2) in
-    rw (negated_back c.args.lag c.ranges.lag (omega (arith, c.requires.2)) _ c.negate-back.ensures) h
+    let h : dn (neg_ℤ c.args.lag) < 2 ^ 63 = omega (arith, neg_dn c.args.lag, c.requires) in
+    rw (negated_back c.args.lag c.ranges.lag (omega (arith, c.requires)) _ c.negate-back.ensures) h
 
 pub returns : goal.returns
 returns c =
     λ d l t e f.
-    let p = plan_of c.args.sheet.now c.args.contents in
-    let w = in_plan_worked c.calendar_of-calendar.ensures ∙ ap (λ (j : ℕ). worked (p.hours j)) (sym e) in
-    let m = ap neg_ℤ f ∙ sym (negated_back c.args.lag c.ranges.lag (omega (arith, c.requires.2)) _ c.negate-back.ensures) in
+    let p = plan_in c.args.plan.now.sheet in
+    let w = in_plan_worked c.calendar-calendar.ensures ∙ ap (λ (j : ℕ). worked (p.hours j)) (sym e) in
+    let m = ap neg_ℤ f ∙ sym (negated_back c.args.lag c.ranges.lag (omega (arith, c.requires)) _ c.negate-back.ensures) in
     c.next_start.ensures ∙ (λ z. next_start (w z) c.in_ok-v.v)
     ∙ sym
     (over_at p d l t c.args.x _ ((λ z. shift (sym w z) c.args.x (m z)) ∙ sym c.shift.ensures ∙ c.in_ok-v.was)
@@ -42,7 +42,7 @@ returns c =
 
 pub returns-in_err-v : goal.returns-in_err-v
 returns-in_err-v c = rw (handed_on _ _ c.from_residual.ensures.1) (λ d l t e f.
-    let p = plan_of c.args.sheet.now c.args.contents in
-    let w = in_plan_worked c.calendar_of-calendar.ensures ∙ ap (λ (j : ℕ). worked (p.hours j)) (sym e) in
-    let m = ap neg_ℤ f ∙ sym (negated_back c.args.lag c.ranges.lag (omega (arith, c.requires.2)) _ c.negate-back.ensures) in
+    let p = plan_in c.args.plan.now.sheet in
+    let w = in_plan_worked c.calendar-calendar.ensures ∙ ap (λ (j : ℕ). worked (p.hours j)) (sym e) in
+    let m = ap neg_ℤ f ∙ sym (negated_back c.args.lag c.ranges.lag (omega (arith, c.requires)) _ c.negate-back.ensures) in
     sym (over_refused p d l t c.args.x _ ((λ z. shift (sym w z) c.args.x (m z)) ∙ sym c.shift.ensures ∙ c.in_err-v.was)))

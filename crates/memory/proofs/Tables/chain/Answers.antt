@@ -1,5 +1,5 @@
 -- `memory::Tables::chain` meets its contract.
-use mathlib.Core.Path.{sym, ap, subst, ◌∙◌}
+use mathlib.Core.Path.{sym, subst, ◌∙◌}
 use Rattle.std.proofs.Common.{rules}
 use Rattle.memory.specs.Seen.{state}
 use Rattle.memory.specs.Chains.{linked_from, Chains}
@@ -12,5 +12,5 @@ returns c =
     let p = c.requires in
     let S = state x.self.now in
     let a = x.self.now.activities in
-    let e = c.chain_links.ensures.0 ∙ ap (linked_from x.key x.head x.next x.t 0) c.fill_act.ensures.0 in
-    (e, subst (Chains x.key x.head x.next a x.t S) (sym e) (chains x.key x.head x.next a x.t p.4 S p.5), search rules)
+    let e = c.chain_links.ensures.0 ∙ (λ z. linked_from x.key x.head x.next (c.fill_act.ensures.1.kept z) 0 (c.fill_act.ensures.0 z)) in
+    (e, subst (Chains x.key x.head x.next a x.self.now.kept S) (sym e) (chains x.key x.head x.next a x.self.now.kept p.3 S p.4), search rules)

@@ -6,4 +6,4 @@ use Rattle.memory.specs.Seen.{state, SameSlice}
 use Rattle.memory.proofs.Tables.chain_links.Given as goal
 
 abbrev pub invariant-loop-k : goal.invariant-loop-k
-invariant-loop-k l = SameSlice l.initial.self l.self × (state l.self ≡ linked_from l.key l.head l.next (l.t - l.k) l.k (state l.initial.self))
+invariant-loop-k l = SameSlice l.initial.self l.self × (state l.self ≡ linked_from l.key l.head l.next (l.initial.self.kept - l.k) l.k (state l.initial.self))

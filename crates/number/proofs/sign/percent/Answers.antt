@@ -1,5 +1,5 @@
 -- `number::sign::percent` meets its contract: the product stays small, and so does the quotient.
-use mathlib.Core.Path.{◌≡◌, refl}
+use mathlib.Core.Path.{◌≡◌, refl, ◌∙◌}
 use native.Mathlib.Omega.{arith}
 use Prim.Native.Nat.{◌≤◌}
 use lib.IntN.{ℤ, pos, negsuc, nat_abs, ◌*ℤ◌}
@@ -9,14 +9,14 @@ use mir.Syntax.{w64}
 use mir.Val.{SFits}
 use Rattle.number.specs.Sign.{clamp_z, percent_of}
 use Rattle.number.specs.QuotLaws.{fits_abs, quot_fits}
-use Rattle.number.specs.SignLaws.{percent_product, percent_size}
+use Rattle.number.specs.SignLaws.{clamp_is, percent_product, percent_size}
 use Rattle.number.proofs.sign.percent.Goals as goal
 
 abbrev product : goal.After-clamp-held → ℤ
 product c = c.args.duration *ℤ c.clamp-held.result
 
 held : (c : goal.After-clamp-held) → c.clamp-held.result ≡ clamp_z c.args.share (negsuc 999999) (pos 1000000)
-held c = rw (to_z-of_z c.ranges.share) at c.clamp-held.ensures
+held c = (rw (to_z-of_z c.ranges.share) at c.clamp-held.ensures.value) ∙ clamp_is c.args.share (negsuc 999999) (pos 1000000) (omega arith)
 
 small : (c : goal.After-clamp-held) → nat_abs (product c) ≤ 48000000000000
 small c = rw (held c) (percent_product c.args.duration c.args.share c.requires)

@@ -2,20 +2,15 @@
 use mathlib.Core.Path.{sym, ap, ◌∙◌}
 use Rattle.number.specs.Exits.{handed_on}
 use Rattle.worktime.specs.Walks.{next_start}
-use Rattle.placing.proofs.PlacingLaws.{actual_start_refuses, actual_finish_refuses, actual_finished, actual_raised}
+use Rattle.placing.proofs.PlacingLaws.{actual_start_refuses, actual_finish_refuses, actual_both}
 use Rattle.placing.proofs.dates.completed.Goals as goal
-
-pub returns-then-f-s : goal.returns-then-f-s
-returns-then-f-s c =
-    sym
-    (actual_raised _ _ _ _ _ (ap (next_start _) (sym c.midnight.ensures.0) ∙ sym c.next_start.ensures ∙ c.in_ok-s.was)
-    (sym c.finish_by_day.ensures ∙ c.in_ok-f.was) c.if-f-s.true)
 
 pub returns : goal.returns
 returns c =
-    sym
-    (actual_finished _ _ _ _ _ (ap (next_start _) (sym c.midnight.ensures.0) ∙ sym c.next_start.ensures ∙ c.in_ok-s.was)
-    (sym c.finish_by_day.ensures ∙ c.in_ok-f.was) c.if-f-s.false)
+    rw (c.max.ensures)
+    (sym
+    (actual_both _ _ _ _ _ (ap (next_start _) (sym c.midnight.ensures.0) ∙ sym c.next_start.ensures ∙ c.in_ok-s.was)
+    (sym c.finish_by_day.ensures ∙ c.in_ok-f.was)))
 
 pub returns-in_err-f : goal.returns-in_err-f
 returns-in_err-f c =

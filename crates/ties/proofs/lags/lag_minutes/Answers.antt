@@ -1,14 +1,13 @@
 -- `ties::lags::lag_minutes` meets its contract, by the five kinds of lag.
 use borrow.Author.Rules.{rules}
-use mathlib.Core.Path.{◌≡◌, refl, sym, ap, ◌∙◌}
-use Prim.Native.Nat.{◌+◌, ◌≤◌}
-use native.Mathlib.Omega.{arith}
+use mathlib.Core.Path.{◌≡◌, refl, sym, ◌∙◌}
 use lib.IntN.{pos, ◌*ℤ◌}
 use mir.Facts.{to_z-of_z}
-use Rattle.number.specs.Zed.{up, dn}
+use mir.Syntax.{w32}
+use mir.Val.{SFits}
 use Rattle.number.specs.Sign.{percent_of}
-use Rattle.order.specs.Lags.{lag_before, lag_minutes, days_limit}
-use Rattle.order.specs.LagLaws.{not_beyond, lag_size}
+use Rattle.order.specs.Lags.{lag_minutes}
+use Rattle.order.specs.LagLaws.{lag_size}
 use Rattle.ties.specs.Widened.{widened_back}
 use Rattle.ties.proofs.lags.lag_minutes.Goals as goal
 
@@ -17,17 +16,14 @@ minutes : (c : goal.After-days_in_minutes) → let a = c.args in
 unfolding lag_minutes
 minutes c = rw c.in-WorkingDays.is
 
-short : (c : goal.In-WorkingDays) → up c.in-WorkingDays.n + dn c.in-WorkingDays.n ≤ 100000
-unfolding lag_before
-short c = not_beyond days_limit c.in-WorkingDays.n (sym (ap lag_before c.in-WorkingDays.is) ∙ c.requires.0)
-
 pub days_in_minutes-requires : goal.days_in_minutes-requires
-days_in_minutes-requires c = rw (widened_back c.in-WorkingDays.n (record { sfits = search rules })) (short c, c.requires.1)
+days_in_minutes-requires c = c.requires.1
 
 pub returns-in-WorkingDays : goal.returns-in-WorkingDays
 returns-in-WorkingDays c =
     let a = c.args in
-    let e = rw (widened_back c.in-WorkingDays.n (record { sfits = search rules })) at c.days_in_minutes.ensures ∙ sym (minutes c) in
+    let f : SFits w32 c.in-WorkingDays.n = record { sfits = search rules } in
+    let e = rw (to_z-of_z f) at c.days_in_minutes.ensures ∙ sym (minutes c) in
     rw (to_z-of_z (record { sfits = c.days_in_minutes.type_inv }), e) (refl, lag_size a.day_length a.duration c.requires.1 c.requires.2 a.lag c.requires.0)
 
 minutes-2 : (c : goal.In-WorkingMinutes) → let a = c.args in
@@ -43,17 +39,11 @@ minutes-3 : (c : goal.After-days_in_minutes-in-ElapsedDays) → let a = c.args i
 unfolding lag_minutes
 minutes-3 c = rw c.in-ElapsedDays.is
 
-short-2 : (c : goal.In-ElapsedDays) → up c.in-ElapsedDays.n + dn c.in-ElapsedDays.n ≤ 100000
-unfolding lag_before
-short-2 c = not_beyond days_limit c.in-ElapsedDays.n (sym (ap lag_before c.in-ElapsedDays.is) ∙ c.requires.0)
-
-pub days_in_minutes-requires-in-ElapsedDays : goal.days_in_minutes-requires-in-ElapsedDays
-days_in_minutes-requires-in-ElapsedDays c = rw (widened_back c.in-ElapsedDays.n (record { sfits = search rules })) (short-2 c, omega arith)
-
 pub returns-in-ElapsedDays : goal.returns-in-ElapsedDays
 returns-in-ElapsedDays c =
     let a = c.args in
-    let e = rw (widened_back c.in-ElapsedDays.n (record { sfits = search rules })) at c.days_in_minutes-in-ElapsedDays.ensures ∙ sym (minutes-3 c) in
+    let f : SFits w32 c.in-ElapsedDays.n = record { sfits = search rules } in
+    let e = rw (to_z-of_z f) at c.days_in_minutes-in-ElapsedDays.ensures ∙ sym (minutes-3 c) in
     rw (to_z-of_z (record { sfits = c.days_in_minutes-in-ElapsedDays.type_inv }), e) (refl, lag_size a.day_length a.duration c.requires.1 c.requires.2 a.lag c.requires.0)
 
 minutes-4 : (c : goal.In-ElapsedMinutes) → let a = c.args in

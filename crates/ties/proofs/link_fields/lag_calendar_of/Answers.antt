@@ -6,7 +6,7 @@ use Rattle.order.specs.Plan.{plan_of}
 use Rattle.ties.proofs.link_fields.lag_calendar_of.Goals as goal
 
 pub byte-requires : goal.byte-requires
-byte-requires c = omega (arith, c.requires.header.within)
+byte-requires c = omega (arith, c.args.sheet.now.read.header.within)
 
 pub returns : goal.returns
 unfolding plan_of project_at

@@ -1,0 +1,6 @@
+-- `memory::Tables::clear` meets its contract: what is cleared is the whole slice.
+use Rattle.std.proofs.Common.{rules}
+use Rattle.memory.proofs.Tables.clear.Goals as goal
+
+pub returns : goal.returns
+returns c = (c.clear.ensures, search rules)
