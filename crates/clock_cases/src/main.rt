@@ -186,7 +186,7 @@ fn print_calendar(rt: &impl Print, week: [[Period; 8]; 7], w: usize, e: usize) -
     println!(rt; "calendar of {w} W and {e} E, weekly hours: {hours}")
 }
 
-// The cases of a calendar of `w` W records from `at` on and `e` E records from `from` on; after a mark of 1 they are cases round the clock.
+// The cases of a calendar of `w` W records from `at` on and `e` E records from `from` on; after a mark of 1 they are cases round the clock. Where the heading cannot be written they are still tried.
 fn run_week(
     rt: &impl Print,
     file: &[u8],
@@ -200,15 +200,19 @@ fn run_week(
 {
     let end = from + 9 * e;
     if sheet::runs::kind_at(file, end) == 1 {
-        println!(rt; "round the clock")?;
+        let head = println!(rt; "round the clock");
         let week = calendar::round_the_clock();
         let calendar = Calendar::new(&week, file, end, 0);
-        return run_cases(rt, &calendar, file, end);
+        let ran = run_cases(rt, &calendar, file, end);
+        head?;
+        return ran;
     }
     let week = calendar::read_week(file, at, w);
-    print_calendar(rt, week, w, e)?;
+    let head = print_calendar(rt, week, w, e);
     let calendar = Calendar::new(&week, file, from, e);
-    run_cases(rt, &calendar, file, end)
+    let ran = run_cases(rt, &calendar, file, end);
+    head?;
+    ran
 }
 
 // The cases of a calendar whose `w` W records stand from `at` on.

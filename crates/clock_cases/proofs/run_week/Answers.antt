@@ -19,8 +19,8 @@ new-calendar-requires g c =
     let l = (run_counted c.args.file.now Exception c.args.from c.args.e c.requires.2 c.requires.4).within in
     rw c.round_the_clock-week.ensures (clock_valid _ _ l)
 
-pub run_cases-requires : goal.run_cases-requires
-run_cases-requires g c = (run_counted c.args.file.now Exception c.args.from c.args.e c.requires.2 c.requires.4).within
+pub run_cases-ran-requires : goal.run_cases-ran-requires
+run_cases-ran-requires g c = (run_counted c.args.file.now Exception c.args.from c.args.e c.requires.2 c.requires.4).within
 
 pub read_week-week-requires : goal.read_week-week-requires
 read_week-week-requires g c =
@@ -33,5 +33,5 @@ new-calendar-requires-2 g c =
     let exceptions = run_counted c.args.file.now Exception c.args.from c.args.e c.requires.2 c.requires.4 in
     rw c.read_week-week.ensures (read_valid _ _ _ _ _ weeks exceptions)
 
-pub run_cases-requires-2 : goal.run_cases-requires-2
-run_cases-requires-2 g c = (run_counted c.args.file.now Exception c.args.from c.args.e c.requires.2 c.requires.4).within
+pub run_cases-ran-requires-2 : goal.run_cases-ran-requires-2
+run_cases-ran-requires-2 g c = (run_counted c.args.file.now Exception c.args.from c.args.e c.requires.2 c.requires.4).within
