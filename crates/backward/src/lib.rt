@@ -1,7 +1,7 @@
 // The greatest early finish, the end that the plan is held to, and the backward pass: late starts and finishes.
 #![tactic(auto)]
 
-ghost use Rattle.std.specs.Prelude.{◌≡◌, reverse, ℕ, ◌^◌, ◌≤◌, ◌<◌, length, Ok, IfSome};
+ghost use Rattle.std.specs.Prelude.{◌≡◌, reverse, ℕ, ◌^◌, ◌<◌, Ok, IfSome};
 ghost use Rattle.memory.specs.Seen.{state, SameSlice};
 ghost use Rattle.memory.specs.Fields.{early_start, early_finish};
 ghost use Rattle.topology.specs.Frame.{Frame};
@@ -12,13 +12,14 @@ ghost use Rattle.passes.specs.Plan.{recorded};
 ghost use Rattle.passes.specs.Dates.{Early, Late, through};
 ghost use Rattle.passes.specs.Backward.{finish, end, backward};
 ghost use Rattle.dates.specs.Columns.{early_in, late_in, ended};
-ghost use Rattle.dates.specs.Standing.{Ready, Recorded};
+ghost use Rattle.dates.specs.Standing.{Ready, Lent};
 ghost use Rattle.late.specs.Times.{unfinished_late};
 ghost use Rattle.backward.specs.Finish.{Marked, past, onward};
 ghost use Rattle.backward.specs.Stored.{stored};
 ghost use Rattle.backward.specs.Turn.{turn_kept};
 
 use calendars::PlanSheet;
+use dates::Span;
 use dates::step::Step;
 use memory::Tables;
 use placing::Actual;
@@ -54,7 +55,7 @@ pub fn end_of(sheet: &Sheet, greatest: u64) -> Result<u64, ClockError>
     requires { greatest < 2 ^ 63 }
     ensures { ((d : Early) → greatest ≡ finish (plan_in sheet.now) d → result ≡ end (plan_in sheet.now) d) × ((t : ℕ) → result ≡ Ok t → t < 2 ^ 63) }
 {
-    match project::fields::read_optional_date(sheet.bytes, 9) {
+    match sheet.must_finish_by() {
         Some(day) => {
             let origin = dates::origin_of(sheet);
             placing::bounded(origin, day.midnight() + 1440)
@@ -64,12 +65,12 @@ pub fn end_of(sheet: &Sheet, greatest: u64) -> Result<u64, ClockError>
 }
 
 // Puts the late dates of activity `i` into the memory.
-fn store_late(tables: &mut Tables, i: usize, start: u64, finish: u64)
-    requires { (i < tables.old.activities) × (start < 2 ^ 63) × (finish < 2 ^ 63) }
-    ensures { (state tables.new ≡ stored (state tables.old) i start finish) × SameSlice tables.old tables.new }
+fn store_late(tables: &mut Tables, i: usize, late: Span)
+    requires { (i < tables.old.activities) × (late.start < 2 ^ 63) × (late.finish < 2 ^ 63) }
+    ensures { (state tables.new ≡ stored (state tables.old) i late.start late.finish) × SameSlice tables.old tables.new }
 {
-    tables.put_act(i, memory::fields::LATE_START, start);
-    tables.put_act(i, memory::fields::LATE_FINISH, finish);
+    tables.put_act(i, memory::fields::LATE_START, late.start);
+    tables.put_act(i, memory::fields::LATE_FINISH, late.finish);
 }
 
 // Completed work: its late dates are its early ones.
@@ -79,7 +80,7 @@ fn keep_early(tables: &mut Tables, i: usize)
 {
     let start = tables.act(i, memory::fields::EARLY_START);
     let finish = tables.act(i, memory::fields::EARLY_FINISH);
-    store_late(tables, i, start, finish);
+    store_late(tables, i, Span { start, finish });
 }
 
 // The late dates of activity `i`, of which `actual` is recorded and which is not completed.
@@ -94,7 +95,7 @@ fn place_unfinished(
     ensures { (ended (late_in (plan_in plan.now.sheet) (state tables.new) last) result ≡ unfinished_late (plan_in plan.now.sheet) (early_in (plan_in plan.now.sheet) (state tables.old)) (late_in (plan_in plan.now.sheet) (state tables.old) last) i last) × Frame 10 12 0 0 (state tables.old) (state tables.new) × SameSlice tables.old tables.new }
 {
     let dates = late::late_of(plan, tables, i, actual, last)?;
-    store_late(tables, i, dates.start, dates.finish);
+    store_late(tables, i, dates);
     Ok(())
 }
 
@@ -119,17 +120,21 @@ impl Step for Backward {
 
     fn take(&self, plan: &PlanSheet, tables: &mut Tables, i: usize) -> Result<(), ClockError> {
         let actual = dates::recorded_at(tables, i);
-        let Actual::Completed(_, _) = actual else {
-            return place_unfinished(plan, tables, self.last, i, actual);
-        };
-        keep_early(tables, i);
-        Ok(())
+        match actual {
+            Actual::Unstarted | Actual::Begun(_) => {
+                place_unfinished(plan, tables, self.last, i, actual)
+            }
+            Actual::Completed(_, _) => {
+                keep_early(tables, i);
+                Ok(())
+            }
+        }
     }
 }
 
 // The backward pass from `last`, the end: the late dates of all activities.
 pub fn backward_pass(plan: &PlanSheet, tables: &mut Tables, last: u64) -> Result<(), ClockError>
-    requires { Ready plan.now tables.old × Recorded (plan_in plan.now.sheet) (state tables.old) × (last < 2 ^ 63) }
+    requires { Lent plan.now tables.old × (last < 2 ^ 63) }
     ensures { (ended (late_in (plan_in plan.now.sheet) (state tables.new) last) result ≡ through (backward (plan_in plan.now.sheet) (early_in (plan_in plan.now.sheet) (state tables.old)) last) (reverse (order (plan_in plan.now.sheet))) (record { ls = λ i. last; lf = λ i. last })) × Frame 10 12 0 0 (state tables.old) (state tables.new) × SameSlice tables.old tables.new }
 {
     tables.fill_act(memory::fields::LATE_START, last);

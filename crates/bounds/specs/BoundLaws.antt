@@ -1,5 +1,5 @@
 -- One law for each way out of a link's bound and of the start that it leaves.
-use Rattle.std.specs.Prelude.{◌≡◌, Bool, ℕ, ℤ, Result, Ok, Err}
+use Rattle.std.specs.Prelude.{◌≡◌, refl, true, false, ℕ, ℤ, Result, Ok, Err}
 use Rattle.worktime.specs.declared.ClockError.{ClockError}
 use Rattle.std.proofs.Math.Path.{sym, ap₂}
 use Rattle.std.proofs.Common.{ap, ◌∙◌}
@@ -12,22 +12,28 @@ use Rattle.order.specs.Plan.{Plan}
 use Rattle.order.specs.Ties.{Tie}
 use Rattle.passes.specs.Plan.{own, lag_own, origin}
 use Rattle.passes.specs.Forward.{source_of, forward_bound, start_for}
+use Rattle.dates.specs.Standing.{leads_to_finish}
 
 module _ (p : Plan) where
-  -- ---- the start that a bound leaves, by the link's type
+  -- ---- the start that a bound leaves, by the end that the link leads to
   module _ (i left : ℕ) (kind : RelationshipType) (b : ℕ) where
-    pub start_after_finish : kind ≡ FinishToStart → start_for p i left kind b ≡ Ok b
-    start_after_finish e = rw e
+    pub bound_is_start : leads_to_finish kind ≡ false → start_for p i left kind b ≡ Ok b
+    bound_is_start e = by kind e
+      where
+        by : (k : RelationshipType) → leads_to_finish k ≡ false → start_for p i left k b ≡ Ok b
+        by FinishToStart h = refl
+        by StartToStart h = refl
+        by FinishToFinish h = let z : true ≡ false = h in cc
+        by StartToFinish h = let z : true ≡ false = h in cc
 
-    pub start_after_start : kind ≡ StartToStart → start_for p i left kind b ≡ Ok b
-    start_after_start e = rw e
-
-    module _ (w : ℕ → Bool) (o : own p i ≡ w) where
-      pub finish_after_finish : kind ≡ FinishToFinish → start_for p i left kind b ≡ start_for_finish w left b
-      finish_after_finish e = ap (λ (k : RelationshipType). start_for p i left k b) e ∙ ap (λ (v : ℕ → Bool). start_for_finish v left b) o
-
-      pub finish_after_start : kind ≡ StartToFinish → start_for p i left kind b ≡ start_for_finish w left b
-      finish_after_start e = ap (λ (k : RelationshipType). start_for p i left k b) e ∙ ap (λ (v : ℕ → Bool). start_for_finish v left b) o
+    pub bound_is_finish : leads_to_finish kind ≡ true → start_for p i left kind b ≡ start_for_finish (own p i) left b
+    bound_is_finish e = by kind e
+      where
+        by : (k : RelationshipType) → leads_to_finish k ≡ true → start_for p i left k b ≡ start_for_finish (own p i) left b
+        by FinishToFinish h = refl
+        by StartToFinish h = refl
+        by FinishToStart h = let z : false ≡ true = h in cc
+        by StartToStart h = let z : false ≡ true = h in cc
 
   -- ---- the bound: the predecessor's date moved by the lag, and bounded
   module _ (t : Tie) (es ef source : ℕ) (lag : ℤ) (s : source ≡ source_of p t.kind es ef) (z : lag ≡ t.lag) where

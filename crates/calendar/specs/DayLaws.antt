@@ -1,6 +1,6 @@
 -- The E records of a day stand together, and its hours are theirs or the week's.
 use Rattle.std.specs.Prelude.{◌≡◌, refl, List, [], ◌∷◌, ◌++◌, length, get_or}
-use Rattle.std.proofs.Common.{sym, ap, ap₂, ◌∙◌, ⊎_elim, add-one, length-append}
+use Rattle.std.proofs.Common.{sym, ap, ◌∙◌, ⊎_elim, add-one, length-append}
 use Prim.Native.Nat.{ℕ, zero, suc, ◌+◌, ◌-◌, ◌*◌, ◌≤◌, ◌<◌}
 use native.Mathlib.Omega.{arith}
 use Rattle.std.proofs.Math.Nat.{add-zero}
@@ -10,7 +10,7 @@ use Rattle.std.proofs.lemmas.List.{get_or_at}
 use Rattle.number.specs.Order.{lt_or_le, zero_or_pos}
 use Rattle.number.specs.Bytes.{u16_at}
 use Rattle.calendar.specs.declared.Period.{Period}
-use Rattle.calendar.specs.declared.Hours.{Hours}
+use Rattle.calendar.specs.declared.hours.Hours.{Hours}
 use Rattle.calendar.specs.Hours.{none}
 use Rattle.calendar.specs.Records.{exception_day, exception_period, exceptions_on, hours_on, FirstFrom, record_periods, periods_of, InHand}
 use Rattle.date.specs.Days.{weekday}
@@ -73,14 +73,14 @@ unfolding record_periods
 records_none s at = refl
 
 -- ---- the two ways of hours in hand
-module _ (h : Hours) (s : List ℕ) where
-  pub of_row : h.n ≡ 0 → periods_of h s ≡ h.row
+module _ (h : Hours) where
+  pub of_row : h.records.n ≡ 0 → periods_of h ≡ h.row
   unfolding periods_of
-  of_row e = rw (eq-eqb h.n 0 e, periods_of)
+  of_row e = rw (eq-eqb h.records.n 0 e, periods_of)
 
-  pub of_records : 0 < h.n → periods_of h s ≡ record_periods s h.at h.n
+  pub of_records : 0 < h.records.n → periods_of h ≡ record_periods h.records.sheet.now h.records.at h.records.n
   unfolding periods_of
-  of_records l = rw (ne_eqb h.n 0 (omega arith), periods_of)
+  of_records l = rw (ne_eqb h.records.n 0 (omega arith), periods_of)
 
 -- ---- the records of day d are those from `from` up to `to`
 exception_shift : (s : List ℕ) (at f i : ℕ) → exception_period s (at + 9 * f) i ≡ exception_period s at (f + i)
@@ -116,21 +116,21 @@ module _ (s : List ℕ) (at n d from to : ℕ) (lo : FirstFrom s at n d from) (h
   on_all = let e : from + (to - from) ≡ to = omega (arith, from_to) in on_last ∙ (rw e at (on_records (to - from) (omega (arith, from_to))))
 
   -- the hours of day d, its row and where its records stand
-  pub hours_in_hand : (week : List (List Period)) (h : Hours) → h.row ≡ get_or week (weekday d) [] → h.at ≡ at + 9 * from → h.n ≡ to - from
-      → periods_of h s ≡ hours_on week s at n d
-  hours_in_hand week h r a m =
+  pub hours_in_hand : (week : List (List Period)) (h : Hours) → h.row ≡ get_or week (weekday d) [] → h.records.sheet.now ≡ s → h.records.at ≡ at + 9 * from → h.records.n ≡ to - from
+      → periods_of h ≡ hours_on week s at n d
+  hours_in_hand week h r t a m =
       let l : length (exceptions_on s at d n) ≡ to - from = rw on_all (records_length s (at + 9 * from) (to - from)) in
       ⊎_elim
-      (λ z. of_row h s (omega arith) ∙ r ∙ sym (hours_week week s at n d (on_all ∙ (ap (record_periods s (at + 9 * from)) z ∙ records_none s (at + 9 * from)))))
-      (λ z. of_records h s (omega arith) ∙ ap₂ (record_periods s) a m ∙ sym on_all ∙ sym (hours_own week s at n d (omega arith)))
+      (λ z. of_row h (omega arith) ∙ r ∙ sym (hours_week week s at n d (on_all ∙ (ap (record_periods s (at + 9 * from)) z ∙ records_none s (at + 9 * from)))))
+      (λ z. of_records h (omega arith) ∙ rw (t, a, m) (sym on_all) ∙ sym (hours_own week s at n d (omega arith)))
       (zero_or_pos (to - from))
 
   -- and so in every week with that row
-  pub in_hand : at + 9 * n ≤ length s → (h : Hours) → h.at ≡ at + 9 * from → h.n ≡ to - from → InHand h.row s at n d h
-  in_hand l h a m =
+  pub in_hand : (h : Hours) → h.records.sheet.now ≡ s → h.records.at ≡ at + 9 * from → h.records.n ≡ to - from → InHand h.row s at n d h
+  in_hand h t a m =
       record {
-        within = omega (arith, from_to, hi.within);
-        is = λ week r. hours_in_hand week h (sym r) a m;
+        within = h.records.within;
+        is = λ week r. hours_in_hand week h (sym r) t a m;
       }
 
   -- where the next day's records begin, and where the day's own do

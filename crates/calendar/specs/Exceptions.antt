@@ -1,7 +1,7 @@
 -- What is said of the E records of a calendar in hand.
 use Rattle.std.specs.Prelude.{List, ℕ, ◌-◌, min}
 use Rattle.calendar.specs.declared.Period.{Period}
-use Rattle.calendar.specs.declared.Hours.{Hours}
+use Rattle.calendar.specs.declared.hours.Hours.{Hours}
 use Rattle.calendar.specs.declared.exceptions.Exceptions.{Exceptions}
 use Rattle.calendar.specs.Records.{exception_day, exception_period, FirstFrom, InHand}
 

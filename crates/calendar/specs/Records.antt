@@ -3,7 +3,7 @@ use Rattle.std.specs.Prelude.{◌≡◌, Bool, true, false, List, [], ◌∷◌,
 use Rattle.date.specs.Days.{weekday}
 use Rattle.number.specs.Bytes.{byte_at, u16_at, biased_at}
 use Rattle.calendar.specs.declared.Period.{Period}
-use Rattle.calendar.specs.declared.Hours.{Hours}
+use Rattle.calendar.specs.declared.hours.Hours.{Hours}
 use Rattle.calendar.specs.Hours.{none, Ordered, works}
 
 -- ---- W (6 bytes with its kind): weekday u8, from and to, u16
@@ -71,20 +71,20 @@ pub record FirstFrom (s : List ℕ) (at n d r : ℕ) : Type 0 where
   pub below : (j : ℕ) → j < r → exception_day s at j < d
   pub above : (j : ℕ) → r ≤ j → j < n → d ≤ exception_day s at j
 
--- ---- a day's hours in hand: its row of the week, or where its E records stand
+-- ---- a day's hours in hand: its row of the week, or its E records
 -- the periods of n E records from the byte `at` on
 unfoldable pub record_periods : List ℕ → ℕ → ℕ → List Period
 record_periods s at zero = []
 record_periods s at (suc i) = record_periods s at i ++ (exception_period s at i ∷ [])
 
-unfoldable pub periods_of : Hours → List ℕ → List Period
-periods_of h s = elim (eqb h.n 0) [ true ↦ h.row | false ↦ record_periods s h.at h.n ]
+unfoldable pub periods_of : Hours → List Period
+periods_of h = elim (eqb h.records.n 0) [ true ↦ h.row | false ↦ record_periods h.records.sheet.now h.records.at h.records.n ]
 
--- hours that lie within the sheet
-abbrev pub Within : Hours → List ℕ → Type 0
-Within h s = h.at + 9 * h.n ≤ length s
+-- hours whose E records lie within the sheet
+abbrev pub Within : Hours → Type 0
+Within h = h.records.at + 9 * h.records.n ≤ length h.records.sheet.now
 
 -- hours of day d in hand, by the row of its weekday: in every week with that row they are the day's
 pub record InHand (row : List Period) (s : List ℕ) (at n d : ℕ) (h : Hours) : Type 0 where
-  pub within : Within h s
-  pub is : (week : List (List Period)) → get_or week (weekday d) [] ≡ row → periods_of h s ≡ hours_on week s at n d
+  pub within : Within h
+  pub is : (week : List (List Period)) → get_or week (weekday d) [] ≡ row → periods_of h ≡ hours_on week s at n d

@@ -2,7 +2,7 @@
 use Rattle.std.specs.Prelude.{◌≡◌, true, List, [], ℕ, ◌/◌, ◌%◌, ◌≤◌, ◌<◌, length, get_or}
 use Rattle.std.proofs.Common.{arith}
 use Rattle.calendar.specs.declared.Period.{Period}
-use Rattle.calendar.specs.declared.Hours.{Hours}
+use Rattle.calendar.specs.declared.hours.Hours.{Hours}
 use Rattle.calendar.specs.Hours.{held, worked, Ordered}
 use Rattle.calendar.specs.Records.{hours_on, round_the_clock, Valid, periods_of}
 use Rattle.date.specs.Days.{weekday}
@@ -10,7 +10,7 @@ use Rattle.calendar.specs.WeekLaws.{clock_held, clock_ordered}
 use Rattle.calendar.specs.DayLaws.{hours_plain}
 
 -- hours in hand of a valid calendar are in order
-pub hand_ordered : {week : List (List Period)} {s : List ℕ} {at n : ℕ} → Valid week s at n → (h : Hours) (d : ℕ) → periods_of h s ≡ hours_on week s at n d → Ordered 0 (periods_of h s)
+pub hand_ordered : {week : List (List Period)} {s : List ℕ} {at n : ℕ} → Valid week s at n → (h : Hours) (d : ℕ) → periods_of h ≡ hours_on week s at n d → Ordered 0 (periods_of h)
 hand_ordered v h d e = rw e (v.ordered d)
 
 -- a week in order, and no E records

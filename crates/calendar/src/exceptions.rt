@@ -3,7 +3,7 @@
 
 ghost use Rattle.calendar.specs.Records.{Listed};
 
-use super::{Hours, Period, exception_day, exception_period, exception_work};
+use super::{DayRecords, Period, exception_day, exception_period, exception_work};
 
 // So many E records that the search among them starts in the middle: with fewer the product in `guess` stays within its type.
 const MANY_RECORDS: usize = 65536;
@@ -12,6 +12,7 @@ const MANY_RECORDS: usize = 65536;
 const NEAR: usize = 8;
 
 // `n` E records from the byte `at` of the sheet on; they lie within it, and their days do not fall.
+// It holds the bytes and the place and no slice of records, since the definitions read a place of the sheet; `entries` gives the records where std's search asks for a slice.
 #[derive(Clone, Copy)]
 pub struct Exceptions<'a> {
     pub sheet: &'a [u8],
@@ -21,9 +22,9 @@ pub struct Exceptions<'a> {
 }
 
 impl<'a> Exceptions<'a> {
-    ghost use Rattle.std.specs.Prelude.{◌≡◌, ℕ, ◌+◌, ◌-◌, ◌^◌, ◌≤◌, ◌<◌};
-    ghost use Rattle.calendar.specs.Exceptions.{day_in, work_in, FirstOf, InHandOf};
-    ghost use Rattle.calendar.specs.Records.{exception_period};
+    ghost use Rattle.std.specs.Prelude.{◌≡◌, ℕ, [], ◌+◌, ◌-◌, ◌*◌, ◌^◌, ◌≤◌, ◌<◌, ltb, length, get_or};
+    ghost use Rattle.calendar.specs.Exceptions.{day_in, work_in, FirstOf};
+    ghost use Rattle.calendar.specs.Records.{exception_day, exception_period};
 
     // The day of record `i`.
     pub fn day(&self, i: usize) -> u64
@@ -70,26 +71,28 @@ impl<'a> Exceptions<'a> {
         ((d - first) * n as u64 / (last - first + 1)) as usize
     }
 
+    // The records, each as its nine bytes.
+    fn entries(&self) -> &'a [[u8; 9]]
+        ensures { (length result.now ≡ self.now.n) × ((i : ℕ) → i < self.now.n → exception_day (get_or result.now i []) 0 0 ≡ day_in self.now i) }
+    {
+        self.sheet[self.at..self.at + 9 * self.n].as_chunks::<9>().0
+    }
+
     // The first record whose day is `d` or later, where it is one of those from `low` up to `high`, or `high`.
-    // Halved by hand: std's `partition_point` searches a slice, and the records are bytes of the sheet, which the C interface lends.
     fn first_between(&self, d: u64, low: usize, high: usize) -> usize
         requires { (low ≤ high) × (high ≤ self.now.n) × ((j : ℕ) → j < low → day_in self.now j < d) × ((j : ℕ) → high ≤ j → j < self.now.n → d ≤ day_in self.now j) }
         ensures { FirstOf self.now d result }
     {
-        let mut lo = low;
-        let mut hi = high;
-        while lo < hi {
-            let mid = lo + (hi - lo) / 2;
-            if self.day(mid) < d {
-                lo = mid + 1;
-            } else {
-                hi = mid;
-            }
-        }
-        lo
+        let entries = self.entries();
+        low + entries[low..high].partition_point(
+            |entry: &[u8; 9]| -> bool
+                ensures { result ≡ ltb (exception_day entry.now 0 0) d }
+            { exception_day(entry, 0, 0) < d },
+        )
     }
 
     // The same where the day of record `start` is before `d`: one of the next, or else searched for.
+    // Here and below the loop is by the index, which is the answer: std's `find` would give it as an Option, with a contract for its closure, and be no plainer.
     fn first_past(&self, d: u64, start: usize) -> usize
         requires { (start < self.now.n) × (day_in self.now start < d) }
         ensures { FirstOf self.now d result }
@@ -118,6 +121,7 @@ impl<'a> Exceptions<'a> {
     }
 
     // The first record whose day is `d` or later. It is mostly near the guess, where a look at each costs less than halving.
+    // The day and this record go together (`FirstOf`), but a walk moves both on at each step, so a struct of them would be made anew each time.
     pub fn first_from(&self, d: u64) -> usize
         ensures { FirstOf self.now d result }
     {
@@ -132,7 +136,7 @@ impl<'a> Exceptions<'a> {
     }
 
     // The first record whose day is after `d`, where `from` is the first whose day is `d` or later.
-    fn first_after(&self, d: u64, from: usize) -> usize
+    pub(crate) fn first_after(&self, d: u64, from: usize) -> usize
         requires { FirstOf self.now d from }
         ensures { FirstOf self.now (d + 1) result }
     {
@@ -146,7 +150,7 @@ impl<'a> Exceptions<'a> {
 
     // The first record whose day is `d` or later, where `to` is the first whose day is after `d`.
     // It mirrors `first_after`: the range, the test and the answer differ, so one function would take all three and be no plainer.
-    fn first_back(&self, d: u64, to: usize) -> usize
+    pub(crate) fn first_back(&self, d: u64, to: usize) -> usize
         requires { FirstOf self.now (d + 1) to }
         ensures { FirstOf self.now d result }
     {
@@ -158,38 +162,15 @@ impl<'a> Exceptions<'a> {
         0
     }
 
-    // The hours of day `d`, whose weekday's row is in hand, and the first record whose day is `d` or later; so a walk forward searches no day anew.
-    pub fn hours_from(&self, row: [Period; 8], d: u64, from: usize) -> Hours
-        requires { FirstOf self.now d from }
-        ensures { InHandOf row self.now d result × FirstOf self.now (d + 1) (from + result.n) }
+    // The records from `from` up to `to`.
+    pub(crate) fn between(&self, from: usize, to: usize) -> DayRecords<'a>
+        requires { (from ≤ to) × (to ≤ self.now.n) }
+        ensures { (result.sheet.now ≡ self.now.sheet.now) × (result.at ≡ self.now.at + 9 * from) × (result.n ≡ to - from) }
     {
-        let to = self.first_after(d, from);
-        Hours {
-            row,
+        DayRecords {
+            sheet: self.sheet,
             at: self.at + 9 * from,
             n: to - from,
         }
-    }
-
-    // The hours of day `d`, whose weekday's row is in hand, and the first record whose day is after `d`; so a walk back searches no day anew.
-    // It mirrors `hours_from`, as `first_back` does `first_after`: one function would take the search and both ends, and be no plainer.
-    pub fn hours_to(&self, row: [Period; 8], d: u64, to: usize) -> Hours
-        requires { FirstOf self.now (d + 1) to }
-        ensures { InHandOf row self.now d result × (result.n ≤ to) × FirstOf self.now d (to - result.n) }
-    {
-        let from = self.first_back(d, to);
-        Hours {
-            row,
-            at: self.at + 9 * from,
-            n: to - from,
-        }
-    }
-
-    // The hours of day `d`, whose weekday's row is in hand.
-    pub fn hours_on(&self, row: [Period; 8], d: u64) -> Hours
-        ensures { InHandOf row self.now d result }
-    {
-        let from = self.first_from(d);
-        self.hours_from(row, d, from)
     }
 }

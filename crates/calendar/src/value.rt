@@ -4,8 +4,8 @@
 ghost use Rattle.calendar.specs.Records.{Valid};
 ghost use Rattle.calendar.specs.Props.{props};
 
-use super::Period;
 use super::exceptions::Exceptions;
+use super::{Hours, Period};
 
 // A week of seven rows of eight periods, and the E records of days that have hours of their own; every day's hours are in order.
 #[derive(Clone, Copy)]
@@ -16,7 +16,12 @@ pub struct Calendar<'a> {
 }
 
 impl<'a> Calendar<'a> {
-    ghost use Rattle.std.specs.Prelude.{◌≡◌};
+    ghost use Rattle.std.specs.Prelude.{◌≡◌, [], ◌+◌, ◌-◌, ◌^◌, ◌≤◌, ◌<◌, get_or};
+    ghost use Rattle.date.specs.Days.{weekday};
+    ghost use Rattle.calendar.specs.Hours.{Ordered};
+    ghost use Rattle.calendar.specs.Records.{periods_of};
+    ghost use Rattle.calendar.specs.Exceptions.{FirstOf};
+    ghost use Rattle.calendar.specs.Value.{hours_of};
 
     // The calendar of a week and of the `n` E records from the byte `at` of the sheet on.
     pub fn new(week: &'a [[Period; 8]; 7], sheet: &'a [u8], at: usize, n: usize) -> Calendar<'a>
@@ -26,6 +31,47 @@ impl<'a> Calendar<'a> {
         Calendar {
             week,
             exceptions: Exceptions { sheet, at, n },
+        }
+    }
+
+    // The row of day `d`'s weekday.
+    pub fn row(&self, d: u64) -> [Period; 8]
+        requires { d < 2 ^ 63 }
+        ensures { result ≡ get_or self.now.week.now (weekday d) [] }
+    {
+        self.week[((d + 1) % 7) as usize]
+    }
+
+    // The hours of day `d`.
+    pub fn hours_on(&self, d: u64) -> Hours<'a>
+        requires { d < 4294967296 }
+        ensures { (periods_of result ≡ hours_of self.now d) × Ordered 0 (periods_of result) }
+    {
+        self.hours_from(d, self.exceptions.first_from(d))
+    }
+
+    // The hours of day `d`, where `from` is the first E record whose day is `d` or later; so a walk forward searches no day anew.
+    pub fn hours_from(&self, d: u64, from: usize) -> Hours<'a>
+        requires { (d < 4294967296) × FirstOf self.now.exceptions d from }
+        ensures { (periods_of result ≡ hours_of self.now d) × Ordered 0 (periods_of result) × FirstOf self.now.exceptions (d + 1) (from + result.records.n) × (from + result.records.n < 2 ^ 64) }
+    {
+        let to = self.exceptions.first_after(d, from);
+        Hours {
+            row: self.row(d),
+            records: self.exceptions.between(from, to),
+        }
+    }
+
+    // The hours of day `d`, where `to` is the first E record whose day is after `d`; so a walk back searches no day anew.
+    // It mirrors `hours_from`: one function would take the search and both ends, and be no plainer.
+    pub fn hours_to(&self, d: u64, to: usize) -> Hours<'a>
+        requires { (d < 4294967296) × FirstOf self.now.exceptions (d + 1) to }
+        ensures { (periods_of result ≡ hours_of self.now d) × Ordered 0 (periods_of result) × (result.records.n ≤ to) × FirstOf self.now.exceptions d (to - result.records.n) }
+    {
+        let from = self.exceptions.first_back(d, to);
+        Hours {
+            row: self.row(d),
+            records: self.exceptions.between(from, to),
         }
     }
 }

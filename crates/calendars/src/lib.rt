@@ -35,6 +35,7 @@ pub fn locate(sheet: &Sheet) -> [PlanCalendar; ROWS]
 {
     let mut calendars = [round_the_clock(); ROWS];
     let mut at: usize = 21;
+    // By number, and not over `&mut calendars[..n]`: no plainer, since the contract speaks of the whole table and of calendar `k` of the sheet.
     for k in 0..sheet.contents.calendars {
         let place = sheet::calendar(sheet.bytes, at);
         calendars[k] = PlanCalendar {

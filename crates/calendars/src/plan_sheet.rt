@@ -9,7 +9,7 @@ use calendar::Calendar;
 use sheet::Sheet;
 
 // A sheet that was read, and its calendars in their order, the round-the-clock one after them.
-// That their day lengths are the plan's (`Lengths`) stays a clause: the passes read none, and a field would be asked of them.
+// That their day lengths are the plan's (`Lengths`) stays a clause: the passes read none, and a field would be asked of them; a second struct with it would be made beside this one for `links`, `ties` and `rows`, from the same two values.
 #[derive(Clone, Copy)]
 pub struct PlanSheet<'a> {
     pub sheet: Sheet<'a>,

@@ -6,6 +6,7 @@ use mathlib.Core.List.{List, [], ◌∷◌}
 use Prim.Native.Nat.{ℕ, zero, suc, ◌+◌, ◌-◌, ◌≤◌, ◌<◌}
 use native.Mathlib.Omega.{arith}
 use borrow.Author.Tests.{eq-eqb, ne_eqb}
+use Rattle.std.specs.List.{AllByRecursion}
 use Rattle.number.specs.Order.{eq_or_ne}
 use Rattle.cells.specs.Chain.{keyed, after, Stands, Chained, gather}
 
@@ -18,7 +19,18 @@ keyed_same f g i (suc n) k h =
     let d : keyed f i n (k + 1) ≡ keyed g i n (k + 1) = keyed_same f g i n (k + 1) (λ j b. h j (omega arith)) in
     λ z. elim (eqb (e z) i) [ true ↦ k ∷ d z | false ↦ d z ]
 
+-- each of them has the key
+keyed_all : (key : ℕ → ℕ) (l i n k : ℕ) → k + n ≤ l → AllByRecursion (λ j. (j < l) × (key j ≡ i)) (keyed key i n k)
+unfolding keyed
+keyed_all key l i zero k h = tt
+keyed_all key l i (suc n) k h =
+    let rest = keyed_all key l i n (k + 1) (omega arith) in
+    ⊎_elim (λ (e : key k ≡ i). rw (eq-eqb (key k) i e, keyed) ((omega arith, e), rest)) (λ (ne : key k ≢ i). rw (ne_eqb (key k) i ne, keyed) rest) (eq_or_ne (key k) i)
+
 module _ (key : ℕ → ℕ) (l i : ℕ) where
+  pub after_all : (k : ℕ) → k ≤ l → AllByRecursion (λ j. (j < l) × (key j ≡ i)) (after key l i k)
+  after_all k h = keyed_all key l i (l - k) k (omega arith)
+
   pub after_end : (k : ℕ) → l ≤ k → after key l i k ≡ []
   unfolding keyed
   after_end k h = let e : l - k ≡ 0 = omega arith in rw e
@@ -99,6 +111,33 @@ module _ {S A : Type 0} (step : S → ℕ → (S → A) → A) (give : S → A) 
     pub cursor_end : l ≤ k → give s ≡ gathered
     unfolding gather
     cursor_end b = ap (λ (ks : List ℕ). gather step give ks s) (sym (after_end key l i k b)) ∙ C.left
+
+  -- the same, where ks are left and s is the state so far
+  pub record Along (s : S) (ks : List ℕ) : Type 0 where
+    pub each : AllByRecursion (λ k. (k < l) × (key k ≡ i)) ks
+    pub left : gather step give ks s ≡ gathered
+
+  pub along_start : Along s₀ (after key l i 0)
+  along_start = record { each = after_all key l i 0 (omega arith); left = refl }
+
+  module _ {s : S} where
+    pub along_end : Along s [] → give s ≡ gathered
+    unfolding gather
+    along_end W = W.left
+
+    module _ {k : ℕ} {ks : List ℕ} (W : Along s (k ∷ ks)) where
+      pub along_kept : k < l
+      along_kept = W.each.0.0
+
+      -- the step hands s' on
+      pub along_turn : (s' : S) → ((f : S → A) → step s k f ≡ f s') → Along s' ks
+      unfolding gather
+      along_turn s' h = record { each = W.each.1; left = sym (h (gather step give ks)) ∙ W.left }
+
+      -- the step answers by itself
+      pub along_stop : (a : A) → ((f : S → A) → step s k f ≡ a) → a ≡ gathered
+      unfolding gather
+      along_stop a h = sym (h (gather step give ks)) ∙ W.left
 
 -- ---- what every step keeps, the walk's answer keeps
 pub gather_keeps : {S A : Type 0} (step : S → ℕ → (S → A) → A) (give : S → A) (P : S → Type 0) (Q : A → Type 0) → ((s : S) → P s → Q (give s))

@@ -2,7 +2,7 @@
 // The two ways are functions of their own, here and in `memory`: their contracts cite different definitions, and a trait for the two would be longer than their one-line bodies.
 #![tactic(auto)]
 
-ghost use Rattle.std.specs.Prelude.{◌≡◌, ℕ, ◌+◌, ◌^◌, ◌≤◌, ◌<◌, pos, length, replicate};
+ghost use Rattle.std.specs.Prelude.{◌≡◌, ℕ, ◌+◌, ◌^◌, ◌≤◌, ◌<◌, length};
 ghost use Rattle.cells.specs.Cell.{cell, store, cell_z, store_z, filled};
 
 // The number in the cell `at`: 0 where there is none or where it is negative.
@@ -41,18 +41,4 @@ pub fn fill(work: &mut [i64], base: usize, n: usize, v: u64)
     ensures { work.new ≡ filled work.old base v n }
 {
     work[base..base + n].fill(v as i64);
-}
-
-// Every cell is 0.
-pub fn clear(work: &mut [i64])
-    ensures { work.new ≡ replicate (length work.old) (pos 0) }
-{
-    work.fill(0);
-}
-
-// Every element is 0.
-pub fn clear_u32(names: &mut [u32])
-    ensures { names.new ≡ replicate (length names.old) 0 }
-{
-    names.fill(0);
 }

@@ -13,7 +13,8 @@ use order::PlanError;
 use sheet::Sheet;
 use std::{fs, io};
 
-// Where the first 0 stands, or the end.
+// Where the first 0 stands, by std's `position`, or the end. `check_cases` and `replay` each have this: std's call is all that it does, and no library below
+// them is about names.
 fn first_zero(names: &[u32]) -> usize
     ensures { result ≤ length names.now }
 {
@@ -23,11 +24,9 @@ fn first_zero(names: &[u32]) -> usize
         .unwrap_or(names.len())
 }
 
-// Whether the names from `from` on are zeros.
-fn are_names_zero(names: &[u32], from: usize) -> bool
-    requires { from ≤ length names.now }
-{
-    names[from..].iter().all(|name| *name == 0)
+// Whether the names are zeros.
+fn are_names_zero(names: &[u32]) -> bool {
+    names.iter().all(|name| *name == 0)
 }
 
 // Whether all of the memory is zeros.
@@ -35,11 +34,9 @@ fn is_work_zero(work: &[i64]) -> bool {
     work.iter().all(|cell| *cell == 0)
 }
 
-// The first `n` names.
-fn print_first(rt: &impl Print, names: &[u32], n: usize) -> io::Result<()>
-    requires { n ≤ length names.now }
-{
-    for name in &names[..n] {
+// The names, one after another.
+fn print_each(rt: &impl Print, names: &[u32]) -> io::Result<()> {
+    for name in names {
         print!(rt; " {name}")?;
     }
     Ok(())
@@ -49,19 +46,16 @@ fn print_first(rt: &impl Print, names: &[u32], n: usize) -> io::Result<()>
 fn print_names(rt: &impl Print, names: &[u32], n: usize) -> io::Result<()>
     requires { n ≤ length names.now }
 {
-    print_first(rt, names, n)?;
-    if are_names_zero(names, n) {
+    print_each(rt, &names[..n])?;
+    if are_names_zero(&names[n..]) {
         return Ok(());
     }
     print!(rt; " names not zero")
 }
 
 // A plan that is fine: its kept and ignored links and its open ends, and where the ignored ones stand.
-fn print_fine(rt: &impl Print, names: &[u32], counts: PlanCounts) -> io::Result<()> {
-    print!(rt;
-        " fine {} {} {}",
-        counts.kept, counts.ignored, counts.open_ends
-    )?;
+fn print_fine(rt: &impl Print, names: &[u32], kept: usize, counts: PlanCounts) -> io::Result<()> {
+    print!(rt; " fine {kept} {} {}", counts.ignored, counts.open_ends)?;
     if counts.ignored <= names.len() {
         print_names(rt, names, counts.ignored)?;
     }
@@ -93,7 +87,7 @@ fn check_lent(
         plan.sheet.contents.links,
     );
     match checks::check_plan(plan, names, &mut tables) {
-        Ok(counts) => print_fine(rt, names, counts),
+        Ok(counts) => print_fine(rt, names, tables.kept, counts),
         Err(error) => print_refused(rt, names, work, error),
     }
 }
@@ -142,6 +136,7 @@ fn answer_all(rt: &impl Print, file: &[u8]) -> io::Result<()> {
     Ok(())
 }
 
+// The three programs of cases begin alike: each opens its file and reads it whole, into memory of its own size, which a function for all would have to be handed.
 fn main(rt: HostRuntime) -> io::Result<()> {
     let mut source = match fs::open(&rt, "sheets") {
         Ok(source) => source,

@@ -1,8 +1,6 @@
 -- All checks: what the parts answer is what the call says.
 use Rattle.std.specs.Prelude.{List, ℕ, length, Result, Ok, Err}
-use Rattle.std.proofs.Common.{sym, subst}
-use Rattle.memory.specs.Seen.{state}
-use Rattle.dates.specs.Standing.{Standing}
+use Rattle.std.proofs.Common.{subst}
 use Rattle.memory.specs.declared.Tables.{Tables}
 use Rattle.order.specs.Plan.{plan_of, plan_in}
 use Rattle.order.specs.Checks.{Verdict, or_else, checked}
@@ -22,13 +20,11 @@ module _ (plan : PlanSheet) (names : List ℕ) (tables : Tables) (names' : List 
       activities = lent.activities;
       links = lent.links;
       fine = h.fine;
-      standing = subst (λ (n : ℕ). Standing (plan_in plan.sheet) n (state tables')) (sym h.kept) h.standing;
+      standing = h.standing;
     };
-    kept = h.kept;
     elsewhere = h.elsewhere;
     named = h.named;
-    ignored = h.ignored;
-    ends = h.ends;
+    counted = h.counted;
   }
   whole (Err e) h = record { number_is = h.number_is; id_is = h.id_is; named = h.named; cleared = h.cleared }
 

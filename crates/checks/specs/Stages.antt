@@ -46,16 +46,19 @@ module _ (p : Plan) where
     pub answered : Answered r ids_verdict
     pub holds : IfOk r (λ x. Prepared S)
 
+-- the counts of a plan that is fine
+pub record Counted (p : Plan) (c : PlanCounts) : Type 0 where
+  pub ignored : c.ignored ≡ length (ignored_links p)
+  pub ends : c.open_ends ≡ open_ends p
+
 -- ---- some of the checks: v is their verdict, `size` the length of the names and `room` that of the memory
 module _ (p : Plan) (v : Verdict) (size room : ℕ) (names : List ℕ) (tables : Tables) where
   pub record FineAs (c : PlanCounts) : Type 0 where
     pub fine : v.number ≡ 0
-    pub standing : Standing p c.kept (state tables)
-    pub kept : tables.kept ≡ c.kept
-    pub elsewhere : Elsewhere c.kept tables
+    pub standing : Standing p tables.kept (state tables)
+    pub elsewhere : Elsewhere tables.kept tables
     pub named : names ≡ ignored_links p ++ replicate (size - length (ignored_links p)) 0
-    pub ignored : c.ignored ≡ length (ignored_links p)
-    pub ends : c.open_ends ≡ open_ends p
+    pub counted : Counted p c
 
   pub record RefusedAs (e : PlanError) : Type 0 where
     pub number_is : plan_number e ≡ v.number
@@ -72,11 +75,9 @@ module _ (plan : PlanSheet) (names : List ℕ) (tables : Tables) (names' : List 
   pub record PlanFine (c : PlanCounts) : Type 0 where
     pub fine : (checked (plan_in plan.sheet)).number ≡ 0
     pub ready : Ready plan tables'
-    pub kept : tables'.kept ≡ c.kept
-    pub elsewhere : Elsewhere c.kept tables'
+    pub elsewhere : Elsewhere tables'.kept tables'
     pub named : names' ≡ then_zeros (ignored_links (plan_in plan.sheet)) names
-    pub ignored : c.ignored ≡ length (ignored_links (plan_in plan.sheet))
-    pub ends : c.open_ends ≡ open_ends (plan_in plan.sheet)
+    pub counted : Counted (plan_in plan.sheet) c
 
   pub record PlanRefused (e : PlanError) : Type 0 where
     pub number_is : plan_number e ≡ (checked (plan_in plan.sheet)).number

@@ -22,15 +22,17 @@ ghost use Rattle.checks.specs.Stages.{links_verdict, summaries_verdict, Prepared
 
 use calendars::{PlanCalendar, PlanSheet};
 use ids::SummaryError;
-use links::LinkCounts;
 use memory::{Tables, fields};
 use order::PlanError;
 use sheet::Sheet;
 
-// Of a plan that is fine: how many links are kept and how many ignored, and how many open ends there are.
+mod refusal;
+
+pub use refusal::refuse;
+
+// Of a plan that is fine: how many links are ignored, and how many open ends there are. How many are kept its tables tell.
 #[derive(Clone, Copy)]
 pub struct PlanCounts {
-    pub kept: usize,
     pub ignored: usize,
     pub open_ends: u64,
 }
@@ -40,7 +42,7 @@ fn name_one(sheet: &Sheet, names: &mut [u32], k: usize, i: usize)
     requires { (i < sheet.now.contents.activities) × (k < length names.old) }
     ensures { names.new ≡ set names.old k (id_of (plan_in sheet.now) i) }
 {
-    names[k] = ids::activity_fields::id_of(sheet, i) as u32;
+    names[k] = sheet.activity(i).id() as u32;
 }
 
 // Row 12's names: the ids from activity `first` so many steps upward, which lead back to it, then zeros.
@@ -48,8 +50,9 @@ fn name_parents(sheet: &Sheet, names: &mut [u32], tables: &Tables, first: usize,
     requires { Lent sheet.now tables.now × ParentsKnown (plan_in sheet.now) × Parented (plan_in sheet.now) (state tables.now) sheet.now.contents.activities × LoopFrom (plan_in sheet.now) first steps × (sheet.now.contents.activities < length names.old) }
     ensures { names.new ≡ then_zeros (named (id_of (plan_in sheet.now)) (upward (parent_of (plan_in sheet.now)) steps first)) names.old }
 {
-    cells::clear_u32(names);
+    names.fill(0);
     name_one(sheet, names, 0, first);
+    // No iterator over the activities above: these are a loop, and an iterator is seen as a list, which ends.
     let mut i = first;
     for k in 0..steps {
         i = tables.act(i, fields::PARENT) as usize - 1;
@@ -62,7 +65,7 @@ fn name_links(sheet: &Sheet, names: &mut [u32], tables: &Tables, m: usize)
     requires { Lent sheet.now tables.now × LoopIn sheet.now.contents.activities m (named_loop (kept_links (plan_in sheet.now)) sheet.now.contents.activities) (state tables.now) × (m ≤ sheet.now.contents.activities) × (sheet.now.contents.activities < length names.old) }
     ensures { names.new ≡ then_zeros (named (id_of (plan_in sheet.now)) (named_loop (kept_links (plan_in sheet.now)) sheet.now.contents.activities)) names.old }
 {
-    cells::clear_u32(names);
+    names.fill(0);
     for k in 0..m {
         let i = tables.act(k, fields::SEEN) as usize;
         name_one(sheet, names, k, i);
@@ -76,16 +79,9 @@ fn is_open(sheet: &Sheet, tables: &Tables, i: usize) -> bool
     requires { Lent sheet.now tables.now × Standing (plan_in sheet.now) tables.now.kept (state tables.now) × (i < sheet.now.contents.activities) }
     ensures { result ≡ is_open (plan_in sheet.now) i }
 {
-    if tables.act(i, fields::IS_SUMMARY) > 0 {
-        return false;
-    }
-    if tables.act(i, fields::FIRST_IN) == tables.kept as u64 {
-        return true;
-    }
-    if tables.act(i, fields::FIRST_OUT) == tables.kept as u64 {
-        return true;
-    }
-    false
+    tables.act(i, fields::IS_SUMMARY) == 0
+        && (tables.act(i, fields::FIRST_IN) == tables.kept as u64
+            || tables.act(i, fields::FIRST_OUT) == tables.kept as u64)
 }
 
 // How many open ends there are.
@@ -104,17 +100,15 @@ fn check_order(
     sheet: &Sheet,
     names: &mut [u32],
     tables: &mut Tables,
-    counts: LinkCounts,
+    ignored: usize,
 ) -> Result<PlanCounts, PlanError>
-    requires { Lent sheet.now tables.old × StoredLinks (plan_in sheet.now) counts.kept (state tables.old) × LinksFine (plan_in sheet.now) × (counts.ignored ≡ length (ignored_links (plan_in sheet.now))) × (names.old ≡ then_zeros (ignored_links (plan_in sheet.now)) names.old) × (sheet.now.contents.activities < length names.old) }
+    requires { Lent sheet.now tables.old × StoredLinks (plan_in sheet.now) tables.old.kept (state tables.old) × LinksFine (plan_in sheet.now) × (ignored ≡ length (ignored_links (plan_in sheet.now))) × (names.old ≡ then_zeros (ignored_links (plan_in sheet.now)) names.old) × (sheet.now.contents.activities < length names.old) }
     ensures { Judged (plan_in sheet.now) (judge_order (plan_in sheet.now)) (length names.old) (length tables.old.cells.now) names.new tables.new result × SameLent tables.old tables.new }
 {
-    tables.keep(counts.kept);
     if topology::order_activities(tables) == sheet.contents.activities {
         rest::clear_rest(tables);
         return Ok(PlanCounts {
-            kept: counts.kept,
-            ignored: counts.ignored,
+            ignored,
             open_ends: open_ends(sheet, tables),
         });
     }
@@ -122,15 +116,6 @@ fn check_order(
     name_links(sheet, names, tables, m);
     tables.clear();
     Err(PlanError::LinkLoop(names[0] as u64))
-}
-
-// Refuses without names: names and memory are cleared.
-fn refuse(names: &mut [u32], tables: &mut Tables, error: PlanError) -> Result<PlanCounts, PlanError>
-    ensures { (result ≡ Err error) × (names.new ≡ replicate (length names.old) 0) × (tables.new.cells.now ≡ replicate (length tables.old.cells.now) (pos 0)) × SameSlice tables.old tables.new }
-{
-    cells::clear_u32(names);
-    tables.clear();
-    Err(error)
 }
 
 // Rows 5 to 10: calendars, ids and parents.
@@ -155,9 +140,9 @@ fn check_links(
     requires { Lent sheet.now tables.old × Prepared (plan_in sheet.now) (state tables.old) × Lengths (plan_in sheet.now) calendars.now × (sheet.now.contents.activities < length names.old) × (sheet.now.contents.links ≤ length names.old) }
     ensures { Judged (plan_in sheet.now) (links_verdict (plan_in sheet.now)) (length names.old) (length tables.old.cells.now) names.new tables.new result × SameLent tables.old tables.new }
 {
-    cells::clear_u32(names);
+    names.fill(0);
     match links::link_all(sheet, calendars, names, tables) {
-        Ok(counts) => check_order(sheet, names, tables, counts),
+        Ok(ignored) => check_order(sheet, names, tables, ignored),
         Err(error) => refuse(names, tables, error),
     }
 }

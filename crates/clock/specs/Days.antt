@@ -1,5 +1,7 @@
 -- Counting worked minutes by days: what a day's rank, select and next minute say of the count. `h` is the hours of each day.
-use Rattle.std.specs.Prelude.{Option, Some, None, ◌≡◌, Bool, true, false, List, ℕ, zero, suc, ◌+◌, ◌-◌, ◌*◌, ◌/◌, ◌%◌, ◌≤◌, ◌<◌}
+use Rattle.std.specs.Prelude.{Option, Some, None, ◌≡◌, Bool, true, false, List, ℕ, zero, suc, ◌+◌, ◌-◌, ◌*◌, ◌/◌, ◌%◌, ◌≤◌, ◌<◌, eqb}
+use Rattle.std.specs.Option.{option_eq}
+use Rattle.std.proofs.lemmas.Bool.Decides.{eqb_tells}
 use Rattle.std.proofs.Common.{sym, ap, ◌∙◌, ⊎_elim, arith, add-zero, add-one}
 use Rattle.std.proofs.Math.Path.{ap₂}
 use Rattle.number.specs.Order.{cases}
@@ -97,6 +99,12 @@ module _ (h : ℕ → List Period) (d : ℕ) where
     pub day_next_never : (m : ℕ) → m < 1440 → next_in (h d) m ≡ None → worked h (d * 1440 + m) ≡ false
     day_next_never m l e = worked_day m l ∙ is_false _ (next_nothing (h d) m o e m (omega arith))
 
+    -- whichever it is, the minute is worked if the next one is it
+    pub day_next_tells : (m : ℕ) → m < 1440 → (f : Option ℕ) → next_in (h d) m ≡ f → worked h (d * 1440 + m) ≡ option_eq eqb f (Some m)
+    day_next_tells m l None e = day_next_never m l e
+    day_next_tells m l (Some x) e =
+        ⊎_elim (λ p. day_next_here m l (e ∙ ap Some p.1) ∙ sym p.0) (λ p. day_next_later m x l e p.1 ∙ sym p.0) (eqb_tells x m)
+
 -- ---- the same, of a day's hours in hand: ps, which are those of day d
 module _ (h : ℕ → List Period) (d : ℕ) (o : Ordered 0 (h d)) (ps : List Period) (e : ps ≡ h d) where
   pub hand_rank : (m r : ℕ) → m ≤ 1440 → r ≡ rank ps m → count (worked h) (d * 1440 + m) ≡ count (worked h) (d * 1440) + r
@@ -117,6 +125,11 @@ count_time w t = ap (count w) (omega arith)
 pub hand_time : (h : ℕ → List Period) (t : ℕ) → Ordered 0 (h (t / 1440)) → (ps : List Period) → ps ≡ h (t / 1440) → (r : ℕ) → r ≡ rank ps (t % 1440)
     → count (worked h) t ≡ count (worked h) (t / 1440 * 1440) + r
 hand_time h t o ps e r q = sym (count_time (worked h) t) ∙ hand_rank h (t / 1440) o ps e (t % 1440) r (omega arith) q
+
+-- the same where the day is in hand
+pub day_time : (h : ℕ → List Period) (t d : ℕ) → d ≡ t / 1440 → Ordered 0 (h d) → (ps : List Period) → ps ≡ h d → (r : ℕ) → r ≡ rank ps (t % 1440)
+    → count (worked h) t ≡ count (worked h) (d * 1440) + r
+day_time h t d is o ps e r q = let m : d * 1440 + t % 1440 ≡ t = omega (arith, is) in rw m at (hand_rank h d o ps e (t % 1440) r (omega arith) q)
 
 pub worked_time : (w : ℕ → Bool) (t : ℕ) → w (t / 1440 * 1440 + t % 1440) ≡ w t
 worked_time w t = ap w (omega arith)

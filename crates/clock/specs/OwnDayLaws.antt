@@ -8,6 +8,7 @@ use mathlib.Core.List.{List, [], ◌∷◌, ◌++◌}
 use Prim.Native.Nat.{ℕ, zero, suc, ◌+◌, ◌-◌, ◌*◌, min, ◌≤◌, ◌<◌}
 use native.Mathlib.Omega.{arith}
 use Rattle.std.proofs.Math.ListN.{length, get_or}
+use Rattle.std.proofs.lemmas.List.{nil_from_length}
 use Rattle.number.specs.Order.{eq_or_ne, zero_or_pos}
 use Rattle.date.specs.Days.{weekday}
 use Rattle.calendar.specs.declared.Period.{Period}
@@ -48,10 +49,6 @@ module _ (h : ℕ → List Period) (d : ℕ) where
       omega (arith, days_but_one h' x a b f g m l (omega arith), ap (λ (ps : List Period). rank ps 1440) (f (d + m) ne))) (eq_or_ne (d + m) x)
 
 -- ---- E records one by one
-length_zero : (ps : List Period) → length ps ≡ 0 → ps ≡ []
-length_zero [] e = refl
-length_zero (p ∷ ps) e = absurd (omega arith)
-
 pub rank_append : (ps : List Period) (p : Period) (m : ℕ) → rank (ps ++ (p ∷ [])) m ≡ rank ps m + (min m p.to - p.from)
 unfolding rank
 rank_append [] p m = omega arith
@@ -122,7 +119,7 @@ module _ (week : List (List Period)) (s : List ℕ) (at : ℕ) where
     all_small : (x : ℕ) → rank (exceptions_on s at x n) 1440 ≤ 1440
     unfolding rank
     all_small x =
-        ⊎_elim (λ (z : length (exceptions_on s at x n) ≡ 0). let e : exceptions_on s at x n ≡ [] = length_zero (exceptions_on s at x n) z in rw e (omega arith))
+        ⊎_elim (λ (z : length (exceptions_on s at x n) ≡ 0). let e : exceptions_on s at x n ≡ [] = nil_from_length (exceptions_on s at x n) z in rw e (omega arith))
         (λ (z : 0 < length (exceptions_on s at x n)). rank_bound (exceptions_on s at x n) 1440 (rw (hours_own week s at n x z) at (valid.ordered x))) (zero_or_pos (length (exceptions_on s at x n)))
 
     pub part_small : (j : ℕ) → j ≤ n → (x : ℕ) → rank (hours_on week s at j x) 1440 ≤ 1440
@@ -131,7 +128,7 @@ module _ (week : List (List Period)) (s : List ℕ) (at : ℕ) where
         let m : rank (exceptions_on s at x j) 1440 ≤ rank (exceptions_on s at x n) 1440 = rw e at (on_more x j (n - j)) in
         ⊎_elim
         (λ (z : length (exceptions_on s at x j) ≡ 0).
-        omega (arith, ap (λ (ps : List Period). rank ps 1440) (hours_week week s at j x (length_zero (exceptions_on s at x j) z)), rank_bound (get_or week (weekday x) []) 1440 (row_ordered valid (weekday x) (omega arith))))
+        omega (arith, ap (λ (ps : List Period). rank ps 1440) (hours_week week s at j x (nil_from_length (exceptions_on s at x j) z)), rank_bound (get_or week (weekday x) []) 1440 (row_ordered valid (weekday x) (omega arith))))
         (λ z. omega (arith, ap (λ (ps : List Period). rank ps 1440) (hours_own week s at j x z), m, all_small x)) (zero_or_pos (length (exceptions_on s at x j)))
 
     -- where all records of days before e are taken, the sum is the count's

@@ -48,24 +48,18 @@ module _ (ss : List ℕ) (up : Rising ss) where
   regular_up {x} {y} l = omega (arith, between_regular ss x y up l)
 
   -- what the days from `next` up to day x have by their weekdays, where of a day that is over its own minutes are put back
-  pub put_back : (next x out : ℕ) → get_or ss 0 0 ≡ 0 → next ≤ x + 1 → ((next ≤ x) × (out ≡ 0)) ⊎ ((x < next) × (out ≡ get_or ss (weekday x + 1) 0 - get_or ss (weekday x) 0))
+  pub put_back : (next x out : ℕ) → next ≤ x + 1 → ((next ≤ x) × (out ≡ 0)) ⊎ ((x < next) × (regular ss x + out ≡ regular ss (x + 1)))
       → (regular ss next ≤ regular ss x + out) × (regular ss x + out - regular ss next ≡ regular ss x - regular ss next)
-  put_back next x out z l =
+  put_back next x out l =
       ⊎_elim (λ w. let u = regular_up w.0 in (omega (arith, w.1), omega (arith, w.1)))
-      (λ w.
-      let e : regular ss next ≡ regular ss (x + 1) = ap (regular ss) (omega arith) in
-      let f : regular ss (x + 1) ≡ regular ss x + out = omega (arith, w.1, regular_end z x, regular_is ss x, up.0 (weekday x) (weekday x + 1) (omega arith) (omega arith)) in
-      (omega (arith, e, f), omega (arith, e, f)))
+      (λ w. let e : regular ss next ≡ regular ss (x + 1) = ap (regular ss) (omega arith) in (omega (arith, e, w.1), omega (arith, e, w.1)))
 
   -- and what those after day x up to `next` have
-  pub put_back_after : (next x out : ℕ) → get_or ss 0 0 ≡ 0 → x ≤ next → ((x < next) × (out ≡ 0)) ⊎ ((next ≤ x) × (out ≡ get_or ss (weekday x + 1) 0 - get_or ss (weekday x) 0))
+  pub put_back_after : (next x out : ℕ) → x ≤ next → ((x < next) × (out ≡ 0)) ⊎ ((next ≤ x) × (regular ss x + out ≡ regular ss (x + 1)))
       → (regular ss (x + 1) ≤ regular ss next + out) × (regular ss next + out - regular ss (x + 1) ≡ regular ss next - regular ss (x + 1))
-  put_back_after next x out z l =
+  put_back_after next x out l =
       ⊎_elim (λ w. let u = regular_up {x = x + 1} {y = next} (omega arith) in (omega (arith, w.1), omega (arith, w.1)))
-      (λ w.
-      let e : regular ss next ≡ regular ss x = ap (regular ss) (omega arith) in
-      let f : regular ss (x + 1) ≡ regular ss x + out = omega (arith, w.1, regular_end z x, regular_is ss x, up.0 (weekday x) (weekday x + 1) (omega arith) (omega arith)) in
-      (omega (arith, e, f), omega (arith, e, f)))
+      (λ w. let e : regular ss next ≡ regular ss x = ap (regular ss) (omega arith) in (omega (arith, e, w.1), omega (arith, e, w.1)))
 
 module _ {week : List (List Period)} {ss : List ℕ} (sums : Sums week ss) where
   pub regular_le : {x y : ℕ} → x ≤ y → regular ss x ≤ regular ss y

@@ -10,16 +10,13 @@ ghost use Rattle.worktime.specs.Worked.{count};
 ghost use Rattle.worktime.specs.Walks.{end_minute, next_start, previous_finish, next_finish, working_at, previous_start, start_by, advance, retreat, shift, between, day_work, worked_before};
 
 use calendar::Calendar;
+use date::{FIRST_DAY, LAST_DAY};
 use worktime::ClockError;
 
 mod records;
 mod weeks;
 
 use weeks::WeekSums;
-
-const FIRST_DAY: u64 = 2143112061;
-
-const LAST_DAY: u64 = 2150416544;
 
 // More minutes than the years that may be read have.
 const MANY: u64 = 6184752906240;
@@ -35,15 +32,14 @@ pub fn next_start(calendar: &Calendar, t: u64) -> Result<u64, ClockError>
     }
     let mut from = calendar.exceptions.first_from(first);
     for d in first..=LAST_DAY {
-        let row = calendar.week[((d + 1) % 7) as usize];
-        let hours = calendar.exceptions.hours_from(row, d, from);
-        match calendar::day_next(hours, calendar.exceptions.sheet, m) {
+        let hours = calendar.hours_from(d, from);
+        match hours.next_minute(m) {
             Some(x) => {
                 return Ok(d * 1440 + x);
             }
             None => {}
         }
-        from += hours.n;
+        from += hours.records.n;
         m = 0;
     }
     Err(ClockError::TooLong)
@@ -60,13 +56,12 @@ pub fn previous_finish(calendar: &Calendar, t: u64) -> Result<u64, ClockError>
     }
     let mut to = calendar.exceptions.first_from(last + 1);
     for d in (FIRST_DAY..=last).rev() {
-        let row = calendar.week[((d + 1) % 7) as usize];
-        let hours = calendar.exceptions.hours_to(row, d, to);
-        let done = calendar::day_rank(hours, calendar.exceptions.sheet, m);
+        let hours = calendar.hours_to(d, to);
+        let done = hours.rank(m);
         if 0 < done {
-            return Ok(d * 1440 + calendar::day_select(hours, calendar.exceptions.sheet, done));
+            return Ok(d * 1440 + hours.select(done));
         }
-        to -= hours.n;
+        to -= hours.records.n;
         m = 1440;
     }
     Err(ClockError::TooLong)
@@ -76,38 +71,17 @@ pub fn previous_finish(calendar: &Calendar, t: u64) -> Result<u64, ClockError>
 pub fn working_at(calendar: &Calendar, t: u64) -> Result<bool, ClockError>
     ensures { result ≡ working_at (worked_by calendar.now) t }
 {
-    let d = t / 1440;
+    let d = worktime::read_day(t / 1440)?;
     let m = t % 1440;
-    if d < FIRST_DAY {
-        return Err(ClockError::TooLong);
-    }
-    if LAST_DAY < d {
-        return Err(ClockError::TooLong);
-    }
-    let row = calendar.week[((d + 1) % 7) as usize];
-    let hours = calendar.exceptions.hours_on(row, d);
-    match calendar::day_next(hours, calendar.exceptions.sheet, m) {
-        Some(x) => {
-            if x == m {
-                return Ok(true);
-            }
-            Ok(false)
-        }
-        None => Ok(false),
-    }
+    let hours = calendar.hours_on(d);
+    Ok(hours.next_minute(m) == Some(m))
 }
 
 // `t` if it is closing, else the next start; `t`'s day is read, and the day of the minute before.
 pub fn next_finish(calendar: &Calendar, t: u64) -> Result<u64, ClockError>
     ensures { result ≡ next_finish (worked_by calendar.now) t }
 {
-    let d = t / 1440;
-    if d < FIRST_DAY {
-        return Err(ClockError::TooLong);
-    }
-    if LAST_DAY < d {
-        return Err(ClockError::TooLong);
-    }
+    worktime::read_day(t / 1440)?;
     let closing = working_at(calendar, t - 1)?;
     if closing {
         return Ok(t);
@@ -164,10 +138,9 @@ fn advance_from(calendar: &Calendar, d: u64, from: usize, work: u64) -> Result<u
     if LAST_DAY + 1 < next {
         return Err(ClockError::TooLong);
     }
-    let k = (next % 7) as usize;
-    let row = calendar.week[k];
-    let before = sums.entries[7] * (next / 7) + sums.entries[k];
-    Ok((next - 1) * 1440 + calendar::row_select(row, p - before + 1))
+    let day = next - 1;
+    let k = p - sums.minutes_before(day) + 1;
+    Ok(day * 1440 + calendar::row_select(calendar.row(day), k))
 }
 
 // The closing minute with `work` worked minutes from `t`, and `t` itself for none.
@@ -177,24 +150,18 @@ pub fn advance(calendar: &Calendar, t: u64, work: u64) -> Result<u64, ClockError
     if work == 0 {
         return Ok(t);
     }
-    let d = t / 1440;
-    if d < FIRST_DAY {
-        return Err(ClockError::TooLong);
-    }
-    if LAST_DAY < d {
-        return Err(ClockError::TooLong);
-    }
+    let d = worktime::read_day(t / 1440)?;
     if MANY < work {
         return Err(ClockError::TooLong);
     }
     let from = calendar.exceptions.first_from(d);
-    let row = calendar.week[((d + 1) % 7) as usize];
-    let hours = calendar.exceptions.hours_from(row, d, from);
-    let done = calendar::day_rank(hours, calendar.exceptions.sheet, t % 1440);
+    let hours = calendar.hours_from(d, from);
+    let done = hours.rank(t % 1440);
     advance_from(calendar, d, from, done + work)
 }
 
 // The worked minute with `work` worked minutes from it up to the beginning of day `d`; `from` is the first E record whose day is `d` or later.
+// It mirrors `advance_from`: the walk among the records, both tests of the years and both ends differ, so one function would take them all and be no plainer.
 fn retreat_from(calendar: &Calendar, d: u64, from: usize, work: u64) -> Result<u64, ClockError>
     requires { FirstOf calendar.now.exceptions d from × (first_day ≤ d) × (d < end_day) × (0 < work) × (work < 2 ^ 47) }
     ensures { result ≡ retreat (worked_by calendar.now) (d * 1440) work }
@@ -222,37 +189,28 @@ fn retreat_from(calendar: &Calendar, d: u64, from: usize, work: u64) -> Result<u
     if next <= FIRST_DAY {
         return Err(ClockError::TooLong);
     }
-    let k = (next % 7) as usize;
-    let row = calendar.week[k];
-    let before = sums.entries[7] * (next / 7) + sums.entries[k];
-    Ok((next - 1) * 1440 + calendar::row_select(row, p - before + 1) - 1)
+    let day = next - 1;
+    let k = p - sums.minutes_before(day) + 1;
+    Ok(day * 1440 + calendar::row_select(calendar.row(day), k) - 1)
 }
 
 // The worked minute with `work` worked minutes from it up to `t`, and `t` itself for none.
+// It begins as `advance` does: a function of the beginning would answer the day, its first E record, its hours and what is done of them, and be no shorter.
 pub fn retreat(calendar: &Calendar, t: u64, work: u64) -> Result<u64, ClockError>
     ensures { result ≡ retreat (worked_by calendar.now) t work }
 {
     if work == 0 {
         return Ok(t);
     }
-    let d = t / 1440;
-    if d < FIRST_DAY {
-        return Err(ClockError::TooLong);
-    }
-    if LAST_DAY < d {
-        return Err(ClockError::TooLong);
-    }
+    let d = worktime::read_day(t / 1440)?;
     if MANY < work {
         return Err(ClockError::TooLong);
     }
     let from = calendar.exceptions.first_from(d);
-    let row = calendar.week[((d + 1) % 7) as usize];
-    let hours = calendar.exceptions.hours_from(row, d, from);
-    let done = calendar::day_rank(hours, calendar.exceptions.sheet, t % 1440);
+    let hours = calendar.hours_from(d, from);
+    let done = hours.rank(t % 1440);
     if work <= done {
-        return Ok(
-            d * 1440 + calendar::day_select(hours, calendar.exceptions.sheet, done - work + 1) - 1,
-        );
+        return Ok(d * 1440 + hours.select(done - work + 1) - 1);
     }
     retreat_from(calendar, d, from, work - done)
 }
@@ -273,32 +231,19 @@ pub fn shift(calendar: &Calendar, t: u64, lag: i64) -> Result<u64, ClockError>
 pub fn day_work(calendar: &Calendar, d: u64) -> Result<i64, ClockError>
     ensures { result ≡ day_work (worked_by calendar.now) d }
 {
-    if d < FIRST_DAY {
-        return Err(ClockError::TooLong);
-    }
-    if LAST_DAY < d {
-        return Err(ClockError::TooLong);
-    }
-    let row = calendar.week[((d + 1) % 7) as usize];
-    let hours = calendar.exceptions.hours_on(row, d);
-    Ok(calendar::day_rank(hours, calendar.exceptions.sheet, 1440) as i64)
+    worktime::read_day(d)?;
+    let hours = calendar.hours_on(d);
+    Ok(hours.rank(1440) as i64)
 }
 
 // The minutes worked on `t`'s day before `t`.
 pub fn worked_before(calendar: &Calendar, t: u64) -> Result<i64, ClockError>
     ensures { result ≡ worked_before (worked_by calendar.now) t }
 {
-    let d = t / 1440;
+    let d = worktime::read_day(t / 1440)?;
     let m = t % 1440;
-    if d < FIRST_DAY {
-        return Err(ClockError::TooLong);
-    }
-    if LAST_DAY < d {
-        return Err(ClockError::TooLong);
-    }
-    let row = calendar.week[((d + 1) % 7) as usize];
-    let hours = calendar.exceptions.hours_on(row, d);
-    Ok(calendar::day_rank(hours, calendar.exceptions.sheet, m) as i64)
+    let hours = calendar.hours_on(d);
+    Ok(hours.rank(m) as i64)
 }
 
 // The minutes of days in a row, and the first E record whose day is after them.
@@ -324,8 +269,7 @@ fn days_work(calendar: &Calendar, d: u64, e: u64, from: usize) -> Days
                 to: j,
             };
         }
-        let k = ((day + 1) % 7) as usize;
-        let regular = sums.entries[k + 1] - sums.entries[k];
+        let regular = sums.minutes_on(day);
         // The first record of a day takes out what the sum has of it by its weekday; for a further one that stays out.
         let out = if next <= day { 0 } else { regular };
         sum = sum + calendar.exceptions.work(j) + out - regular;
@@ -348,30 +292,24 @@ fn work_to(calendar: &Calendar, a: u64, b: u64) -> u64
     let d = a / 1440;
     let e = b / 1440;
     let from = calendar.exceptions.first_from(d);
-    let first_row = calendar.week[((d + 1) % 7) as usize];
-    let first = calendar.exceptions.hours_from(first_row, d, from);
-    let before = calendar::day_rank(first, calendar.exceptions.sheet, a % 1440);
+    let first = calendar.hours_from(d, from);
+    let before = first.rank(a % 1440);
     if d == e {
-        return calendar::day_rank(first, calendar.exceptions.sheet, b % 1440) - before;
+        return first.rank(b % 1440) - before;
     }
-    let last_row = calendar.week[((e + 1) % 7) as usize];
     let days = days_work(calendar, d, e, from);
-    let last = calendar.exceptions.hours_from(last_row, e, days.to);
-    days.minutes + calendar::day_rank(last, calendar.exceptions.sheet, b % 1440) - before
+    let last = calendar.hours_from(e, days.to);
+    days.minutes + last.rank(b % 1440) - before
 }
 
 // The minutes worked from `a` to `b`: negative where `b` comes first.
 pub fn between(calendar: &Calendar, a: u64, b: u64) -> Result<i64, ClockError>
     ensures { result ≡ between (worked_by calendar.now) a b }
 {
-    if date::in_years(a / 1440) {
-        if date::in_years(b / 1440) {
-            if a <= b {
-                return Ok(work_to(calendar, a, b) as i64);
-            }
-            return Ok(number::sign::difference(work_to(calendar, b, a), 0));
-        }
-        return Err(ClockError::TooLong);
+    worktime::read_day(a / 1440)?;
+    worktime::read_day(b / 1440)?;
+    if a <= b {
+        return Ok(work_to(calendar, a, b) as i64);
     }
-    Err(ClockError::TooLong)
+    Ok(number::sign::difference(work_to(calendar, b, a), 0))
 }

@@ -20,20 +20,21 @@ pub struct Standing {
     pub start: u64,
 }
 
+// The walks read no week: what they say of its days holds for every week that the E records are valid with and whose sums they are given.
+
 // Forward from the beginning of day `d`; `from` is the first record whose day is `d` or later. It stops before the record by whose end `work` minutes are passed.
 pub fn ahead(sums: &WeekSums, exceptions: &Exceptions, d: u64, from: usize, work: u64) -> Standing
     requires { FirstOf exceptions.now d from × (d < 4294967296) × (0 < work) × (work < 2 ^ 47) }
     ensures { ((week : List (List Period)) → Valid week exceptions.now.sheet.now exceptions.now.at exceptions.now.n → Sums week sums.now.entries → Ahead week exceptions.now.sheet.now exceptions.now.at exceptions.now.n sums.now.entries result.at (count (worked_on week exceptions.now.sheet.now exceptions.now.at exceptions.now.n) (d * 1440) + result.passed) result.over) × (result.passed < work) × (result.at < exceptions.now.n → (result.start ≡ result.passed + (regular sums.now.entries (day_in exceptions.now result.at) - result.over)) × (work ≤ result.start + record_work exceptions.now.sheet.now exceptions.now.at result.at)) × (result.over < 2 ^ 43) }
 {
     let mut passed: u64 = 0;
-    let mut over = sums.entries[7] * ((d + 1) / 7) + sums.entries[((d + 1) % 7) as usize];
+    let mut over = sums.minutes_before(d);
     let mut next = d;
     for j in from..exceptions.n {
         let day = exceptions.day(j);
-        let k = ((day + 1) % 7) as usize;
-        let before = sums.entries[7] * ((day + 1) / 7) + sums.entries[k];
-        let regular = sums.entries[k + 1] - sums.entries[k];
-        // With a further record of a day, what the day has by its weekday is over already; it is put back without a branch, which would be hard to foretell.
+        let before = sums.minutes_before(day);
+        let regular = sums.minutes_on(day);
+        // With a further record of a day, what the day has by its weekday is over already; it is put back without a branch, which would be hard to predict.
         let out = if next <= day { 0 } else { regular };
         let start = passed + before + out - over;
         let done = start + exceptions.work(j);
@@ -58,19 +59,19 @@ pub fn ahead(sums: &WeekSums, exceptions: &Exceptions, d: u64, from: usize, work
 }
 
 // Back from the beginning of day `d`; `from` is the first record whose day is `d` or later. It stops after the record at whose beginning `work` minutes are passed.
-// It mirrors `ahead`: one function with the direction as an argument would test it at each record, and is no plainer.
+// It mirrors `ahead`: the range, the test for a further record of a day and both ends differ, so one function over the direction would take them all and be no plainer.
 pub fn back(sums: &WeekSums, exceptions: &Exceptions, d: u64, from: usize, work: u64) -> Standing
     requires { FirstOf exceptions.now d from × (d < 4294967296) × (0 < work) × (work < 2 ^ 47) }
     ensures { ((week : List (List Period)) → Valid week exceptions.now.sheet.now exceptions.now.at exceptions.now.n → Sums week sums.now.entries → (result.passed ≤ count (worked_on week exceptions.now.sheet.now exceptions.now.at exceptions.now.n) (d * 1440)) × Behind week exceptions.now.sheet.now exceptions.now.at exceptions.now.n sums.now.entries result.at (count (worked_on week exceptions.now.sheet.now exceptions.now.at exceptions.now.n) (d * 1440) - result.passed) result.over) × (result.passed < work) × (0 < result.at → (result.start ≡ result.passed + (result.over - regular sums.now.entries (day_in exceptions.now (result.at - 1) + 1))) × (work ≤ result.start + record_work exceptions.now.sheet.now exceptions.now.at (result.at - 1))) × (result.at ≤ exceptions.now.n) × (result.over < 2 ^ 43) }
 {
     let mut passed: u64 = 0;
-    let mut over = sums.entries[7] * ((d + 1) / 7) + sums.entries[((d + 1) % 7) as usize];
+    let mut over = sums.minutes_before(d);
     let mut next = d;
     for j in (0..from).rev() {
         let day = exceptions.day(j);
-        let k = ((day + 1) % 7) as usize;
-        let after = sums.entries[7] * ((day + 1) / 7) + sums.entries[k + 1];
-        let regular = sums.entries[k + 1] - sums.entries[k];
+        let before = sums.minutes_before(day);
+        let regular = sums.minutes_on(day);
+        let after = before + regular;
         let out = if day < next { 0 } else { regular };
         let start = passed + over + out - after;
         let done = start + exceptions.work(j);
@@ -83,7 +84,7 @@ pub fn back(sums: &WeekSums, exceptions: &Exceptions, d: u64, from: usize, work:
             };
         }
         passed = done;
-        over = after - regular;
+        over = before;
         next = day;
     }
     Standing {

@@ -1,5 +1,5 @@
 // Work counted by the week: the minutes of days that have no E records, and the day that has one of them.
-ghost use Rattle.std.specs.Prelude.{◌≡◌, [], ℕ, ◌+◌, ◌*◌, ◌/◌, ◌%◌, ◌^◌, ◌≤◌, ◌<◌, get_or};
+ghost use Rattle.std.specs.Prelude.{◌≡◌, [], ℕ, ◌+◌, ◌*◌, ◌/◌, ◌%◌, ◌^◌, ◌≤◌, ◌<◌, leb, get_or};
 ghost use Rattle.calendar.specs.Hours.{Ordered};
 ghost use Rattle.clock.specs.Regular.{Sums, Rising, regular};
 
@@ -21,33 +21,48 @@ impl WeekSums {
         ensures { Sums week.now result.entries }
     {
         let mut entries = [0u64; 8];
+        // By the index, since each sum is the one before it and a weekday's minutes.
         for k in 0..7 {
             entries[k + 1] = entries[k] + calendar::row_work(week[k]) as u64;
         }
         WeekSums { entries }
     }
 
-    // The minutes of the days from `d` up to but not `e`, each by its weekday: without a loop, for any number of days.
+    // The minutes of the days before day `d`, each by its weekday, from the Monday before day 0 on: without a loop, for any number of days.
+    pub fn minutes_before(&self, d: u64) -> u64
+        requires { d < 2 ^ 51 }
+        ensures { (result ≡ regular self.now.entries d) × (d < 4294967296 → result < 2 ^ 43) }
+    {
+        self.entries[7] * ((d + 1) / 7) + self.entries[((d + 1) % 7) as usize]
+    }
+
+    // The minutes of day `d` by its weekday.
+    pub fn minutes_on(&self, d: u64) -> u64
+        requires { d < 4294967296 }
+        ensures { (regular self.now.entries d + result ≡ regular self.now.entries (d + 1)) × (result ≤ 10080) }
+    {
+        let k = ((d + 1) % 7) as usize;
+        self.entries[k + 1] - self.entries[k]
+    }
+
+    // The minutes of the days from `d` up to but not `e`, each by its weekday.
     pub fn regular_work(&self, d: u64, e: u64) -> u64
         requires { (d ≤ e) × (e < 4294967296) }
         ensures { regular self.now.entries d + result ≡ regular self.now.entries e }
     {
-        self.entries[7] * ((e + 1) / 7 - (d + 1) / 7) + self.entries[((e + 1) % 7) as usize]
-            - self.entries[((d + 1) % 7) as usize]
+        self.minutes_before(e) - self.minutes_before(d)
     }
 
-    // The weekday, from Monday on, that has minute `y` of a week. It goes through all seven, so that nothing hangs on a branch that is hard to foretell.
+    // The weekday, from Monday on, that has minute `y` of a week: so many weekdays are over by it.
     fn weekday_at(&self, y: u64) -> u64
         requires { y < get_or self.now.entries 7 0 }
         ensures { (get_or self.now.entries result 0 ≤ y) × (y < get_or self.now.entries (result + 1) 0) × (result < 7) }
     {
-        let mut n: u64 = 0;
-        for k in 0..7 {
-            if self.entries[k + 1] <= y {
-                n += 1;
-            }
-        }
-        n
+        self.entries[1..].partition_point(
+            |sum: &u64| -> bool
+                ensures { result ≡ leb sum.now y }
+            { *sum <= y },
+        ) as u64
     }
 
     // The day after the one that has minute `p` by its weekday, from the Monday before day 0 on.

@@ -161,6 +161,9 @@ fn print_case(rt: &impl Print, calendar: &Calendar, case: Case) -> io::Result<()
     }
 }
 
+// Each of the next functions says that it ends past its place, unless the file ends there, and within the file: so `run_file` ends.
+// The file is no sheet, since its calendars have cases between them: they take its bytes and places, where a `Sheet` would be taken.
+
 // The cases that follow a calendar, from their mark on, and where they end.
 fn run_cases(rt: &impl Print, calendar: &Calendar, file: &[u8], from: usize) -> io::Result<usize>
     requires { from ≤ length file.now }
@@ -231,6 +234,7 @@ fn run_weeks(rt: &impl Print, file: &[u8], at: usize, w: usize) -> io::Result<us
 }
 
 // The cases of the calendar whose records begin at `at`, and where they end.
+// It mirrors `run_weeks`: the kind of record, its size and what follows differ, so one function would take all three and be no plainer.
 fn run_calendar(rt: &impl Print, file: &[u8], at: usize) -> io::Result<usize>
     requires { at ≤ length file.now }
     ensures { IfOk result (λ end. (min (at + 1) (length file.now) ≤ end) × (end ≤ length file.now)) }
@@ -253,6 +257,7 @@ fn run_file(rt: &impl Print, file: &[u8]) -> io::Result<()> {
     Ok(())
 }
 
+// The three programs of cases begin alike: each opens its file and reads it whole, into memory of its own size, which a function for all would have to be handed.
 fn main(rt: HostRuntime) -> io::Result<()> {
     let mut source = match fs::open(&rt, "cases") {
         Ok(source) => source,

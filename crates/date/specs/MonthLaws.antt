@@ -2,6 +2,7 @@
 use Rattle.std.specs.Prelude.{◌≡◌, refl, Bool, true, false, ◌&&◌, ℕ, zero, suc, ◌+◌, ◌-◌, ◌*◌, ◌/◌, ◌≤◌, ◌<◌, eqb, get_or, take}
 use Rattle.std.proofs.Common.{⊎_elim, arith, eqb-true}
 use Rattle.number.specs.Order.{eq_or_ne}
+use Rattle.number.specs.Tests.{and_both}
 use Rattle.date.specs.Gregorian.{lengths, sum}
 use Rattle.number.specs.Bit.{bit}
 use Rattle.date.specs.March.{days_from_march}
@@ -11,20 +12,11 @@ all_below : ℕ → (ℕ → Bool) → Bool
 all_below zero p = true
 all_below (suc n) p = p n && all_below n p
 
-and_left : (a b : Bool) → a && b ≡ true → a ≡ true
-and_left true b e = refl
-and_left false b e = e
-
-and_right : (a b : Bool) → a && b ≡ true → b ≡ true
-and_right true b e = e
-and_right false true e = refl
-and_right false false e = e
-
 each : (n : ℕ) (p : ℕ → Bool) → all_below n p ≡ true → (m : ℕ) → m < n → p m ≡ true
 unfolding all_below
 each zero p e m h = absurd (omega arith)
 each (suc n) p e m h =
-    ⊎_elim (λ k. rw k (and_left (p n) (all_below n p) e)) (λ k. each n p (and_right (p n) (all_below n p) e) m (omega arith)) (eq_or_ne m n)
+    ⊎_elim (λ k. rw k (and_both (p n) (all_below n p) e).0) (λ k. each n p ((and_both (p n) (all_below n p) e).1) m (omega arith)) (eq_or_ne m n)
 
 -- ---- March to December
 pub spring_before : (l : Bool) (m : ℕ) → m < 10 → sum (take (m + 3 - 1) (lengths l)) ≡ 59 + bit l + days_from_march m

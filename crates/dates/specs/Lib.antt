@@ -1,6 +1,8 @@
 -- The run's dates in the lent memory.
 pub mod Columns
 pub mod Standing
+pub mod InHand
+pub mod HandLaws
 pub mod ColumnLaws
 pub mod StandingLaws
 pub mod KeptLaws

@@ -1,10 +1,11 @@
 -- What is recorded of an activity by its three cells, and the plan's start and floor by the days of the sheet.
-use Rattle.std.specs.Prelude.{◌≡◌, List, ℕ, ◌+◌, ◌*◌, max, eqb, Option, Some, None}
+use Rattle.std.specs.Prelude.{◌≡◌, ◌⊎◌, List, ℕ, ◌+◌, ◌*◌, max, eqb, Option, Some, None}
 use Rattle.std.proofs.Math.Path.{refl}
-use Rattle.std.proofs.Common.{sym, ap, ap₂, ◌∙◌, eq-eqb, ne_eqb}
+use Rattle.std.proofs.Common.{sym, ap, ap₂, ◌∙◌, eq-eqb, ne_eqb, inl, inr, arith}
 use Rattle.worktime.specs.Reads.{on_true, on_false}
 use Rattle.date.specs.declared.Date.{Date}
 use Rattle.project.specs.Records.{date_at, optional_date_at, activity_at, project_at}
+use Rattle.placing.specs.declared.Actual.{Actual}
 use Rattle.placing.specs.declared.Actual.TheVariants.{Unstarted, Begun, Completed}
 use Rattle.placing.specs.Placing.{midnight_of}
 use Rattle.sheet.specs.declared.Contents.{Contents}
@@ -26,6 +27,11 @@ module _ (how start finish : ℕ) where
   unfolding actual_of
   actual_completed m n =
       on_false (eqb how 0) Unstarted _ (ne_eqb how 0 m) ∙ on_false (eqb how 1) (Begun start) (Completed start finish) (ne_eqb how 1 n)
+
+-- work not begun or under way is not completed
+pub not_completed : {a : Actual} → (a ≡ Unstarted) ⊎ ((s : ℕ) × (a ≡ Begun s)) → (s f : ℕ) → a ≡ Completed s f → ⊥
+not_completed (inl e) s f c = let z : ◌≡◌ {A = ℕ} 0 1 = cc in omega arith
+not_completed (inr (b, e)) s f c = let z : ◌≡◌ {A = ℕ} 0 1 = cc in omega arith
 
 -- ---- the plan of a sheet
 module _ (s : List ℕ) (c : Contents) where

@@ -1,6 +1,8 @@
 -- What the checks leave in the lent memory for the passes: the kept links and their chains, the order, parents and summaries; and what is recorded of work.
-use Rattle.std.specs.Prelude.{◌≡◌, true, false, ℕ, ◌≤◌, ◌<◌, eqb, length, get_or, Ok}
+use Rattle.std.specs.Prelude.{◌≡◌, Bool, true, false, ℕ, ◌≤◌, ◌<◌, eqb, length, get_or, Ok}
 use Rattle.number.specs.Bit.{bit}
+use Rattle.project.specs.declared.RelationshipType.{RelationshipType}
+use Rattle.project.specs.declared.RelationshipType.TheVariants.{FinishToStart, StartToStart, FinishToFinish, StartToFinish}
 use Rattle.project.specs.Records.{relationship_type_of}
 use Rattle.placing.specs.declared.Actual.{Actual}
 use Rattle.placing.specs.declared.Actual.TheVariants.{Unstarted, Begun, Completed}
@@ -32,6 +34,19 @@ tie_in S t = record {
   calendar = S.link lag_calendar_field t;
 }
 
+-- which end of its predecessor a link counts from, and which end of its successor it leads to
+abbrev pub counts_from_finish : RelationshipType → Bool
+counts_from_finish FinishToStart = true
+counts_from_finish StartToStart = false
+counts_from_finish FinishToFinish = true
+counts_from_finish StartToFinish = false
+
+abbrev pub leads_to_finish : RelationshipType → Bool
+leads_to_finish FinishToStart = false
+leads_to_finish StartToStart = false
+leads_to_finish FinishToFinish = true
+leads_to_finish StartToFinish = true
+
 -- what is recorded of an activity, by its three cells
 unfoldable pub actual_of : ℕ → ℕ → ℕ → Actual
 actual_of how start finish = elim (eqb how 0) [ true ↦ Unstarted | false ↦ elim (eqb how 1) [ true ↦ Begun start | false ↦ Completed start finish ] ]
@@ -52,7 +67,7 @@ pub record Standing (p : Plan) (t : ℕ) (S : State) : Type 0 where
   pub ordered : (q : ℕ) → q < p.activities → S.act order_at q ≡ get_or (order p) q 0
 
 -- what the passes are lent: a sheet that was read and whose plan the checks accept, its calendars' places, and memory as the checks leave it
--- a clause, and no struct's field: it relates the tables, which are written, to the sheet
+-- a clause, and no struct's field: it relates the tables, which most stages write, to the sheet; for the functions that only read them a struct of both would be made at each call
 pub record Ready (plan : PlanSheet) (tables : Tables) : Type 0 where
   pub activities : tables.activities ≡ plan.sheet.contents.activities
   pub links : tables.links ≡ plan.sheet.contents.links
@@ -62,3 +77,8 @@ pub record Ready (plan : PlanSheet) (tables : Tables) : Type 0 where
 -- fields 17 to 19 of activities
 abbrev pub Recorded : Plan → State → Type 0
 Recorded p S = (i : ℕ) → i < p.activities → Ok (actual_in S i) ≡ recorded p i
+
+-- what the passes are lent once the work left is found: a plan that is ready, with what is recorded of work
+pub record Lent (plan : PlanSheet) (tables : Tables) : Type 0 where
+  pub ready : Ready plan tables
+  pub recorded : Recorded (plan_in plan.sheet) (state tables)

@@ -7,14 +7,19 @@ ghost use Rattle.calendar.specs.Hours.{worked};
 ghost use Rattle.worktime.specs.Walks.{shift};
 ghost use Rattle.memory.specs.Seen.{state};
 ghost use Rattle.order.specs.Plan.{Plan, plan_in};
+ghost use Rattle.order.specs.Ties.{calendar_of};
 ghost use Rattle.passes.specs.Plan.{origin, floor, begun};
-ghost use Rattle.dates.specs.Standing.{as_tie, tie_in, actual_in};
+ghost use Rattle.calendars.specs.Calendars.{InPlan, Own};
+ghost use Rattle.dates.specs.Columns.{early_in};
+ghost use Rattle.dates.specs.InHand.{InHand};
+ghost use Rattle.dates.specs.Standing.{as_tie, tie_in, actual_in, counts_from_finish, leads_to_finish};
 
 pub mod step;
 
+use calendar::Calendar;
 use calendars::PlanSheet;
 use memory::Tables;
-use placing::Actual;
+use placing::{Actual, Work};
 use project::{Activity, RelationshipType};
 use sheet::Sheet;
 use worktime::ClockError;
@@ -27,6 +32,33 @@ pub struct Tie {
     pub kind: RelationshipType,
     pub lag: i64,
     pub calendar: usize,
+}
+
+// A start and a finish.
+#[derive(Clone, Copy)]
+pub struct Span {
+    pub start: u64,
+    pub finish: u64,
+}
+
+// Whether a link counts from its predecessor's finish; any other counts from its start.
+pub fn counts_from_finish(kind: RelationshipType) -> bool
+    ensures { result ≡ counts_from_finish kind }
+{
+    match kind {
+        RelationshipType::FinishToStart | RelationshipType::FinishToFinish => true,
+        RelationshipType::StartToStart | RelationshipType::StartToFinish => false,
+    }
+}
+
+// Whether a link leads to its successor's finish; any other leads to its start.
+pub fn leads_to_finish(kind: RelationshipType) -> bool
+    ensures { result ≡ leads_to_finish kind }
+{
+    match kind {
+        RelationshipType::FinishToFinish | RelationshipType::StartToFinish => true,
+        RelationshipType::FinishToStart | RelationshipType::StartToStart => false,
+    }
 }
 
 // The link in row `t`.
@@ -75,14 +107,35 @@ pub fn activity_of(sheet: &Sheet, i: usize) -> Activity
     requires { i < sheet.now.contents.activities }
     ensures { result ≡ (plan_in sheet.now).activity i }
 {
-    project::records::read_activity(sheet.bytes, sheet.contents.at + 45 * i)
+    sheet.activity(i).read()
+}
+
+// The OWN calendar of activity `i`.
+pub fn own_calendar<'a>(plan: &PlanSheet<'a>, i: usize) -> Calendar<'a>
+    requires { i < plan.now.sheet.contents.activities }
+    ensures { InPlan plan.now.sheet (calendar_of (plan_in plan.now.sheet) i) result }
+{
+    plan.calendar(plan.sheet.activity(i).calendar() as usize)
+}
+
+// Activity `i` with its OWN calendar and the work left of it, from the memory.
+pub fn work_of<'a>(plan: &PlanSheet<'a>, tables: &Tables, i: usize) -> Work<'a>
+    requires { (tables.now.activities ≡ plan.now.sheet.contents.activities) × (i < plan.now.sheet.contents.activities) }
+    ensures { Own plan.now.sheet i result.activity result.calendar × InHand (plan_in plan.now.sheet) (early_in (plan_in plan.now.sheet) (state tables.now)) i result × (result.left < 2 ^ 63) }
+{
+    let activity = activity_of(&plan.sheet, i);
+    Work {
+        activity,
+        calendar: plan.calendar(activity.calendar as usize),
+        left: tables.act(i, memory::fields::WORK_LEFT),
+    }
 }
 
 // The first minute of the project's start day.
 pub fn origin_of(sheet: &Sheet) -> u64
     ensures { (result ≡ origin (plan_in sheet.now)) × (result < 2 ^ 43) }
 {
-    project::fields::read_date(sheet.bytes, 1).midnight()
+    sheet.start().midnight()
 }
 
 // The later of the start and the data day.
@@ -90,7 +143,7 @@ pub fn floor_of(sheet: &Sheet) -> u64
     ensures { (result ≡ floor (plan_in sheet.now)) × (result < 2 ^ 43) }
 {
     let start = origin_of(sheet);
-    match project::fields::read_optional_date(sheet.bytes, 5) {
+    match sheet.data_date() {
         Some(d) => start.max(d.midnight()),
         None => start,
     }

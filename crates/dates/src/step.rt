@@ -7,7 +7,7 @@ ghost use Rattle.order.specs.Plan.{Plan, plan_in};
 ghost use Rattle.order.specs.Checks.{order};
 ghost use Rattle.passes.specs.Dates.{Pass, through};
 ghost use Rattle.dates.specs.Columns.{ended};
-ghost use Rattle.dates.specs.Standing.{Ready, Recorded};
+ghost use Rattle.dates.specs.Standing.{Lent};
 
 use calendars::PlanSheet;
 use memory::Tables;
@@ -31,7 +31,7 @@ pub trait Step {
     ghost high: { ℕ };
 
     fn take(&self, plan: &PlanSheet, tables: &mut Tables, i: usize) -> Result<(), ClockError>
-        requires { Ready plan.now tables.old × Recorded (plan_in plan.now.sheet) (state tables.old) × (i < plan.now.sheet.contents.activities) }
+        requires { Lent plan.now tables.old × (i < plan.now.sheet.contents.activities) }
         ensures { ((past : Past) → ended (seen self.now (plan_in plan.now.sheet) (state tables.new) past) result ≡ turn self.now (plan_in plan.now.sheet) (state tables.old) past (seen self.now (plan_in plan.now.sheet) (state tables.old) past) i) × Frame low high 0 0 (state tables.old) (state tables.new) × SameSlice tables.old tables.new };
 
     // Of what it writes it reads nothing but those dates.
@@ -41,7 +41,7 @@ pub trait Step {
 // The step at each activity, in the order.
 pub fn onward<S: Step>(step: &S, plan: &PlanSheet, tables: &mut Tables) -> Result<(), ClockError>
     requires fields { (10 ≤ S.low) × (S.high ≤ 17) }
-    requires ready { Ready plan.now tables.old × Recorded (plan_in plan.now.sheet) (state tables.old) }
+    requires ready { Lent plan.now tables.old }
     ensures { ((past : S.Past) → ended (S.seen step.now (plan_in plan.now.sheet) (state tables.new) past) result ≡ through (S.turn step.now (plan_in plan.now.sheet) (state tables.old) past) (order (plan_in plan.now.sheet)) (S.seen step.now (plan_in plan.now.sheet) (state tables.old) past)) × Frame S.low S.high 0 0 (state tables.old) (state tables.new) × SameSlice tables.old tables.new }
 {
     for q in 0..plan.sheet.contents.activities {
@@ -52,9 +52,10 @@ pub fn onward<S: Step>(step: &S, plan: &PlanSheet, tables: &mut Tables) -> Resul
 }
 
 // The step at each activity, from the last of the order to the first.
+// It is `onward` with the range turned about: a function over the range would take the order that the range lists as a parameter, and be no plainer.
 pub fn back<S: Step>(step: &S, plan: &PlanSheet, tables: &mut Tables) -> Result<(), ClockError>
     requires fields { (10 ≤ S.low) × (S.high ≤ 17) }
-    requires ready { Ready plan.now tables.old × Recorded (plan_in plan.now.sheet) (state tables.old) }
+    requires ready { Lent plan.now tables.old }
     ensures { ((past : S.Past) → ended (S.seen step.now (plan_in plan.now.sheet) (state tables.new) past) result ≡ through (S.turn step.now (plan_in plan.now.sheet) (state tables.old) past) (reverse (order (plan_in plan.now.sheet))) (S.seen step.now (plan_in plan.now.sheet) (state tables.old) past)) × Frame S.low S.high 0 0 (state tables.old) (state tables.new) × SameSlice tables.old tables.new }
 {
     for q in (0..plan.sheet.contents.activities).rev() {

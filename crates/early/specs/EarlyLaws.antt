@@ -23,9 +23,11 @@ use Rattle.order.specs.Ids.{summary}
 use Rattle.passes.specs.Plan.{own, origin, floor, kind_of}
 use Rattle.passes.specs.Dates.{Early, leaves, refused}
 use Rattle.passes.specs.Forward.{counted, at_early, on_time, constrained, levelled, held, resumed, start_by, expected_on, work_to, minutes_from, early, placed}
-use Rattle.early.specs.declared.Times.{Times}
-use Rattle.early.specs.declared.Placement.{Placement}
-use Rattle.early.specs.InHand.{IsTimes, InHand, finished_as, after_start, Fits}
+use Rattle.early.specs.declared.values.Times.{Times}
+use Rattle.dates.specs.InHand.{InHand}
+use Rattle.clock.specs.On.{worked_by}
+use Rattle.placing.specs.declared.work.Work.{Work}
+use Rattle.early.specs.InHand.{IsTimes, finished_as, after_start}
 
 -- ---- a walk x, which is the definition's y: it answers, or is refused
 module _ {A : Type 0} (f : ClockError → A) (go : ℕ → A) {x y : Result ℕ ClockError} (e : x ≡ y) where
@@ -54,7 +56,7 @@ module _ {p : Plan} {times : Times} (T : IsTimes p times) (d : Early) (s start :
       → goes_on p.project.data_date p.project.progress_mode ≡ times.floor
   resumed_override x e f = ap₂ goes_on (sym T.data_is ∙ e) (sym T.mode_is ∙ f) ∙ sym T.floor_is
 
-module _ {p : Plan} {d : Early} {i : ℕ} {activity : Activity} {w : ℕ → Bool} {left : ℕ} (H : InHand p d i activity w left) where
+module _ {p : Plan} {d : Early} {i : ℕ} {work : Work} (H : InHand p d i work) where
   -- ---- the start by a constraint's time
   module _ (c : Constraint) (t start : ℕ) where
     pub early_stays : ((x : Date) × (c ≡ StartOnOrBefore x)) ⊎ (((x : Date) × (c ≡ FinishOnOrBefore x)) ⊎ (c ≡ AsLateAsPossible))
@@ -70,7 +72,7 @@ module _ {p : Plan} {d : Early} {i : ℕ} {activity : Activity} {w : ℕ → Boo
     pub early_mandatory_start : (x : Date) (f : ℕ) → f ≡ floor p → c ≡ MandatoryStart x → at_early p d i (Some c) t start ≡ Ok (max t f)
     early_mandatory_start x f q e = rw (e, q)
 
-    module _ {walk : Result ℕ ClockError} (a : walk ≡ start_for_finish w left t) where
+    module _ {walk : Result ℕ ClockError} (a : walk ≡ start_for_finish (worked_by work.calendar) work.left t) where
       start_is : walk ≡ start_for_finish (own p i) (d.left i) t
       start_is = a ∙ ap₂ (λ (v : ℕ → Bool) (m : ℕ). start_for_finish v m t) (sym H.own_is) H.left_is
 
@@ -91,7 +93,7 @@ module _ {p : Plan} {d : Early} {i : ℕ} {activity : Activity} {w : ℕ → Boo
   unfolding constrained on_start constraint_time
   constrained_free start e = rw e
 
-  module _ {c k : Option Constraint} (h : c ≡ k) (start : ℕ) {m : Result (Option ℕ) ClockError} (e : m ≡ constraint_time w (on_start k)) where
+  module _ {c k : Option Constraint} (h : c ≡ k) (start : ℕ) {m : Result (Option ℕ) ClockError} (e : m ≡ constraint_time (worked_by work.calendar) (on_start k)) where
     by_time : constrained p d i c start ≡ on_time p d m (Ok start) (λ t. at_early p d i k t start)
     unfolding constrained
     by_time =
@@ -118,11 +120,11 @@ module _ {p : Plan} {d : Early} {i : ℕ} {activity : Activity} {w : ℕ → Boo
       constrained_far r f = at_time ∙ stops Err (λ t. at_early p d i k t start) b f
 
   -- ---- the levelled start
-  pub levelled_on : (start : ℕ) (x : Date) → activity.levelled ≡ Some x → levelled p d i activity.levelled start ≡ constrained p d i (Some (StartOnOrAfter x)) start
+  pub levelled_on : (start : ℕ) (x : Date) → work.activity.levelled ≡ Some x → levelled p d i work.activity.levelled start ≡ constrained p d i (Some (StartOnOrAfter x)) start
   unfolding constrained on_start
   levelled_on start x e = ap (λ (y : Option Date). levelled p d i y start) e
 
-  pub levelled_absent : (start : ℕ) → activity.levelled ≡ None → levelled p d i activity.levelled start ≡ Ok start
+  pub levelled_absent : (start : ℕ) → work.activity.levelled ≡ None → levelled p d i work.activity.levelled start ≡ Ok start
   levelled_absent start e = ap (λ (y : Option Date). levelled p d i y start) e
 
   -- ---- both constraints and the levelled start
@@ -131,9 +133,9 @@ module _ {p : Plan} {d : Early} {i : ℕ} {activity : Activity} {w : ℕ → Boo
     unfolding held
     held_summary e = on_true (summary p i) (Ok start) _ (sym q ∙ e)
 
-    module _ (e : b ≡ false) {x : Result ℕ ClockError} (f : x ≡ constrained p d i activity.constraint start) where
-      in_turn : held p d i start ≡ via Err (constrained p d i activity.constraint start)
-          (λ s. via Err (constrained p d i activity.secondary_constraint s) (levelled p d i activity.levelled))
+    module _ (e : b ≡ false) {x : Result ℕ ClockError} (f : x ≡ constrained p d i work.activity.constraint start) where
+      in_turn : held p d i start ≡ via Err (constrained p d i work.activity.constraint start)
+          (λ s. via Err (constrained p d i work.activity.secondary_constraint s) (levelled p d i work.activity.levelled))
       unfolding held
       in_turn =
           on_false (summary p i) (Ok start) _ (sym q ∙ e) ∙
@@ -144,11 +146,11 @@ module _ {p : Plan} {d : Early} {i : ℕ} {activity : Activity} {w : ℕ → Boo
       pub held_first_refused : (k : ClockError) → x ≡ Err k → held p d i start ≡ Err k
       held_first_refused k a = in_turn ∙ stops Err _ f a
 
-      module _ (s : ℕ) (a : x ≡ Ok s) {y : Result ℕ ClockError} (g : y ≡ constrained p d i activity.secondary_constraint s) where
+      module _ (s : ℕ) (a : x ≡ Ok s) {y : Result ℕ ClockError} (g : y ≡ constrained p d i work.activity.secondary_constraint s) where
         pub held_second_refused : (k : ClockError) → y ≡ Err k → held p d i start ≡ Err k
         held_second_refused k c = in_turn ∙ goes_on_lem Err _ f a ∙ stops Err _ g c
 
-        pub held_both : (u : ℕ) → y ≡ Ok u → held p d i start ≡ levelled p d i activity.levelled u
+        pub held_both : (u : ℕ) → y ≡ Ok u → held p d i start ≡ levelled p d i work.activity.levelled u
         held_both u c = in_turn ∙ goes_on_lem Err _ f a ∙ goes_on_lem Err _ g c
 
   -- ---- the start by what is recorded
@@ -164,15 +166,15 @@ module _ {p : Plan} {d : Early} {i : ℕ} {activity : Activity} {w : ℕ → Boo
 
   -- ---- the work to an expected finish
   module _ (s : ℕ) (day : Option Date) where
-    pub work_unexpected : day ≡ None → work_to p d i s day ≡ Ok left
+    pub work_unexpected : day ≡ None → work_to p d i s day ≡ Ok work.left
     work_unexpected e = ap (work_to p d i s) e ∙ ap Ok (sym H.left_is)
 
-    module _ (x : Date) (e : day ≡ Some x) (start : ℕ) (h : start ≡ midnight_of x) {y : Result ℕ ClockError} (f' : y ≡ previous_finish w (start + 1440)) where
-      f : y ≡ previous_finish w (midnight_of x + 1440)
-      f = f' ∙ ap (λ (v : ℕ). previous_finish w (v + 1440)) h
+    module _ (x : Date) (e : day ≡ Some x) (start : ℕ) (h : start ≡ midnight_of x) {y : Result ℕ ClockError} (f' : y ≡ previous_finish (worked_by work.calendar) (start + 1440)) where
+      f : y ≡ previous_finish (worked_by work.calendar) (midnight_of x + 1440)
+      f = f' ∙ ap (λ (v : ℕ). previous_finish (worked_by work.calendar) (v + 1440)) h
 
-      to_evening : work_to p d i s day ≡ via Err (previous_finish w (midnight_of x + 1440))
-          (λ u. via Err (bounded (origin p) u) (λ b. counted Err (between w s (max b s)) Ok))
+      to_evening : work_to p d i s day ≡ via Err (previous_finish (worked_by work.calendar) (midnight_of x + 1440))
+          (λ u. via Err (bounded (origin p) u) (λ b. counted Err (between (worked_by work.calendar) s (max b s)) Ok))
       to_evening =
           ap (work_to p d i s) e ∙
           ap
@@ -189,45 +191,45 @@ module _ {p : Plan} {d : Early} {i : ℕ} {activity : Activity} {w : ℕ → Boo
         pub work_far : (k : ClockError) → z ≡ Err k → work_to p d i s day ≡ Err k
         work_far k c = to_evening ∙ goes_on_lem Err _ f a ∙ stops Err _ is_bounded c
 
-        pub work_counted : (b l : ℕ) → z ≡ Ok b → l ≡ max b s → work_to p d i s day ≡ counted Err (between w s l) Ok
+        pub work_counted : (b l : ℕ) → z ≡ Ok b → l ≡ max b s → work_to p d i s day ≡ counted Err (between (worked_by work.calendar) s l) Ok
         work_counted b l c j =
             to_evening ∙ goes_on_lem Err _ f a ∙ goes_on_lem Err _ is_bounded c
-            ∙ ap (λ (v : ℕ). counted Err (between w s v) Ok) (sym j)
+            ∙ ap (λ (v : ℕ). counted Err (between (worked_by work.calendar) s v) Ok) (sym j)
 
   -- ---- the minutes
   module _ (s : ℕ) {b : Bool} (q : b ≡ summary p i) where
-    pub minutes_summary : b ≡ true → minutes_from p d i s ≡ Ok left
+    pub minutes_summary : b ≡ true → minutes_from p d i s ≡ Ok work.left
     unfolding minutes_from
     minutes_summary e = on_true (summary p i) (Ok (d.left i)) _ (sym q ∙ e) ∙ ap Ok (sym H.left_is)
 
     module _ (e : b ≡ false) where
-      by_kind : minutes_from p d i s ≡ work_to p d i s (expected_on p d i activity.kind)
+      by_kind : minutes_from p d i s ≡ work_to p d i s (expected_on p d i work.activity.kind)
       unfolding minutes_from
       by_kind =
           on_false (summary p i) (Ok (d.left i)) _ (sym q ∙ e)
           ∙ ap (λ (a : Activity). work_to p d i s (expected_on p d i a.kind)) (sym H.activity_is)
 
-      pub minutes_task : activity.kind ≡ Task → minutes_from p d i s ≡ work_to p d i s activity.expected_finish
+      pub minutes_task : work.activity.kind ≡ Task → minutes_from p d i s ≡ work_to p d i s work.activity.expected_finish
       minutes_task k =
           by_kind ∙ ap (λ (a : ActivityKind). work_to p d i s (expected_on p d i a)) k
           ∙ ap (λ (a : Activity). work_to p d i s a.expected_finish) (sym H.activity_is)
 
-      pub minutes_milestone : (activity.kind ≡ StartMilestone) ⊎ (activity.kind ≡ FinishMilestone) → minutes_from p d i s ≡ Ok left
+      pub minutes_milestone : (work.activity.kind ≡ StartMilestone) ⊎ (work.activity.kind ≡ FinishMilestone) → minutes_from p d i s ≡ Ok work.left
       minutes_milestone (inl k) = by_kind ∙ ap (λ (a : ActivityKind). work_to p d i s (expected_on p d i a)) k ∙ ap Ok (sym H.left_is)
       minutes_milestone (inr k) = by_kind ∙ ap (λ (a : ActivityKind). work_to p d i s (expected_on p d i a)) k ∙ ap Ok (sym H.left_is)
 
   -- ---- the placing
-  module _ (start : ℕ) {x : Result ℕ ClockError} (f : x ≡ place_start w activity.kind start) where
-    from_start : placed p d i start ≡ via refused (place_start w activity.kind start)
-        (λ t. via refused (bounded (origin p) t) (λ s. via refused (minutes_from p d i s) (finished_as p d i w s)))
+  module _ (start : ℕ) {x : Result ℕ ClockError} (f : x ≡ place_start (worked_by work.calendar) work.activity.kind start) where
+    from_start : placed p d i start ≡ via refused (place_start (worked_by work.calendar) work.activity.kind start)
+        (λ t. via refused (bounded (origin p) t) (λ s. via refused (minutes_from p d i s) (finished_as p d i (worked_by work.calendar) s)))
     unfolding placed
     from_start =
         ap
         (λ (v : ℕ → Bool). via refused (place_start v (kind_of p i) start)
         (λ t. via refused (bounded (origin p) t) (λ s. via refused (minutes_from p d i s) (finished_as p d i v s)))) H.own_is ∙
         ap
-        (λ (a : Activity). via refused (place_start w a.kind start)
-        (λ t. via refused (bounded (origin p) t) (λ s. via refused (minutes_from p d i s) (finished_as p d i w s)))) (sym H.activity_is)
+        (λ (a : Activity). via refused (place_start (worked_by work.calendar) a.kind start)
+        (λ t. via refused (bounded (origin p) t) (λ s. via refused (minutes_from p d i s) (finished_as p d i (worked_by work.calendar) s)))) (sym H.activity_is)
 
     pub placed_refused : (k : ClockError) → x ≡ Err k → placed p d i start ≡ refused k
     placed_refused k a = from_start ∙ stops refused _ f a
@@ -243,7 +245,7 @@ module _ {p : Plan} {d : Early} {i : ℕ} {activity : Activity} {w : ℕ → Boo
         pub placed_uncounted : (k : ClockError) → z ≡ Err k → placed p d i start ≡ refused k
         placed_uncounted k m = from_start ∙ goes_on_lem refused _ f a ∙ goes_on_lem refused _ start_bounded c ∙ stops refused _ h m
 
-        pub placed_from : (m : ℕ) → z ≡ Ok m → placed p d i start ≡ finished_as p d i w s m
+        pub placed_from : (m : ℕ) → z ≡ Ok m → placed p d i start ≡ finished_as p d i (worked_by work.calendar) s m
         placed_from m n = from_start ∙ goes_on_lem refused _ f a ∙ goes_on_lem refused _ start_bounded c ∙ goes_on_lem refused _ h n
 
 -- ---- the finish
@@ -270,17 +272,6 @@ module _ (p : Plan) (d : Early) (i : ℕ) (a : Actual) (start : ℕ) {x : Result
   after_start_lem u e = goes_on_lem refused (placed p d i) f e
 
 -- ---- what fits
-pub refused_fits : (k : ClockError) → Fits (Err k)
-refused_fits k s f m e = let z : ◌≡◌ {A = ℕ} 0 1 = cc in absurd (omega arith)
-
-pub at_fits : (s f m : ℕ) → s < 2 ^ 63 → f < 2 ^ 63 → m < 2 ^ 63 → Fits (Ok (record { start = s; finish = f; left = m }))
-at_fits s f m a b c s' f' m' e =
-    let q : ◌≡◌ {A = Placement} (record { start = s; finish = f; left = m }) (record { start = s'; finish = f'; left = m' }) = cc in
-    let x : s ≡ s' = ap (λ (y : Placement). y.start) q in
-    let y : f ≡ f' = ap (λ (y : Placement). y.finish) q in
-    let z : m ≡ m' = ap (λ (y : Placement). y.left) q in
-    (omega arith, omega arith, omega arith)
-
 pub refused_below : (k : ClockError) → (m : ℕ) → ◌≡◌ {A = Result ℕ ClockError} (Err k) (Ok m) → m < 2 ^ 63
 refused_below k m e = let z : ◌≡◌ {A = ℕ} 0 1 = cc in absurd (omega arith)
 

@@ -1,15 +1,17 @@
 -- What the functions of one activity have in hand, and what they answer as the definition has it.
-use Rattle.std.specs.Prelude.{◌≡◌, Bool, ℕ, ◌^◌, ◌<◌, Result, Ok, Err}
+use Rattle.std.specs.Prelude.{◌≡◌, Bool, ℕ, Result, Ok, Err}
 use Rattle.worktime.specs.declared.ClockError.{ClockError}
-use Rattle.project.specs.declared.Activity.{Activity}
 use Rattle.placing.specs.declared.Actual.{Actual}
 use Rattle.placing.specs.Placing.{via, bounded, finish_of}
 use Rattle.order.specs.Plan.{Plan}
-use Rattle.passes.specs.Plan.{own, origin, floor}
+use Rattle.passes.specs.Plan.{origin, floor}
 use Rattle.passes.specs.Dates.{Early, Pass, leaves, refused}
 use Rattle.passes.specs.Forward.{start_by, placed, early}
-use Rattle.early.specs.declared.Times.{Times}
-use Rattle.early.specs.declared.Placement.{Placement}
+use Rattle.early.specs.declared.values.Times.{Times}
+use Rattle.early.specs.declared.values.Placement.{Placement}
+use Rattle.early.specs.declared.values.Unplaced.{Unplaced}
+use Rattle.dates.specs.InHand.{InHand}
+use Rattle.order.specs.Ids.{summary}
 
 -- the project's times are those of the plan
 pub record IsTimes (p : Plan) (times : Times) : Type 0 where
@@ -18,11 +20,11 @@ pub record IsTimes (p : Plan) (times : Times) : Type 0 where
   pub data_is : times.data_date ≡ p.project.data_date
   pub mode_is : times.progress_mode ≡ p.project.progress_mode
 
--- activity i, the worked minutes of its own calendar, and its minutes of work left
-pub record InHand (p : Plan) (d : Early) (i : ℕ) (activity : Activity) (w : ℕ → Bool) (left : ℕ) : Type 0 where
-  pub activity_is : activity ≡ p.activity i
-  pub own_is : own p i ≡ w
-  pub left_is : left ≡ d.left i
+-- the activity to be placed is activity i
+pub record IsUnplaced (p : Plan) (d : Early) (i : ℕ) (u : Unplaced) : Type 0 where
+  pub hand : InHand p d i u.work
+  pub summary_is : u.is_summary ≡ summary p i
+  pub times_are : IsTimes p u.times
 
 module _ (p : Plan) (d : Early) (i : ℕ) where
   abbrev pub placed_as : Result Placement ClockError → Pass Early
@@ -36,7 +38,3 @@ module _ (p : Plan) (d : Early) (i : ℕ) where
   -- the end of `forward_by` for work that is not completed, once the links are met
   abbrev pub after_start : Actual → ℕ → Pass Early
   after_start a r = via refused (start_by p d i a r) (placed p d i)
-
--- the dates and minutes fit cells of the memory
-abbrev pub Fits : Result Placement ClockError → Type 0
-Fits x = (s f m : ℕ) → x ≡ Ok (record { start = s; finish = f; left = m }) → (s < 2 ^ 63) × (f < 2 ^ 63) × (m < 2 ^ 63)

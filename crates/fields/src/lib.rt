@@ -1,10 +1,13 @@
 // The tests of one record's fields: 3 of 01's table is given where one of them fails.
+// The tests of a day, of a code and of a constraint take a place: which it is, only the record knows, and an array of the field's bytes would have to be cut out at each call.
 #![tactic(auto, unfolding(project::specs::Fields::day_ok, project::specs::Fields::day_or_absent, project::specs::Fields::header_ok, project::specs::Fields::calendar_ok, project::specs::Fields::constraint_ok, project::specs::Fields::activity_ok, project::specs::Fields::link_ok))]
 
 ghost use Rattle.std.specs.Prelude.{◌≡◌, ◌+◌, ◌≤◌, ◌<◌, leb, length};
 ghost use Rattle.number.specs.Bytes.{byte_at, biased_at};
 ghost use Rattle.fields.specs.Parts.{header_days, activity_codes, activity_dates};
-ghost use Rattle.project.specs.Fields.{day_ok, day_or_absent, header_ok, calendar_ok, constraint_ok, activity_ok, link_ok, header_size, calendar_size, activity_size, link_size};
+ghost use Rattle.project.specs.Fields.{day_ok, day_or_absent, header_ok, calendar_ok, constraint_ok, activity_ok, link_ok, header_size, calendar_size};
+
+use project::{ActivityRecord, LinkRecord};
 
 // The first and the last day that a sheet may name, those of the years 1600 to 2999, counted from the first that an i32 can name.
 pub const FIRST_DAY: u64 = 2147348508;
@@ -82,43 +85,40 @@ pub fn constraint_ok(sheet: &[u8], at: usize) -> bool
     (kind == 0) | (kind == 9) | ((kind < 9) & day_at(sheet, at + 1))
 }
 
-// A: its id, its kind, and its minutes, which are 0 for a milestone.
-fn activity_codes(sheet: &[u8], at: usize) -> bool
-    requires { at + activity_size ≤ length sheet.now }
-    ensures { result ≡ activity_codes sheet.now at }
+// A: its id, its kind, and its minutes, which are 0 for a milestone. The tests read the codes and days themselves: ActivityRecord's and LinkRecord's getters
+// answer what those mean, where one out of range no longer shows.
+fn activity_codes(activity: &ActivityRecord) -> bool
+    ensures { result ≡ activity_codes activity.now.sheet.now activity.now.at }
 {
-    let id = number::read_u32(sheet, at + 1);
-    let kind = number::byte(sheet, at + 5);
-    let minutes = number::read_u32(sheet, at + 11);
+    let id = number::read_u32(activity.sheet, activity.at + 1);
+    let kind = number::byte(activity.sheet, activity.at + 5);
+    let minutes = number::read_u32(activity.sheet, activity.at + 11);
     (id != 0) & (kind <= 2) & ((kind == 0) | (minutes == 0))
 }
 
 // A: its codes, then its recorded dates and its expected finish.
-fn activity_dates(sheet: &[u8], at: usize) -> bool
-    requires { at + activity_size ≤ length sheet.now }
-    ensures { result ≡ activity_dates sheet.now at }
+fn activity_dates(activity: &ActivityRecord) -> bool
+    ensures { result ≡ activity_dates activity.now.sheet.now activity.now.at }
 {
-    activity_codes(sheet, at)
-        & day_or_absent_at(sheet, at + 15)
-        & day_or_absent_at(sheet, at + 19)
-        & day_or_absent_at(sheet, at + 27)
+    activity_codes(activity)
+        & day_or_absent_at(activity.sheet, activity.at + 15)
+        & day_or_absent_at(activity.sheet, activity.at + 19)
+        & day_or_absent_at(activity.sheet, activity.at + 27)
 }
 
-pub fn activity_ok(sheet: &[u8], at: usize) -> bool
-    requires { at + activity_size ≤ length sheet.now }
-    ensures { result ≡ activity_ok sheet.now at }
+pub fn activity_ok(activity: &ActivityRecord) -> bool
+    ensures { result ≡ activity_ok activity.now.sheet.now activity.now.at }
 {
-    activity_dates(sheet, at)
-        & constraint_ok(sheet, at + 31)
-        & constraint_ok(sheet, at + 36)
-        & day_or_absent_at(sheet, at + 41)
+    activity_dates(activity)
+        & constraint_ok(activity.sheet, activity.at + 31)
+        & constraint_ok(activity.sheet, activity.at + 36)
+        & day_or_absent_at(activity.sheet, activity.at + 41)
 }
 
-pub fn link_ok(sheet: &[u8], at: usize) -> bool
-    requires { at + link_size ≤ length sheet.now }
-    ensures { result ≡ link_ok sheet.now at }
+pub fn link_ok(link: &LinkRecord) -> bool
+    ensures { result ≡ link_ok link.now.sheet.now link.now.at }
 {
-    let basis = number::byte(sheet, at + 10);
-    let unit = number::byte(sheet, at + 11);
-    code_ok(sheet, at + 9, 3) & (basis <= 2) & ((basis == 2) | (unit <= 1))
+    let basis = number::byte(link.sheet, link.at + 10);
+    let unit = number::byte(link.sheet, link.at + 11);
+    code_ok(link.sheet, link.at + 9, 3) & (basis <= 2) & ((basis == 2) | (unit <= 1))
 }

@@ -1,6 +1,6 @@
 -- The dates of a held late move lie in the years that may be read, so that the memory holds them.
 use Rattle.std.specs.Prelude.{◌≡◌, Bool, ℕ, ◌≤◌, ◌<◌, Result, Ok, Err}
-use Rattle.floats.specs.declared.Moved.{Moved}
+use Rattle.dates.specs.declared.Span.{Span}
 use Rattle.floats.specs.Slack.{moved_to}
 use Rattle.worktime.specs.declared.ClockError.{ClockError}
 use Rattle.std.proofs.Common.{sym, ap, ◌∙◌, ⊎_elim, arith}
@@ -15,7 +15,7 @@ use Rattle.placing.proofs.PlacingSound.{same_time, walk_ways, place_start_sound,
 use Rattle.floats.specs.Slack.{start_moved, dates_moved}
 use Rattle.floats.specs.SlackLaws.{start_moved_refuses, start_moved_unplaced, start_moved_none, start_moved_far, start_moved_back, dates_moved_refuses, dates_moved_far, dates_moved_to}
 
-moved_or_refused : {x : Result Moved ClockError} {s f : ℕ} {k : ClockError} → x ≡ moved_to s f → x ≡ Err k → ⊥
+moved_or_refused : {x : Result Span ClockError} {s f : ℕ} {k : ClockError} → x ≡ moved_to s f → x ≡ Err k → ⊥
 moved_or_refused p q = let z : ◌≡◌ {A = ℕ} 0 1 = cc in omega arith
 
 module _ (w : ℕ → Bool) where
@@ -55,9 +55,9 @@ module _ (w : ℕ → Bool) where
         ⊎_elim
         (λ b.
         let g = dates_moved_to w kind es ef left n a.0 a.1 b.0 b.1 in
-        let r : ◌≡◌ {A = Moved} (record { start = a.0; finish = b.0 }) (record { start = s; finish = f }) = cc in
-        let p : a.0 ≡ s = ap (λ (z : Moved). z.start) r in
-        let q : b.0 ≡ f = ap (λ (z : Moved). z.finish) r in
+        let r : ◌≡◌ {A = Span} (record { start = a.0; finish = b.0 }) (record { start = s; finish = f }) = cc in
+        let p : a.0 ≡ s = ap (λ (z : Span). z.start) r in
+        let q : b.0 ≡ f = ap (λ (z : Span). z.finish) r in
         let x = start_bound a.0 a.1 in
         let y = finish_of_bound w left a.0 b.0 x b.1 in
         (omega arith, omega arith))

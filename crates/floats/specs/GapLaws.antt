@@ -1,5 +1,5 @@
 -- The slack before the successors of an activity, from what stands in the memory: one link's part, and the walk along the links out of it.
-use Rattle.std.specs.Prelude.{◌≡◌, refl, Bool, List, ℕ, ◌≤◌, ◌<◌, ℤ, Result, Ok, Err}
+use Rattle.std.specs.Prelude.{◌≡◌, refl, Bool, List, [], ◌∷◌, ℕ, ◌<◌, ℤ, Result, Ok, Err}
 use Rattle.worktime.specs.declared.ClockError.{ClockError}
 use Rattle.std.proofs.Math.Path.{sym, ap}
 use Rattle.std.proofs.Common.{◌∙◌, arith}
@@ -10,11 +10,11 @@ use Rattle.project.specs.declared.RelationshipType.TheVariants.{FinishToStart, S
 use Rattle.placing.specs.declared.Actual.{Actual}
 use Rattle.placing.proofs.PlacingLaws.{via_at, via_refused}
 use Rattle.cells.specs.Chain.{after, gather}
-use Rattle.cells.specs.ChainLaws.{Cursor, cursor_start, cursor_turn, cursor_stop, cursor_end}
+use Rattle.cells.specs.ChainLaws.{Along, along_start, along_turn, along_stop, along_end}
 use Rattle.memory.specs.State.{State}
 use Rattle.memory.specs.declared.Tables.{Tables}
 use Rattle.memory.specs.Seen.{state}
-use Rattle.memory.specs.Fields.{first_out, early_start, early_finish, from_field, next_out}
+use Rattle.memory.specs.Fields.{early_start, early_finish, from_field, next_out}
 use Rattle.order.specs.Plan.{Plan, plan_in}
 use Rattle.order.specs.Ties as ties
 use Rattle.passes.specs.Plan.{own, tie, ties_out, recorded, begun}
@@ -88,15 +88,13 @@ module _ {plan : PlanSheet} {tables : Tables} (R : Ready plan tables) where
       let y : es ≡ d.es i = g ∙ sym (es_at p S i b) in
       record { start_is = h p ∙ (λ z. begun p (x z) (y z)); finish_is = m ∙ sym (ef_at p S i b) }
 
-  -- ---- the walk along the links out of i: link k is next, and `least` is the least so far
+  -- ---- the walk along the links out of i: ks are left, and `least` is the least so far
   module _ (i : ℕ) (slack : ℤ) where
-    abbrev pub Slack : ℤ → ℕ → Type 0
-    Slack least k = Cursor (slack_step p d i) Ok (S.link from_field) tables.kept i slack least k
+    abbrev pub Slack : ℤ → List ℕ → Type 0
+    Slack least ks = Along (slack_step p d i) Ok (S.link from_field) tables.kept i slack least ks
 
-    pub slack_start : (k : ℕ) → i < plan.sheet.contents.activities → k ≡ S.act first_out i → Slack slack k
-    slack_start k b e =
-        cursor_start (slack_step p d i) Ok (S.link from_field) tables.kept i slack
-        (rw e (R.standing.chains_out.heads i (omega (arith, activities_are plan.sheet.bytes.now plan.sheet.contents))))
+    pub slack_start : Slack slack (after (S.link from_field) tables.kept i 0)
+    slack_start = along_start (slack_step p d i) Ok (S.link from_field) tables.kept i slack
 
     pub slack_later : (k m : ℕ) → k < tables.kept → m ≡ S.link next_out k → k < m
     slack_later k m b e = omega (arith, (R.standing.chains_out.nexts k (omega arith) b).low)
@@ -104,21 +102,21 @@ module _ {plan : PlanSheet} {tables : Tables} (R : Ready plan tables) where
     all : gather (slack_step p d i) Ok (after (S.link from_field) tables.kept i 0) slack ≡ least_slack p d i (ties_out p i) slack
     all = ap (λ (ks : List ℕ). gather (slack_step p d i) Ok ks slack) (out_is p R.standing i)
 
-    module _ {least : ℤ} {k : ℕ} (C : Slack least k) where
-      pub slack_turn : k < tables.kept → (g : ℤ) → gap_of p d i k ≡ Ok g → (m : ℕ) → m ≡ S.link next_out k → Slack (min_z least g) m
-      slack_turn b g a m e =
-          cursor_turn (slack_step p d i) Ok (S.link from_field) tables.kept i slack C (min_z least g) b
-          (rw e (R.standing.chains_out.nexts k (omega arith) b))
-          (λ f. measured_at Err (gap_of p d i k) (λ z. f (min_z least z)) g a)
+    module _ {least : ℤ} where
+      pub slack_end : Slack least [] → Ok least ≡ least_slack p d i (ties_out p i) slack
+      slack_end W = along_end (slack_step p d i) Ok (S.link from_field) tables.kept i slack W ∙ all
 
-      pub slack_stop : k < tables.kept → (j : ClockError) → gap_of p d i k ≡ Err j → Err j ≡ least_slack p d i (ties_out p i) slack
-      slack_stop b j a =
-          cursor_stop (slack_step p d i) Ok (S.link from_field) tables.kept i slack C (Err j) b
-          (λ f. measured_refused Err (gap_of p d i k) (λ z. f (min_z least z)) j a)
-          ∙ all
+      module _ {k : ℕ} {ks : List ℕ} (W : Slack least (k ∷ ks)) where
+        pub slack_turn : (g : ℤ) → gap_of p d i k ≡ Ok g → Slack (min_z least g) ks
+        slack_turn g a =
+            along_turn (slack_step p d i) Ok (S.link from_field) tables.kept i slack W (min_z least g)
+            (λ f. measured_at Err (gap_of p d i k) (λ z. f (min_z least z)) g a)
 
-      pub slack_end : tables.kept ≤ k → Ok least ≡ least_slack p d i (ties_out p i) slack
-      slack_end b = cursor_end (slack_step p d i) Ok (S.link from_field) tables.kept i slack C b ∙ all
+        pub slack_stop : (j : ClockError) → gap_of p d i k ≡ Err j → Err j ≡ least_slack p d i (ties_out p i) slack
+        slack_stop j a =
+            along_stop (slack_step p d i) Ok (S.link from_field) tables.kept i slack W (Err j)
+            (λ f. measured_refused Err (gap_of p d i k) (λ z. f (min_z least z)) j a)
+            ∙ all
 
   -- ---- the ways of the slack of i, and of its free float
   module _ (i finish ef : ℕ) (w : ℕ → Bool) (o : w ≡ own p i) (h : ef ≡ d.ef i) where

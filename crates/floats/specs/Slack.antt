@@ -1,6 +1,6 @@
 -- Free float and the held late move in plain form: what each stage finds, before anything is stored.
 use Rattle.std.specs.Prelude.{◌≡◌, Bool, true, false, ◌&&◌, ◌||◌, List, ℕ, eqb, ℤ, Result, Ok, Err, Option}
-use Rattle.floats.specs.declared.Moved.{Moved}
+use Rattle.dates.specs.declared.Span.{Span}
 use Rattle.worktime.specs.declared.ClockError.{ClockError}
 use Rattle.number.specs.Sign.{min_z}
 use Rattle.worktime.specs.Walks.{advance, retreat, between}
@@ -39,15 +39,15 @@ start_moved w kind es ef left n =
     ]))
 
 -- the dates of a move
-abbrev pub moved_to : ℕ → ℕ → Result Moved ClockError
+abbrev pub moved_to : ℕ → ℕ → Result Span ClockError
 moved_to s f = Ok (record { start = s; finish = f })
 
-unfoldable pub dates_moved : (ℕ → Bool) → ActivityKind → ℕ → ℕ → ℕ → ℕ → Result Moved ClockError
+unfoldable pub dates_moved : (ℕ → Bool) → ActivityKind → ℕ → ℕ → ℕ → ℕ → Result Span ClockError
 dates_moved w kind es ef left n =
     via Err (start_moved w kind es ef left n) (λ s. via Err (finish_of w left s) (λ f. moved_to s f))
 
 -- what follows a held late move
-abbrev pub on_moved : {A : Type 0} → (ClockError → A) → Result Moved ClockError → (ℕ → ℕ → A) → A
+abbrev pub on_moved : {A : Type 0} → (ClockError → A) → Result Span ClockError → (ℕ → ℕ → A) → A
 on_moved refusal (Ok x) go = go x.start x.finish
 on_moved refusal (Err k) go = refusal k
 

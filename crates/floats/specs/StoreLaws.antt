@@ -1,6 +1,6 @@
 -- What is stored of an activity's free float and held late move, as the definition has it.
 use Rattle.std.specs.Prelude.{◌≡◌, refl, Bool, true, false, ◌&&◌, ℕ, ◌≤◌, ◌<◌, pos, Result, Ok, Err}
-use Rattle.floats.specs.declared.Moved.{Moved}
+use Rattle.dates.specs.declared.Span.{Span}
 use Rattle.floats.specs.Slack.{moved_to}
 use Rattle.worktime.specs.declared.ClockError.{ClockError}
 use Rattle.std.proofs.Common.{sym, ap, ◌∙◌, arith, lt-ltb, le-ltb}
@@ -121,14 +121,14 @@ module _ (p : Plan) (S : State) (i n : ℕ) where
         ap leaves (move_stored p S i l s f)
         ∙ sym
         (held_move_is p (early_in p S) i n (free_in p S)
-        ∙ ap (λ (m : Result Moved ClockError). on_moved refused m (λ s f. leaves (record { early = early p (early_in p S) i s f ((early_in p S).left i); free = put (free_in p S) i 0 })))
+        ∙ ap (λ (m : Result Span ClockError). on_moved refused m (λ s f. leaves (record { early = early p (early_in p S) i s f ((early_in p S).left i); free = put (free_in p S) i 0 })))
         (sym by_dates ∙ e))
 
     pub held_refused : (j : ClockError) → dates_moved w kind es ef left n ≡ Err j → refused j ≡ held_move p (early_in p S) i n (free_in p S)
     held_refused j e =
         sym
         (held_move_is p (early_in p S) i n (free_in p S)
-        ∙ ap (λ (m : Result Moved ClockError). on_moved refused m (λ s f. leaves (record { early = early p (early_in p S) i s f ((early_in p S).left i); free = put (free_in p S) i 0 })))
+        ∙ ap (λ (m : Result Span ClockError). on_moved refused m (λ s f. leaves (record { early = early p (early_in p S) i s f ((early_in p S).left i); free = put (free_in p S) i 0 })))
         (sym by_dates ∙ e))
 
 -- ---- the ways of an activity's free float

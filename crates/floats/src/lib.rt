@@ -2,39 +2,31 @@
 #![tactic(auto)]
 
 ghost use Rattle.std.specs.Prelude.{◌≡◌, ◌&&◌, reverse, ℕ, ◌^◌, ◌<◌, ltb, Ok};
-ghost use Rattle.number.specs.Bit.{bit};
 ghost use Rattle.clock.specs.On.{worked_by};
 ghost use Rattle.memory.specs.Seen.{state, SameSlice};
-ghost use Rattle.memory.specs.Fields.{is_summary, late_finish, early_start, early_finish};
+ghost use Rattle.memory.specs.Fields.{late_finish, early_start, early_finish};
 ghost use Rattle.topology.specs.Frame.{Frame};
 ghost use Rattle.order.specs.Plan.{Plan, plan_in};
-ghost use Rattle.order.specs.Ids.{summary};
 ghost use Rattle.order.specs.Ties.{calendar_of};
 ghost use Rattle.order.specs.Checks.{order};
-ghost use Rattle.passes.specs.Plan.{tie, ties_out, recorded};
+ghost use Rattle.passes.specs.Plan.{tie, ties_out};
 ghost use Rattle.passes.specs.Dates.{Early, Freed, through};
 ghost use Rattle.passes.specs.Floats.{is_late, target_of, free_by, holds_late, held_move, freed, free_float};
-ghost use Rattle.calendars.specs.Calendars.{InPlan, Own};
+ghost use Rattle.calendars.specs.Calendars.{InPlan};
 ghost use Rattle.dates.specs.Columns.{early_in, late_in, free_in, ended};
-ghost use Rattle.dates.specs.Standing.{actual_in, Ready, Recorded};
+ghost use Rattle.dates.specs.InHand.{InHand};
+ghost use Rattle.dates.specs.Standing.{Standing, Ready, Recorded, Lent};
 ghost use Rattle.floats.specs.PassLaws.{turn_kept};
 ghost use Rattle.floats.specs.Slack.{freed_in, marked_late, start_moved, dates_moved, stored, gap_by, least_slack, slack_of, From, free_of};
 
 use calendar::Calendar;
 use calendars::PlanSheet;
+use dates::Span;
 use dates::step::Step;
 use memory::Tables;
-use placing::Actual;
+use placing::{Actual, Work};
 use project::{Activity, Constraint, RelationshipType};
-use sheet::Sheet;
 use worktime::ClockError;
-
-// Where a held late move puts an activity: its new start and finish.
-#[derive(Clone, Copy)]
-struct Moved {
-    start: u64,
-    finish: u64,
-}
 
 // Whether a constraint is the mark "as late as possible".
 fn is_late(constraint: Option<Constraint>) -> bool
@@ -66,98 +58,75 @@ fn free_by(actual: Actual, slack: i64, total: i64) -> u64
 }
 
 // The held activity's new start: moved by its float on its OWN calendar, or back by its work from its finish moved so.
-fn held_start(
-    activity: Activity,
-    calendar: &Calendar,
-    es: u64,
-    ef: u64,
-    left: u64,
-    free: u64,
-) -> Result<u64, ClockError>
-    ensures { result ≡ start_moved (worked_by calendar.now) activity.kind es ef left free }
+fn held_start(work: &Work, early: Span, free: u64) -> Result<u64, ClockError>
+    ensures { result ≡ start_moved (worked_by work.now.calendar) work.now.activity.kind early.start early.finish work.now.left free }
 {
-    let t = clock::advance(calendar, es, free)?;
-    let moved = placing::place_start(activity, calendar, t)?;
-    if left == 0 {
+    let t = clock::advance(&work.calendar, early.start, free)?;
+    let moved = work.place_start(t)?;
+    if work.left == 0 {
         return Ok(moved);
     }
-    let f = clock::advance(calendar, ef, free)?;
-    clock::retreat(calendar, f, left)
+    let f = clock::advance(&work.calendar, early.finish, free)?;
+    clock::retreat(&work.calendar, f, work.left)
 }
 
 // The held late move: the new start, and the new finish counted from it on the held activity's OWN calendar.
-fn held_move(
-    activity: Activity,
-    calendar: &Calendar,
-    es: u64,
-    ef: u64,
-    left: u64,
-    free: u64,
-) -> Result<Moved, ClockError>
-    ensures { result ≡ dates_moved (worked_by calendar.now) activity.kind es ef left free }
+fn held_move(work: &Work, early: Span, free: u64) -> Result<Span, ClockError>
+    ensures { result ≡ dates_moved (worked_by work.now.calendar) work.now.activity.kind early.start early.finish work.now.left free }
 {
-    let s = held_start(activity, calendar, es, ef, left, free)?;
-    let f = placing::finish_of(activity, calendar, left, s)?;
-    Ok(Moved {
+    let s = held_start(work, early, free)?;
+    let f = work.finish_of(s)?;
+    Ok(Span {
         start: s,
         finish: f,
     })
 }
 
 // The field with the end of a link's successor that the link leads to.
+// `late::links::target` picks from two times that were walked to: here the one field is read, where a pick of both dates would read a field more at each link.
 fn target_field(kind: RelationshipType) -> usize
     ensures { ((p : Plan) → result ≡ target_of p kind early_start early_finish) × (result < 64) }
 {
-    match kind {
-        RelationshipType::FinishToStart | RelationshipType::StartToStart => {
-            memory::fields::EARLY_START
-        }
-        RelationshipType::FinishToFinish | RelationshipType::StartToFinish => {
-            memory::fields::EARLY_FINISH
-        }
+    if dates::leads_to_finish(kind) {
+        return memory::fields::EARLY_FINISH;
     }
+    memory::fields::EARLY_START
 }
 
-// The minutes that the predecessor's OWN calendar works from the bound of the kept link in row `k` to where its successor is now.
+// The minutes that the predecessor's OWN calendar works from the bound of the kept link in row `k`, which counts from a date of `from`, to where its successor is now.
 fn gap_at(
     plan: &PlanSheet,
     tables: &Tables,
     k: usize,
-    start: u64,
-    finish: u64,
+    from: Span,
     calendar: &Calendar,
 ) -> Result<i64, ClockError>
     requires { Ready plan.now tables.now × (k < tables.now.kept) }
-    ensures { result ≡ gap_by (plan_in plan.now.sheet) (worked_by calendar.now) (tie (plan_in plan.now.sheet) k) start finish ((early_in (plan_in plan.now.sheet) (state tables.now)).es (tie (plan_in plan.now.sheet) k).to) ((early_in (plan_in plan.now.sheet) (state tables.now)).ef (tie (plan_in plan.now.sheet) k).to) }
+    ensures { result ≡ gap_by (plan_in plan.now.sheet) (worked_by calendar.now) (tie (plan_in plan.now.sheet) k) from.start from.finish ((early_in (plan_in plan.now.sheet) (state tables.now)).es (tie (plan_in plan.now.sheet) k).to) ((early_in (plan_in plan.now.sheet) (state tables.now)).ef (tie (plan_in plan.now.sheet) k).to) }
 {
     let tie = dates::tie_at(tables, k);
-    let b = bounds::forward_bound(plan, tie, start, finish)?;
-    let kind = tie.kind;
-    let field = target_field(kind);
-    let target = tables.act(tie.to, field);
+    let b = bounds::forward_bound(plan, tie, from)?;
+    let target = tables.act(tie.to, target_field(tie.kind));
     clock::between(calendar, b, target)
 }
 
 // The least of `slack` and of what stands before each successor of activity `i`.
+// `InPlan` stands here and at its callers: it relates the calendar to the plan and to the place `i`, which a type of the calendar would have to hold too.
 fn least_slack(
     plan: &PlanSheet,
     tables: &Tables,
     i: usize,
-    start: u64,
-    finish: u64,
+    from: Span,
     calendar: &Calendar,
     slack: i64,
 ) -> Result<i64, ClockError>
-    requires { Ready plan.now tables.now × (i < plan.now.sheet.contents.activities) × InPlan plan.now.sheet (calendar_of (plan_in plan.now.sheet) i) calendar.now × From (plan_in plan.now.sheet) (early_in (plan_in plan.now.sheet) (state tables.now)) i start finish }
+    requires { Ready plan.now tables.now × (i < plan.now.sheet.contents.activities) × InPlan plan.now.sheet (calendar_of (plan_in plan.now.sheet) i) calendar.now × From (plan_in plan.now.sheet) (early_in (plan_in plan.now.sheet) (state tables.now)) i from.start from.finish }
     ensures { result ≡ least_slack (plan_in plan.now.sheet) (early_in (plan_in plan.now.sheet) (state tables.now)) i (ties_out (plan_in plan.now.sheet) i) slack }
 {
     let mut least = slack;
-    let mut k = tables.act(i, memory::fields::FIRST_OUT) as usize;
-    // A `while`: the next link is read from the memory, so no range has the links.
-    while k < tables.kept {
-        let gap = gap_at(plan, tables, k, start, finish, calendar)?;
+    for k in tables.links_out(i) {
+        let gap = gap_at(plan, tables, k, from, calendar)?;
         least = number::sign::min(least, gap);
-        k = tables.link(k, memory::fields::NEXT_OUT) as usize;
     }
     Ok(least)
 }
@@ -170,7 +139,7 @@ fn slack_of(
     i: usize,
     calendar: &Calendar,
 ) -> Result<i64, ClockError>
-    requires { Ready plan.now tables.now × Recorded (plan_in plan.now.sheet) (state tables.now) × (i < plan.now.sheet.contents.activities) × InPlan plan.now.sheet (calendar_of (plan_in plan.now.sheet) i) calendar.now }
+    requires { Lent plan.now tables.now × (i < plan.now.sheet.contents.activities) × InPlan plan.now.sheet (calendar_of (plan_in plan.now.sheet) i) calendar.now }
     ensures { result ≡ slack_of (plan_in plan.now.sheet) (early_in (plan_in plan.now.sheet) (state tables.now)) finish i }
 {
     let recorded = dates::recorded_at(tables, i);
@@ -178,7 +147,8 @@ fn slack_of(
     let start = dates::begun_at(recorded, es);
     let ef = tables.act(i, memory::fields::EARLY_FINISH);
     let slack = clock::between(calendar, ef, finish)?;
-    least_slack(plan, tables, i, start, ef, calendar, slack)
+    let from = Span { start, finish: ef };
+    least_slack(plan, tables, i, from, calendar, slack)
 }
 
 // The free float of activity `i`, in minutes of its OWN calendar.
@@ -189,7 +159,7 @@ fn free_of(
     i: usize,
     calendar: &Calendar,
 ) -> Result<u64, ClockError>
-    requires { Ready plan.now tables.now × Recorded (plan_in plan.now.sheet) (state tables.now) × (i < plan.now.sheet.contents.activities) × InPlan plan.now.sheet (calendar_of (plan_in plan.now.sheet) i) calendar.now }
+    requires { Lent plan.now tables.now × (i < plan.now.sheet.contents.activities) × InPlan plan.now.sheet (calendar_of (plan_in plan.now.sheet) i) calendar.now }
     ensures { (result ≡ free_of (plan_in plan.now.sheet) (early_in (plan_in plan.now.sheet) (state tables.now)) finish ((state tables.now).act late_finish i) i) × ((m : ℕ) → result ≡ Ok m → m < 2 ^ 63) }
 {
     let slack = slack_of(plan, tables, finish, i, calendar)?;
@@ -201,9 +171,9 @@ fn free_of(
 }
 
 // Whether activity `i` is moved by its free float: it is held late, and there is some.
-fn is_moved(sheet: &Sheet, tables: &Tables, i: usize, activity: Activity, free: u64) -> bool
-    requires { (tables.now.activities ≡ sheet.now.contents.activities) × (i < sheet.now.contents.activities) × (activity ≡ (plan_in sheet.now).activity i) × ((state tables.now).act is_summary i ≡ bit (summary (plan_in sheet.now) i)) × (Ok (actual_in (state tables.now) i) ≡ recorded (plan_in sheet.now) i) }
-    ensures { result ≡ (holds_late (plan_in sheet.now) (early_in (plan_in sheet.now) (state tables.now)) i && ltb 0 free) }
+fn is_moved(tables: &Tables, i: usize, activity: &Activity, free: u64) -> bool
+    requires { i < tables.now.activities }
+    ensures { (p : Plan) → p.activities ≡ tables.now.activities → Standing p tables.now.kept (state tables.now) → Recorded p (state tables.now) → activity.now ≡ p.activity i → result ≡ (holds_late p (early_in p (state tables.now)) i && ltb 0 free) }
 {
     if free == 0 {
         return false;
@@ -212,55 +182,38 @@ fn is_moved(sheet: &Sheet, tables: &Tables, i: usize, activity: Activity, free: 
         return false;
     }
     let recorded = dates::recorded_at(tables, i);
-    let first = activity.constraint;
-    let second = activity.secondary_constraint;
-    is_marked_late(recorded, first, second)
+    is_marked_late(recorded, activity.constraint, activity.secondary_constraint)
 }
 
 // Stores the dates of a held late move, whose free float is used up.
-fn store_move(tables: &mut Tables, i: usize, start: u64, finish: u64)
-    requires { (i < tables.old.activities) × (start < 2 ^ 63) × (finish < 2 ^ 63) }
-    ensures { (state tables.new ≡ stored (state tables.old) i start finish) × SameSlice tables.old tables.new }
+fn store_move(tables: &mut Tables, i: usize, moved: Span)
+    requires { (i < tables.old.activities) × (moved.start < 2 ^ 63) × (moved.finish < 2 ^ 63) }
+    ensures { (state tables.new ≡ stored (state tables.old) i moved.start moved.finish) × SameSlice tables.old tables.new }
 {
-    tables.put_act(i, memory::fields::EARLY_START, start);
-    tables.put_act(i, memory::fields::EARLY_FINISH, finish);
+    tables.put_act(i, memory::fields::EARLY_START, moved.start);
+    tables.put_act(i, memory::fields::EARLY_FINISH, moved.finish);
     tables.put_act(i, memory::fields::FREE_FLOAT, 0);
 }
 
 // Moves activity `i`, which is held late, by its free float; its predecessors see the new dates.
-fn hold_late(
-    sheet: &Sheet,
-    tables: &mut Tables,
-    i: usize,
-    activity: Activity,
-    calendar: &Calendar,
-    free: u64,
-) -> Result<(), ClockError>
-    requires { (tables.old.activities ≡ sheet.now.contents.activities) × (i < sheet.now.contents.activities) × Own sheet.now i activity calendar.now }
-    ensures { (ended (freed_in (plan_in sheet.now) (state tables.new)) result ≡ held_move (plan_in sheet.now) (early_in (plan_in sheet.now) (state tables.old)) i free (free_in (plan_in sheet.now) (state tables.old))) × Frame 12 16 0 0 (state tables.old) (state tables.new) × SameSlice tables.old tables.new }
+fn hold_late(tables: &mut Tables, i: usize, work: &Work, free: u64) -> Result<(), ClockError>
+    requires { i < tables.old.activities }
+    ensures { ((p : Plan) → p.activities ≡ tables.old.activities → InHand p (early_in p (state tables.old)) i work.now → ended (freed_in p (state tables.new)) result ≡ held_move p (early_in p (state tables.old)) i free (free_in p (state tables.old))) × Frame 12 16 0 0 (state tables.old) (state tables.new) × SameSlice tables.old tables.new }
 {
-    let es = tables.act(i, memory::fields::EARLY_START);
-    let ef = tables.act(i, memory::fields::EARLY_FINISH);
-    let left = tables.act(i, memory::fields::WORK_LEFT);
-    let moved = held_move(activity, calendar, es, ef, left, free)?;
-    store_move(tables, i, moved.start, moved.finish);
+    let start = tables.act(i, memory::fields::EARLY_START);
+    let finish = tables.act(i, memory::fields::EARLY_FINISH);
+    let moved = held_move(work, Span { start, finish }, free)?;
+    store_move(tables, i, moved);
     Ok(())
 }
 
 // Moves activity `i` by its free float where it is held late, or else stores it.
-fn use_float(
-    sheet: &Sheet,
-    tables: &mut Tables,
-    i: usize,
-    activity: Activity,
-    calendar: &Calendar,
-    free: u64,
-) -> Result<(), ClockError>
-    requires { (tables.old.activities ≡ sheet.now.contents.activities) × (i < sheet.now.contents.activities) × Own sheet.now i activity calendar.now × ((state tables.old).act is_summary i ≡ bit (summary (plan_in sheet.now) i)) × (Ok (actual_in (state tables.old) i) ≡ recorded (plan_in sheet.now) i) × (free < 2 ^ 63) }
-    ensures { (ended (freed_in (plan_in sheet.now) (state tables.new)) result ≡ freed (plan_in sheet.now) (early_in (plan_in sheet.now) (state tables.old)) i free (free_in (plan_in sheet.now) (state tables.old))) × Frame 12 16 0 0 (state tables.old) (state tables.new) × SameSlice tables.old tables.new }
+fn use_float(tables: &mut Tables, i: usize, work: &Work, free: u64) -> Result<(), ClockError>
+    requires { (i < tables.old.activities) × (free < 2 ^ 63) }
+    ensures { ((p : Plan) → p.activities ≡ tables.old.activities → Standing p tables.old.kept (state tables.old) → Recorded p (state tables.old) → InHand p (early_in p (state tables.old)) i work.now → ended (freed_in p (state tables.new)) result ≡ freed p (early_in p (state tables.old)) i free (free_in p (state tables.old))) × Frame 12 16 0 0 (state tables.old) (state tables.new) × SameSlice tables.old tables.new }
 {
-    if is_moved(sheet, tables, i, activity, free) {
-        return hold_late(sheet, tables, i, activity, calendar, free);
+    if is_moved(tables, i, &work.activity, free) {
+        return hold_late(tables, i, work, free);
     }
     tables.put_act(i, memory::fields::FREE_FLOAT, free);
     Ok(())
@@ -288,17 +241,15 @@ impl Step for FreeFloats {
     ghost turn_kept = { λ s p S T F. turn_kept F p s.finish };
 
     fn take(&self, plan: &PlanSheet, tables: &mut Tables, i: usize) -> Result<(), ClockError> {
-        let activity = dates::activity_of(&plan.sheet, i);
-        let k = activity.calendar as usize;
-        let calendar = plan.calendar(k);
-        let free = free_of(plan, tables, self.finish, i, &calendar)?;
-        use_float(&plan.sheet, tables, i, activity, &calendar, free)
+        let work = dates::work_of(plan, tables, i);
+        let free = free_of(plan, tables, self.finish, i, &work.calendar)?;
+        use_float(tables, i, &work, free)
     }
 }
 
 // The free floats and held late moves; `finish` is the greatest early finish before them.
 pub fn free_pass(plan: &PlanSheet, tables: &mut Tables, finish: u64) -> Result<(), ClockError>
-    requires { Ready plan.now tables.old × Recorded (plan_in plan.now.sheet) (state tables.old) }
+    requires { Lent plan.now tables.old }
     ensures { ((e : ℕ) → ended (freed_in (plan_in plan.now.sheet) (state tables.new)) result ≡ through (free_float (plan_in plan.now.sheet) finish (late_in (plan_in plan.now.sheet) (state tables.old) e)) (reverse (order (plan_in plan.now.sheet))) (record { early = early_in (plan_in plan.now.sheet) (state tables.old); free = λ i. 0 })) × Frame 12 16 0 0 (state tables.old) (state tables.new) × SameSlice tables.old tables.new }
 {
     tables.fill_act(memory::fields::FREE_FLOAT, 0);

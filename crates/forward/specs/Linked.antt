@@ -1,7 +1,7 @@
 -- The parts of the forward pass of one activity: its links, then its placing; and what is stored of it.
 use Rattle.std.specs.Prelude.{◌≡◌, ℕ, Result, Ok, Err}
 use Rattle.worktime.specs.declared.ClockError.{ClockError}
-use Rattle.early.specs.declared.Placement.{Placement}
+use Rattle.early.specs.declared.values.Placement.{Placement}
 use Rattle.placing.specs.declared.Actual.{Actual}
 use Rattle.placing.specs.Placing.{via}
 use Rattle.memory.specs.State.{State, put_act}
@@ -22,5 +22,5 @@ stored S i s f m = put_act (put_act (put_act S early_start i s) early_finish i f
 
 -- from S to T and with the answer r: what was found is stored, or nothing is
 pub record Settled (i : ℕ) (x : Result Placement ClockError) (S T : State) (r : Result Unit ClockError) : Type 0 where
-  pub placed : (s f m : ℕ) → x ≡ Ok (record { start = s; finish = f; left = m }) → (T ≡ stored S i s f m) × (r ≡ Ok tt)
+  pub placed : (y : Placement) → x ≡ Ok y → (T ≡ stored S i y.start y.finish y.left) × (r ≡ Ok tt)
   pub not_placed : (k : ClockError) → x ≡ Err k → (T ≡ S) × (r ≡ Err k)

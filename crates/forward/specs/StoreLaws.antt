@@ -3,7 +3,7 @@ use Rattle.std.specs.Prelude.{◌≡◌, refl, List, ℕ, ◌<◌, pos, Result, 
 use Rattle.worktime.specs.declared.ClockError.{ClockError}
 use Rattle.std.proofs.Math.Path.{sym, ap}
 use Rattle.std.proofs.Common.{◌∙◌, arith}
-use Rattle.early.specs.declared.Placement.{Placement}
+use Rattle.early.specs.declared.values.Placement.{Placement}
 use Rattle.placing.specs.declared.Actual.{Actual}
 use Rattle.placing.specs.declared.Actual.TheVariants.{Unstarted, Begun, Completed}
 use Rattle.memory.specs.State.{State, put_act, fill_act}
@@ -47,29 +47,33 @@ frame_stored S i s f m =
 pub settled_ended : (p : Plan) (i : ℕ) (x : Result Placement ClockError) (S T : State) (r : Result Unit ClockError) → i < p.activities → Settled i x S T r
     → ended (early_in p T) r ≡ placed_as p (early_in p S) i x
 settled_ended p i (Ok x) S T r l W =
-    let h = W.placed x.start x.finish x.left refl in
+    let h = W.placed x refl in
     ap (λ (y : Result Unit ClockError). ended (early_in p T) y) h.1 ∙ ap (λ (U : State). leaves (early_in p U)) h.0 ∙ ap leaves (early_stored p S i x.start x.finish x.left l)
 settled_ended p i (Err k) S T r l W = ap (λ (y : Result Unit ClockError). ended (early_in p T) y) (W.not_placed k refl).1
 
 pub settled_frame : (i : ℕ) (x : Result Placement ClockError) (S T : State) (r : Result Unit ClockError) → Settled i x S T r → Frame 12 15 0 0 S T
-settled_frame i (Ok x) S T r W = rw (W.placed x.start x.finish x.left refl).0 (frame_stored S i x.start x.finish x.left)
+settled_frame i (Ok x) S T r W = rw (W.placed x refl).0 (frame_stored S i x.start x.finish x.left)
 settled_frame i (Err k) S T r W =
     rw (W.not_placed k refl).0 (record { acts = λ f n. refl; links = λ f n. refl; acts_z = λ f n. refl; links_z = λ f n. refl })
 
-pub settled_at : (i : ℕ) (S T : State) (s f m : ℕ) (x : Result Placement ClockError) → x ≡ Ok (record { start = s; finish = f; left = m }) → T ≡ stored S i s f m → Settled i x S T (Ok tt)
-settled_at i S T s f m x e h = record {
-  placed = λ s' f' m' g.
-      let q : ◌≡◌ {A = Placement} (record { start = s; finish = f; left = m }) (record { start = s'; finish = f'; left = m' }) = cc in
-      let a : s ≡ s' = ap (λ (y : Placement). y.start) q in
-      let b : f ≡ f' = ap (λ (y : Placement). y.finish) q in
-      let c : m ≡ m' = ap (λ (y : Placement). y.left) q in
-      (h ∙ (λ z. stored S i (a z) (b z) (c z)), refl);
+ok_same : {y y' : Placement} → ◌≡◌ {A = Result Placement ClockError} (Ok y) (Ok y') → y ≡ y'
+ok_same {y} e = ap (λ (x : Result Placement ClockError). of y x) e
+  where
+    of : Placement → Result Placement ClockError → Placement
+    of z (Ok x) = x
+    of z (Err k) = z
+
+pub settled_at : (i : ℕ) (S T : State) (y : Placement) (x : Result Placement ClockError) → x ≡ Ok y → T ≡ stored S i y.start y.finish y.left → Settled i x S T (Ok tt)
+settled_at i S T y x e h = record {
+  placed = λ y' g.
+      let q : y ≡ y' = ok_same (sym e ∙ g) in
+      (h ∙ ap (λ (v : Placement). stored S i v.start v.finish v.left) q, refl);
   not_placed = λ k g. let z : ◌≡◌ {A = ℕ} 0 1 = cc in absurd (omega arith);
 }
 
 pub settled_refused : (i : ℕ) (S : State) (k : ClockError) (x : Result Placement ClockError) → x ≡ Err k → Settled i x S S (Err k)
 settled_refused i S k x e = record {
-  placed = λ s f m g. let z : ◌≡◌ {A = ℕ} 0 1 = cc in absurd (omega arith);
+  placed = λ y g. let z : ◌≡◌ {A = ℕ} 0 1 = cc in absurd (omega arith);
   not_placed = λ j g. let q : k ≡ j = cc in (refl, ap Err q);
 }
 

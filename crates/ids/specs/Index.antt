@@ -15,6 +15,7 @@ module _ (p : Plan) where
   PlaceFor S = Vacant p.activities S.act
 
   -- the memory has the index of the first n activities, and no two of them have one id
+  -- a clause, and no type's field: it relates the tables to the plan and to a number that grows as they are written
   pub record Indexed (S : State) (n : ℕ) : Type 0 where
     pub trees : InTrees S n
     pub fresh : (m : ℕ) → m < n → known p m (id_of p m) ≡ false

@@ -1,4 +1,4 @@
--- What the calls of this crate are lent: a sheet that was read and tables of its plan's sizes. It stays a clause: it relates the tables, which are written, to the sheet.
+-- What the calls of this crate are lent: a sheet that was read and tables of its plan's sizes. It stays a clause: it relates the tables, which most stages write, to the sheet; for the functions that only read them a struct of both would be made at each call.
 use Rattle.std.specs.Prelude.{◌≡◌, ℕ}
 use Rattle.memory.specs.State.{State}
 use Rattle.memory.specs.declared.Tables.{Tables}

@@ -22,8 +22,6 @@ use memory::Tables;
 use order::PlanError;
 use sheet::Sheet;
 
-pub mod activity_fields;
-
 // Why rows 11 and 12 refuse: the id of a milestone that is a parent, or the first activity of a loop of parents and its steps.
 #[derive(Clone, Copy, Debug, PartialEq, Eq)]
 pub enum SummaryError {
@@ -55,11 +53,12 @@ fn seek(sheet: &Sheet, tables: &Tables, n: usize, id: u64) -> Result<usize, Vaca
     }
     let mut j = first - 1;
     let mut rest = id / a as u64;
-    // The next one stands in the memory, so no range or slice has them.
+    // No iterator: the way down ends with the place at which it stood, which an iterator does not give.
     loop {
-        if activity_fields::id_of(sheet, j) == id {
+        if sheet.activity(j).id() == id {
             return Ok(j);
         }
+        // `LOW_CHILD` is field 0 and `HIGH_CHILD` field 1: the bit is the field.
         let side = rest as usize % 2;
         let k = tables.act(j, side) as usize;
         if k == 0 {
@@ -86,18 +85,19 @@ fn judge_activity(sheet: &Sheet, tables: &Tables, i: usize) -> Result<Vacancy, P
     requires { Lent sheet.now tables.now × (i < sheet.now.contents.activities) × Indexed (plan_in sheet.now) (state tables.now) i }
     ensures { Answered result (judge_activity (plan_in sheet.now) i) × IfOk result (λ v. PlaceFor (plan_in sheet.now) (state tables.now) i (id_of (plan_in sheet.now) i) v.parent v.side) }
 {
-    let id = activity_fields::id_of(sheet, i);
+    let activity = sheet.activity(i);
+    let id = activity.id();
     let Err(vacancy) = seek(sheet, tables, i, id) else {
         return Err(PlanError::SameId(id));
     };
-    let minutes = activity_fields::minutes_of(sheet, i);
+    let minutes = activity.minutes();
     if minutes < 0 {
         return Err(PlanError::NegativeMinutes(id));
     }
     if minutes > 48_000_000 {
         return Err(PlanError::TooLong);
     }
-    if activity_fields::calendar_of(sheet, i) >= sheet.contents.calendars as u64 {
+    if activity.calendar() >= sheet.contents.calendars as u64 {
         return Err(PlanError::UnknownCalendar(id));
     }
     Ok(vacancy)
@@ -134,13 +134,13 @@ fn parent_one(sheet: &Sheet, tables: &mut Tables, i: usize) -> Result<(), PlanEr
     ensures { Answered result (judge_parent (plan_in sheet.now) i) × ParentedBy (plan_in sheet.now) (i + 1) (state tables.old) (state tables.new) result × SameSlice tables.old tables.new }
 {
     let a = sheet.contents.activities;
-    let id = activity_fields::parent_of(sheet, i);
+    let id = sheet.activity(i).parent();
     if id == 0 {
         tables.put_act(i, memory::fields::PARENT, 0);
         return Ok(());
     }
     let Some(j) = find(sheet, tables, a, id) else {
-        return Err(PlanError::UnknownParent(activity_fields::id_of(sheet, i)));
+        return Err(PlanError::UnknownParent(sheet.activity(i).id()));
     };
     tables.put_act(i, memory::fields::PARENT, j as u64 + 1);
     tables.put_act(j, memory::fields::IS_SUMMARY, 1);
@@ -164,6 +164,7 @@ pub fn parent_loop_steps(tables: &Tables, i: usize) -> Option<usize>
     requires { (i < tables.now.activities) × ((j : ℕ) → j < tables.now.activities → (state tables.now).act parent j ≤ tables.now.activities) }
     ensures { (unwrap_or result 0 ≡ loop_steps ((state tables.now).act parent) tables.now.activities i) × IfSome result (λ k. (0 < k) × (k ≤ tables.now.activities)) }
 {
+    // No iterator over the activities above: they may lead around without end, and an iterator is seen as a list, which ends.
     let mut up = tables.act(i, memory::fields::PARENT) as usize;
     for k in 1..tables.activities + 1 {
         if up == 0 {
@@ -185,7 +186,7 @@ fn is_milestone_parent(sheet: &Sheet, tables: &Tables, i: usize) -> bool
     if tables.act(i, memory::fields::IS_SUMMARY) == 0 {
         return false;
     }
-    project::is_milestone(activity_fields::kind_of(sheet, i))
+    project::is_milestone(sheet.activity(i).kind())
 }
 
 // Rows 11 and 12 for activity `i`.
@@ -194,7 +195,7 @@ fn summary_one(sheet: &Sheet, tables: &Tables, i: usize) -> Result<(), SummaryEr
     ensures { SummaryAnswered (plan_in sheet.now) result (judge_summary (plan_in sheet.now) i) }
 {
     if is_milestone_parent(sheet, tables, i) {
-        return Err(SummaryError::Milestone(activity_fields::id_of(sheet, i)));
+        return Err(SummaryError::Milestone(sheet.activity(i).id()));
     }
     match parent_loop_steps(tables, i) {
         Some(steps) => Err(SummaryError::Loop { first: i, steps }),

@@ -7,6 +7,7 @@ ghost use Rattle.project.specs.Fields.{calendar_size};
 ghost use Rattle.judges.specs.Judging.{sheet_number, judged, judge_calendar, period_ok, week_after, judge_week, no_work, exception_after, judge_exception, judge_activity, judge_link};
 
 use calendar::Period;
+use project::{ActivityRecord, LinkRecord};
 
 // Why a sheet is refused.
 #[derive(Clone, Copy, Debug, PartialEq, Eq)]
@@ -105,6 +106,7 @@ pub fn judge_week(sheet: &[u8], at: usize, i: usize) -> Result<(), SheetError>
 }
 
 // Whether E record `i` comes after the one before it.
+// It mirrors `week_after`: where the day and the periods stand differs, and an E record may give its day no work, so one function would take all of that and be no plainer.
 #[tactic(auto, using(crate::specs::StepLaws::exception_first, crate::specs::StepLaws::exception_next))]
 fn exception_after(sheet: &[u8], at: usize, i: usize) -> bool
     requires { at + 9 * i + 9 ≤ length sheet.now }
@@ -137,12 +139,14 @@ pub fn judge_activity(sheet: &[u8], at: usize, i: usize) -> Result<(), SheetErro
     requires { at + 45 * i + 45 ≤ length sheet.now }
     ensures { result ≡ judge_activity sheet.now at i }
 {
-    verdict(4096 <= i, fields::activity_ok(sheet, at + 45 * i))
+    let activity = ActivityRecord::new(sheet, at + 45 * i);
+    verdict(4096 <= i, fields::activity_ok(&activity))
 }
 
 pub fn judge_link(sheet: &[u8], at: usize, i: usize) -> Result<(), SheetError>
     requires { at + 16 * i + 16 ≤ length sheet.now }
     ensures { result ≡ judge_link sheet.now at i }
 {
-    verdict(16384 <= i, fields::link_ok(sheet, at + 16 * i))
+    let link = LinkRecord::new(sheet, at + 16 * i);
+    verdict(16384 <= i, fields::link_ok(&link))
 }

@@ -1,6 +1,6 @@
 -- One law for each way to the finish that a link leaves; and the links out of an activity as a walk along its chain.
 use Rattle.std.specs.Prelude.{◌≡◌, Bool, ℕ, ◌+◌, ◌^◌, ◌<◌, min, eqb, ℤ, pos, negsuc, neg_ℤ, Result, Ok, Err}
-use Rattle.late.specs.declared.LateDates.{LateDates}
+use Rattle.dates.specs.declared.Span.{Span}
 use Rattle.late.specs.Times.{dates_of}
 use Rattle.worktime.specs.declared.ClockError.{ClockError}
 use Rattle.std.proofs.Math.Path.{refl, ap}
@@ -34,9 +34,9 @@ both_refused (Err j) y go k e = let z : j ≡ k = cc in ap Err z
 both_at : (x y : Result ℕ ClockError) (go : ℕ → ℕ → Result ℕ ClockError) (a b : ℕ) → via Err x (λ s. via Err y (λ f. dates_of s f)) ≡ dates_of a b
     → via Err x (λ s. via Err y (go s)) ≡ go a b
 both_at (Ok s) (Ok f) go a b e =
-    let r : ◌≡◌ {A = LateDates} (record { start = s; finish = f }) (record { start = a; finish = b }) = cc in
-    let p : s ≡ a = ap (λ (z : LateDates). z.start) r in
-    let q : f ≡ b = ap (λ (z : LateDates). z.finish) r in
+    let r : ◌≡◌ {A = Span} (record { start = s; finish = f }) (record { start = a; finish = b }) = cc in
+    let p : s ≡ a = ap (λ (z : Span). z.start) r in
+    let q : f ≡ b = ap (λ (z : Span). z.finish) r in
     λ z. go (p z) (q z)
 both_at (Ok s) (Err j) go a b e = let z : ◌≡◌ {A = ℕ} 0 1 = cc in absurd (omega arith)
 both_at (Err j) y go a b e = let z : ◌≡◌ {A = ℕ} 0 1 = cc in absurd (omega arith)
@@ -94,7 +94,7 @@ module _ (p : Plan) (d : Early) (l : Late) where
     finish_for_is t StartToFinish ls lf = refl
 
     module _ (k : ℕ) where
-      abbrev times : Result LateDates ClockError
+      abbrev times : Result Span ClockError
       times = times_of (own p (tie p k).to) (l.ls (tie p k).to) (l.lf (tie p k).to)
 
       pub link_times_refused : (r : ClockError) → times ≡ Err r → link_finish p d l i k ≡ Err r

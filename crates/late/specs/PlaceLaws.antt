@@ -1,7 +1,7 @@
 -- One law for each way to an activity's late dates.
 use Rattle.std.specs.Prelude.{◌≡◌, refl, Bool, true, false, ◌&&◌, ℕ, ◌^◌, ◌≤◌, ◌<◌, ltb, leb, Result, Ok, Err}
 use Rattle.late.specs.Times.{dates_of}
-use Rattle.late.specs.declared.LateDates.{LateDates}
+use Rattle.dates.specs.declared.Span.{Span}
 use Rattle.worktime.specs.declared.ClockError.{ClockError}
 use Rattle.std.proofs.Common.{◌∙◌, ap, arith}
 use borrow.Author.Tests.{lt-ltb, le-ltb, le-leb, lt-leb}
@@ -25,9 +25,9 @@ fitting_refused k s f e = let z : ◌≡◌ {A = ℕ} 0 1 = cc in absurd (omega 
 
 pub fitting_dates : (s f : ℕ) → s < 2 ^ 63 → f < 2 ^ 63 → Fitting (dates_of s f)
 fitting_dates s f a b t g e =
-    let q : ◌≡◌ {A = LateDates} (record { start = s; finish = f }) (record { start = t; finish = g }) = cc in
-    let x : s ≡ t = ap (λ (z : LateDates). z.start) q in
-    let y : f ≡ g = ap (λ (z : LateDates). z.finish) q in
+    let q : ◌≡◌ {A = Span} (record { start = s; finish = f }) (record { start = t; finish = g }) = cc in
+    let x : s ≡ t = ap (λ (z : Span). z.start) q in
+    let y : f ≡ g = ap (λ (z : Span). z.finish) q in
     (omega arith, omega arith)
 
 pub fits_at : (t : ℕ) → t < 2 ^ 63 → (v : ℕ) → ◌≡◌ {A = Result ℕ ClockError} (Ok t) (Ok v) → v < 2 ^ 63

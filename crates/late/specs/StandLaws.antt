@@ -1,14 +1,14 @@
 -- What the links' steps read of the memory is what the definitions read of the plan and the dates.
-use Rattle.std.specs.Prelude.{◌≡◌, Bool, List, ℕ, ◌≤◌, ◌<◌, min, eqb, Ok, Err}
+use Rattle.std.specs.Prelude.{◌≡◌, Bool, List, [], ◌∷◌, ℕ, ◌<◌, min, eqb, Ok, Err}
 use Rattle.worktime.specs.declared.ClockError.{ClockError}
 use Rattle.std.proofs.Common.{sym, ap, ◌∙◌, arith}
 use Rattle.number.specs.BitLaws.{mark_is}
 use Rattle.cells.specs.Chain.{after, gather}
-use Rattle.cells.specs.ChainLaws.{Cursor, cursor_start, cursor_turn, cursor_stop, cursor_end}
+use Rattle.cells.specs.ChainLaws.{Along, along_start, along_turn, along_stop, along_end}
 use Rattle.memory.specs.State.{State}
 use Rattle.memory.specs.declared.Tables.{Tables}
 use Rattle.memory.specs.Seen.{state}
-use Rattle.memory.specs.Fields.{late_start, late_finish, early_finish, work_left, is_summary, from_field, first_out, next_out}
+use Rattle.memory.specs.Fields.{late_start, late_finish, early_finish, work_left, is_summary, from_field, next_out}
 use Rattle.placing.proofs.PlacingLaws.{via_at, via_refused}
 use Rattle.order.specs.Plan.{Plan, plan_in}
 use Rattle.order.specs.Ids.{summary}
@@ -71,14 +71,12 @@ module _ {plan : PlanSheet} {tables : Tables} (R : Ready plan tables) where
 
   -- ---- the walk along the links out of activity i
   module _ (i last : ℕ) where
-    -- link k is next, and `latest` is what those before it leave
-    abbrev pub Lowering : ℕ → ℕ → Type 0
-    Lowering latest k = Cursor (lowering (link_finish p (early_in p S) (late_in p S last) i)) Ok (S.link from_field) tables.kept i last latest k
+    -- the links ks are left, and `latest` is what those before them leave
+    abbrev pub Lowering : ℕ → List ℕ → Type 0
+    Lowering latest ks = Along (lowering (link_finish p (early_in p S) (late_in p S last) i)) Ok (S.link from_field) tables.kept i last latest ks
 
-    pub lowering_start : (k : ℕ) → i < plan.sheet.contents.activities → k ≡ S.act first_out i → Lowering last k
-    lowering_start k b e =
-        let a : i < p.activities = omega (arith, activities_are plan.sheet.bytes.now plan.sheet.contents) in
-        rw e (cursor_start _ _ _ _ _ _ (R.standing.chains_out.heads i a))
+    pub lowering_start : Lowering last (after (S.link from_field) tables.kept i 0)
+    lowering_start = along_start _ _ _ _ _ _
 
     whole : gather (lowering (link_finish p (early_in p S) (late_in p S last) i)) Ok (after (S.link from_field) tables.kept i 0) last
         ≡ lowered p (early_in p S) (late_in p S last) i (ties_out p i) last
@@ -86,18 +84,17 @@ module _ {plan : PlanSheet} {tables : Tables} (R : Ready plan tables) where
         ap (λ (ks : List ℕ). gather (lowering (link_finish p (early_in p S) (late_in p S last) i)) Ok ks last) (out_is p R.standing i)
         ∙ sym (lowered_gather p (early_in p S) (late_in p S last) i (ties_out p i) last)
 
-    module _ {latest k : ℕ} (C : Lowering latest k) where
-      pub lowering_next : (f k' least : ℕ) → k < tables.kept → link_finish p (early_in p S) (late_in p S last) i k ≡ Ok f → least ≡ min latest f
-          → k' ≡ S.link next_out k → Lowering least k'
-      lowering_next f k' least b e m n =
-          rw (m, n) (cursor_turn _ _ _ _ _ _ C (min latest f) b (R.standing.chains_out.nexts k (omega arith) b) (λ go. via_at Err _ _ f e))
+    pub lowering_on : (k k' : ℕ) → k < tables.kept → k' ≡ S.link next_out k → k < k'
+    lowering_on k k' b n = omega (arith, n, (R.standing.chains_out.nexts k (omega arith) b).low)
 
-      pub lowering_on : (k' : ℕ) → k < tables.kept → k' ≡ S.link next_out k → k < k'
-      lowering_on k' b n = omega (arith, n, (R.standing.chains_out.nexts k (omega arith) b).low)
+    module _ {latest : ℕ} where
+      pub lowering_end : Lowering latest [] → Ok latest ≡ lowered p (early_in p S) (late_in p S last) i (ties_out p i) last
+      lowering_end W = along_end _ _ _ _ _ _ W ∙ whole
 
-      pub lowering_stop : (r : ClockError) → k < tables.kept → link_finish p (early_in p S) (late_in p S last) i k ≡ Err r
-          → Err r ≡ lowered p (early_in p S) (late_in p S last) i (ties_out p i) last
-      lowering_stop r b e = cursor_stop _ _ _ _ _ _ C (Err r) b (λ go. via_refused Err _ _ r e) ∙ whole
+      module _ {k : ℕ} {ks : List ℕ} (W : Lowering latest (k ∷ ks)) where
+        pub lowering_next : (f least : ℕ) → link_finish p (early_in p S) (late_in p S last) i k ≡ Ok f → least ≡ min latest f → Lowering least ks
+        lowering_next f least e m = rw m (along_turn _ _ _ _ _ _ W (min latest f) (λ go. via_at Err _ _ f e))
 
-      pub lowering_end : tables.kept ≤ k → Ok latest ≡ lowered p (early_in p S) (late_in p S last) i (ties_out p i) last
-      lowering_end b = cursor_end _ _ _ _ _ _ C b ∙ whole
+        pub lowering_stop : (r : ClockError) → link_finish p (early_in p S) (late_in p S last) i k ≡ Err r
+            → Err r ≡ lowered p (early_in p S) (late_in p S last) i (ties_out p i) last
+        lowering_stop r e = along_stop _ _ _ _ _ _ W (Err r) (λ go. via_refused Err _ _ r e) ∙ whole

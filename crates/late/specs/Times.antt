@@ -1,6 +1,6 @@
 -- The finish that a link leaves, in the steps of the code; and late dates as what a pass leaves.
 use Rattle.std.specs.Prelude.{◌≡◌, Bool, ℕ, ◌^◌, ◌<◌, min, Result, Ok, Err}
-use Rattle.late.specs.declared.LateDates.{LateDates}
+use Rattle.dates.specs.declared.Span.{Span}
 use Rattle.worktime.specs.declared.ClockError.{ClockError}
 use Rattle.project.specs.declared.RelationshipType.{RelationshipType}
 use Rattle.project.specs.declared.RelationshipType.TheVariants.{FinishToStart, StartToStart, FinishToFinish, StartToFinish}
@@ -11,11 +11,11 @@ use Rattle.passes.specs.Plan.{ties_out}
 use Rattle.passes.specs.Backward.{late, lowered, held_late, placed_late}
 
 -- late dates
-abbrev pub dates_of : ℕ → ℕ → Result LateDates ClockError
+abbrev pub dates_of : ℕ → ℕ → Result Span ClockError
 dates_of s f = Ok (record { start = s; finish = f })
 
 -- a successor's late times, each moved to its own next start
-unfoldable pub times_of : (ℕ → Bool) → ℕ → ℕ → Result LateDates ClockError
+unfoldable pub times_of : (ℕ → Bool) → ℕ → ℕ → Result Span ClockError
 times_of w ls lf = via Err (latest_same w ls) (λ s. via Err (latest_same w lf) (λ f. dates_of s f))
 
 -- the one of them that a link counts back from
@@ -37,7 +37,7 @@ abbrev pub lowering : (ℕ → Result ℕ ClockError) → ℕ → ℕ → (ℕ �
 lowering link latest k go = via Err (link k) (λ f. go (min latest f))
 
 -- what a pass leaves where it finds late dates of activity i
-abbrev pub dated : Plan → Early → Late → ℕ → Result LateDates ClockError → Pass Late
+abbrev pub dated : Plan → Early → Late → ℕ → Result Span ClockError → Pass Late
 dated p d l i (Ok x) = leaves (late p d l i x.start x.finish)
 dated p d l i (Err k) = refused k
 
@@ -46,5 +46,5 @@ abbrev pub unfinished_late : Plan → Early → Late → ℕ → ℕ → Pass La
 unfinished_late p d l i last = via refused (lowered p d l i (ties_out p i) last) (λ f. via refused (held_late p d l i f) (placed_late p d l i))
 
 -- they fit the memory
-abbrev pub Fitting : Result LateDates ClockError → Type 0
+abbrev pub Fitting : Result Span ClockError → Type 0
 Fitting r = (s f : ℕ) → r ≡ dates_of s f → (s < 2 ^ 63) × (f < 2 ^ 63)

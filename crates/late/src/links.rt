@@ -14,10 +14,11 @@ ghost use Rattle.dates.specs.Standing.{Ready};
 ghost use Rattle.late.specs.Unfinished.{IsUnfinished};
 ghost use Rattle.late.specs.Times.{times_of, target_of, finish_by};
 
-use crate::{LateDates, Unfinished};
-use calendar::Calendar;
+use crate::Unfinished;
 use calendars::PlanSheet;
+use dates::Span;
 use memory::Tables;
+use placing::Work;
 use project::RelationshipType;
 use worktime::ClockError;
 
@@ -30,73 +31,61 @@ fn over_lag(plan: &PlanSheet, k: usize, lag: i64, x: u64) -> Result<u64, ClockEr
         return Ok(x);
     }
     let calendar = plan.calendar(k);
-    let back = number::sign::negate(lag);
-    let v = clock::shift(&calendar, x, back)?;
+    let v = clock::shift(&calendar, x, -lag)?;
     clock::next_start(&calendar, v)
 }
 
 // The late times of activity `j`, a link's successor, each moved to its own next start.
-fn successor_times(plan: &PlanSheet, tables: &Tables, j: usize) -> Result<LateDates, ClockError>
+fn successor_times(plan: &PlanSheet, tables: &Tables, j: usize) -> Result<Span, ClockError>
     requires { (tables.now.activities ≡ plan.now.sheet.contents.activities) × (j < plan.now.sheet.contents.activities) }
     ensures { result ≡ times_of (own (plan_in plan.now.sheet) j) ((state tables.now).act late_start j) ((state tables.now).act late_finish j) }
 {
-    let activity = dates::activity_of(&plan.sheet, j);
-    let k = activity.calendar as usize;
-    let calendar = plan.calendar(k);
+    let calendar = dates::own_calendar(plan, j);
     let start = tables.act(j, memory::fields::LATE_START);
     let finish = tables.act(j, memory::fields::LATE_FINISH);
-    let s = placing::latest_same(activity, &calendar, start)?;
-    let f = placing::latest_same(activity, &calendar, finish)?;
-    Ok(LateDates {
+    let s = placing::latest_same(&calendar, start)?;
+    let f = placing::latest_same(&calendar, finish)?;
+    Ok(Span {
         start: s,
         finish: f,
     })
 }
 
 // The one of a successor's late times that a link counts back from.
-fn target(kind: RelationshipType, start: u64, finish: u64) -> u64
-    ensures { result ≡ target_of kind start finish }
+fn target(kind: RelationshipType, times: Span) -> u64
+    ensures { result ≡ target_of kind times.start times.finish }
 {
-    match kind {
-        RelationshipType::FinishToStart | RelationshipType::StartToStart => start,
-        RelationshipType::FinishToFinish | RelationshipType::StartToFinish => finish,
+    if dates::leads_to_finish(kind) {
+        return times.finish;
     }
+    times.start
 }
 
-// The finish that a link's bound `v` leaves.
-fn finish_by(
-    calendar: &Calendar,
-    unfinished: Unfinished,
-    kind: RelationshipType,
-    v: u64,
-) -> Result<u64, ClockError>
-    ensures { result ≡ finish_by (worked_by calendar.now) unfinished.left kind v }
+// The finish that a link's bound `v` leaves: a bound on the start counts on.
+fn finish_by(work: &Work, kind: RelationshipType, v: u64) -> Result<u64, ClockError>
+    ensures { result ≡ finish_by (worked_by work.now.calendar) work.now.left kind v }
 {
-    match kind {
-        RelationshipType::FinishToStart | RelationshipType::FinishToFinish => Ok(v),
-        RelationshipType::StartToStart | RelationshipType::StartToFinish => {
-            placing::finish_for_start(unfinished.activity, calendar, unfinished.left, v)
-        }
+    if dates::counts_from_finish(kind) {
+        return Ok(v);
     }
+    work.finish_for_start(v)
 }
 
 // The latest finish that link `k` leaves an activity that it leads out of, on its own calendar.
 fn link_finish(
     plan: &PlanSheet,
     tables: &Tables,
-    calendar: &Calendar,
-    unfinished: Unfinished,
+    unfinished: &Unfinished,
     k: usize,
 ) -> Result<u64, ClockError>
     requires { Ready plan.now tables.now × (k < tables.now.kept) }
-    ensures { (i last : ℕ) → IsUnfinished (plan_in plan.now.sheet) (early_in (plan_in plan.now.sheet) (state tables.now)) i (worked_by calendar.now) unfinished → result ≡ link_finish (plan_in plan.now.sheet) (early_in (plan_in plan.now.sheet) (state tables.now)) (late_in (plan_in plan.now.sheet) (state tables.now) last) i k }
+    ensures { (i last : ℕ) → IsUnfinished (plan_in plan.now.sheet) (early_in (plan_in plan.now.sheet) (state tables.now)) i unfinished.now → result ≡ link_finish (plan_in plan.now.sheet) (early_in (plan_in plan.now.sheet) (state tables.now)) (late_in (plan_in plan.now.sheet) (state tables.now) last) i k }
 {
     let tie = dates::tie_at(tables, k);
-    let kind = tie.kind;
     let times = successor_times(plan, tables, tie.to)?;
-    let x = target(kind, times.start, times.finish);
+    let x = target(tie.kind, times);
     let v = over_lag(plan, tie.calendar, tie.lag, x)?;
-    let f = finish_by(calendar, unfinished, kind, v)?;
+    let f = finish_by(&unfinished.work, tie.kind, v)?;
     placing::bounded(unfinished.origin, f)
 }
 
@@ -104,21 +93,17 @@ fn link_finish(
 pub fn lower(
     plan: &PlanSheet,
     tables: &Tables,
-    calendar: &Calendar,
-    unfinished: Unfinished,
+    unfinished: &Unfinished,
     i: usize,
     last: u64,
 ) -> Result<u64, ClockError>
-    requires { Ready plan.now tables.now × (i < plan.now.sheet.contents.activities) × IsUnfinished (plan_in plan.now.sheet) (early_in (plan_in plan.now.sheet) (state tables.now)) i (worked_by calendar.now) unfinished }
+    requires { Ready plan.now tables.now × (i < plan.now.sheet.contents.activities) × IsUnfinished (plan_in plan.now.sheet) (early_in (plan_in plan.now.sheet) (state tables.now)) i unfinished.now }
     ensures { result ≡ lowered (plan_in plan.now.sheet) (early_in (plan_in plan.now.sheet) (state tables.now)) (late_in (plan_in plan.now.sheet) (state tables.now) last) i (ties_out (plan_in plan.now.sheet) i) last }
 {
     let mut latest = last;
-    let mut k = tables.act(i, memory::fields::FIRST_OUT) as usize;
-    // A `while`: the next link is read from the memory, so no range has the links.
-    while k < tables.kept {
-        let f = link_finish(plan, tables, calendar, unfinished, k)?;
+    for k in tables.links_out(i) {
+        let f = link_finish(plan, tables, unfinished, k)?;
         latest = latest.min(f);
-        k = tables.link(k, memory::fields::NEXT_OUT) as usize;
     }
     Ok(latest)
 }

@@ -15,7 +15,6 @@ use Rattle.ids.specs.Parented.{Parented}
 use Rattle.ids.specs.Lent.{Lent}
 use Rattle.calendars.specs.declared.plan_calendar.PlanCalendar.{PlanCalendar}
 use Rattle.calendars.specs.Calendars.{Lengths}
-use Rattle.links.specs.declared.LinkCounts.{LinkCounts}
 use Rattle.links.specs.Stored.{tie_in, Stored}
 use Rattle.sheet.specs.declared.value.Sheet.{Sheet}
 
@@ -34,34 +33,34 @@ pub record ActsKept (S T : State) : Type 0 where
   pub acts_z : T.act_z ≡ S.act_z
 
 module _ (p : Plan) where
-  -- one link, after the kept and the ignored ones that c has: d has it too
-  module _ (k : ℕ) (c : LinkCounts) (S T : State) (names after : List ℕ) where
-    pub record LinkIgnored (d : LinkCounts) : Type 0 where
+  -- one link, after the n that are ignored and those that t keeps
+  module _ (k n : ℕ) (t u : Tables) (names after : List ℕ) where
+    pub record LinkIgnored (m : ℕ) : Type 0 where
       pub is : ignored p k ≡ true
-      pub same : T ≡ S
-      pub named : after ≡ set names c.ignored k
-      pub kept : d.kept ≡ c.kept
-      pub more : d.ignored ≡ c.ignored + 1
+      pub same : state u ≡ state t
+      pub named : after ≡ set names n k
+      pub kept : u.kept ≡ t.kept
+      pub more : m ≡ n + 1
 
-    pub record LinkKept (d : LinkCounts) : Type 0 where
+    pub record LinkKept (m : ℕ) : Type 0 where
       pub is : ignored p k ≡ false
-      pub stored : Stored p k c.kept S T
+      pub stored : Stored p k t.kept (state t) (state u)
       pub same : after ≡ names
-      pub more : d.kept ≡ c.kept + 1
-      pub others : d.ignored ≡ c.ignored
+      pub more : u.kept ≡ t.kept + 1
+      pub others : m ≡ n
 
-    abbrev pub LinkedOne : Result LinkCounts PlanError → Type 0
-    LinkedOne (Err e) = (judge_link p k ≡ refused e) × (T ≡ S)
-    LinkedOne (Ok d) = (judge_link p k ≡ fine) × (LinkIgnored d ⊎ LinkKept d)
+    abbrev pub LinkedOne : Result ℕ PlanError → Type 0
+    LinkedOne (Err e) = (judge_link p k ≡ refused e) × (state u ≡ state t)
+    LinkedOne (Ok m) = (judge_link p k ≡ fine) × (LinkIgnored m ⊎ LinkKept m)
 
-  -- the first k links: the kept ones stand in the first rows, and the ignored ones at the beginning of names
-  pub record LinksIn (k : ℕ) (c : LinkCounts) (T : State) (names after : List ℕ) : Type 0 where
-    pub kept_count : c.kept ≡ length (kept_below p k)
-    pub ignored_count : c.ignored ≡ length (ignored_below p k)
-    pub tied : (q : ℕ) → q < c.kept → tie_in T q ≡ tie_of p (get_or (kept_below p k) q 0)
-    pub named : after ≡ ignored_below p k ++ drop c.ignored names
+  -- the first k links: the kept ones stand in the tables, and the n ignored ones at the beginning of names
+  pub record LinksIn (k n : ℕ) (t : Tables) (names after : List ℕ) : Type 0 where
+    pub kept_count : t.kept ≡ length (kept_below p k)
+    pub ignored_count : n ≡ length (ignored_below p k)
+    pub tied : (q : ℕ) → q < t.kept → tie_in (state t) q ≡ tie_of p (get_or (kept_below p k) q 0)
+    pub named : after ≡ ignored_below p k ++ drop n names
 
   -- all links
-  abbrev pub LinkedAll : State → List ℕ → List ℕ → Result LinkCounts PlanError → Type 0
-  LinkedAll T names after (Err e) = first_of (judge_link p) p.links 0 ≡ refused e
-  LinkedAll T names after (Ok c) = (first_of (judge_link p) p.links 0 ≡ fine) × LinksIn p.links c T names after
+  abbrev pub LinkedAll : Tables → List ℕ → List ℕ → Result ℕ PlanError → Type 0
+  LinkedAll t names after (Err e) = first_of (judge_link p) p.links 0 ≡ refused e
+  LinkedAll t names after (Ok n) = (first_of (judge_link p) p.links 0 ≡ fine) × LinksIn p.links n t names after

@@ -6,6 +6,8 @@ use Rattle.number.specs.Order.{cases}
 use Rattle.project.specs.declared.LagKind.{LagKind}
 use Rattle.project.specs.Records.{relationship_type_of}
 use Rattle.memory.specs.State.{State, put_link, put_link_z}
+use Rattle.memory.specs.declared.KeptLink.{KeptLink}
+use Rattle.memory.specs.Kept.{with_link}
 use Rattle.memory.specs.StateLaws.{link_same, link_row, link_z_same, link_z_row}
 use Rattle.memory.specs.Fields.{from_field, to_field, kind_field, lag_field, lag_calendar_field}
 use Rattle.order.specs.Plan.{Plan}
@@ -15,60 +17,51 @@ use Rattle.order.specs.LagLaws.{lag_long_before}
 use Rattle.order.specs.Checks.{Verdict, fine, judge_link}
 use Rattle.order.proofs.CheckLaws.{link_fine_lem}
 use Rattle.ties.specs.Ends.{Between}
-use Rattle.links.specs.Stored.{with_tie, tie_in, Stored}
+use Rattle.links.specs.Stored.{tie_in, Stored}
 
--- ---- the five puts
-module _ (S : State) (t from to kind : ℕ) (lag : ℤ) (calendar : ℕ) where
+-- ---- the five fields
+module _ (S : State) (t : ℕ) (x : KeptLink) where
   abbrev B : State
-  B = put_link S from_field t from
+  B = put_link S from_field t x.from
 
   abbrev C : State
-  C = put_link B to_field t to
+  C = put_link B to_field t x.to
 
   abbrev D : State
-  D = put_link C kind_field t kind
+  D = put_link C kind_field t x.kind
 
   abbrev E : State
-  E = put_link_z D lag_field t lag
-
-  pub put_five : (b c d e w : State) → b ≡ put_link S from_field t from → c ≡ put_link b to_field t to → d ≡ put_link c kind_field t kind
-      → e ≡ put_link_z d lag_field t lag → w ≡ put_link e lag_calendar_field t calendar → w ≡ with_tie S t from to kind lag calendar
-  put_five b c d e w f g h i j =
-      j
-      ∙ ap (λ (X : State). put_link X lag_calendar_field t calendar)
-      (i
-      ∙ ap (λ (X : State). put_link_z X lag_field t lag)
-      (h ∙ ap (λ (X : State). put_link X kind_field t kind) (g ∙ ap (λ (X : State). put_link X to_field t to) f)))
+  E = put_link_z D lag_field t x.lag
 
   -- the row, at each field
-  row_from : (with_tie S t from to kind lag calendar).link from_field t ≡ from
-  row_from = link_same S from_field t (pos from)
+  row_from : (with_link S t x).link from_field t ≡ x.from
+  row_from = link_same S from_field t (pos x.from)
 
-  row_to : (with_tie S t from to kind lag calendar).link to_field t ≡ to
-  row_to = link_same B to_field t (pos to)
+  row_to : (with_link S t x).link to_field t ≡ x.to
+  row_to = link_same B to_field t (pos x.to)
 
-  row_kind : (with_tie S t from to kind lag calendar).link kind_field t ≡ kind
-  row_kind = link_same C kind_field t (pos kind)
+  row_kind : (with_link S t x).link kind_field t ≡ x.kind
+  row_kind = link_same C kind_field t (pos x.kind)
 
-  row_lag : (with_tie S t from to kind lag calendar).link_z lag_field t ≡ lag
-  row_lag = link_z_same D lag_field t lag
+  row_lag : (with_link S t x).link_z lag_field t ≡ x.lag
+  row_lag = link_z_same D lag_field t x.lag
 
-  row_calendar : (with_tie S t from to kind lag calendar).link lag_calendar_field t ≡ calendar
-  row_calendar = link_same E lag_calendar_field t (pos calendar)
+  row_calendar : (with_link S t x).link lag_calendar_field t ≡ x.calendar
+  row_calendar = link_same E lag_calendar_field t (pos x.calendar)
 
   -- the other rows
-  other : (f q : ℕ) → q ≢ t → (with_tie S t from to kind lag calendar).link f q ≡ S.link f q
+  other : (f q : ℕ) → q ≢ t → (with_link S t x).link f q ≡ S.link f q
   other f q n =
-      link_row E lag_calendar_field t (pos calendar) f q n ∙ link_row D lag_field t lag f q n ∙ link_row C kind_field t (pos kind) f q n
-      ∙ link_row B to_field t (pos to) f q n ∙ link_row S from_field t (pos from) f q n
+      link_row E lag_calendar_field t (pos x.calendar) f q n ∙ link_row D lag_field t x.lag f q n ∙ link_row C kind_field t (pos x.kind) f q n
+      ∙ link_row B to_field t (pos x.to) f q n ∙ link_row S from_field t (pos x.from) f q n
 
-  other_z : (f q : ℕ) → q ≢ t → (with_tie S t from to kind lag calendar).link_z f q ≡ S.link_z f q
+  other_z : (f q : ℕ) → q ≢ t → (with_link S t x).link_z f q ≡ S.link_z f q
   other_z f q n =
-      link_z_row E lag_calendar_field t (pos calendar) f q n ∙ link_z_row D lag_field t lag f q n ∙ link_z_row C kind_field t (pos kind) f q n
-      ∙ link_z_row B to_field t (pos to) f q n ∙ link_z_row S from_field t (pos from) f q n
+      link_z_row E lag_calendar_field t (pos x.calendar) f q n ∙ link_z_row D lag_field t x.lag f q n ∙ link_z_row C kind_field t (pos x.kind) f q n
+      ∙ link_z_row B to_field t (pos x.to) f q n ∙ link_z_row S from_field t (pos x.from) f q n
 
-  module _ (p : Plan) (k : ℕ) (G : Between p k from to) (kinds : relationship_type_of kind ≡ (p.link k).kind) (lags : lag ≡ (tie_of p k).lag) (calendars : calendar ≡ tie_calendar p k) where
-    put_row : tie_in (with_tie S t from to kind lag calendar) t ≡ tie_of p k
+  module _ (p : Plan) (k : ℕ) (G : Between p k x.from x.to) (kinds : relationship_type_of x.kind ≡ (p.link k).kind) (lags : x.lag ≡ (tie_of p k).lag) (calendars : x.calendar ≡ tie_calendar p k) where
+    put_row : tie_in (with_link S t x) t ≡ tie_of p k
     unfolding tie_of
     put_row = λ z. record {
       from = (row_from ∙ G.from_is) z;
@@ -78,7 +71,7 @@ module _ (S : State) (t from to kind : ℕ) (lag : ℤ) (calendar : ℕ) where
       calendar = (row_calendar ∙ calendars) z;
     }
 
-    pub put_stored : (T : State) → T ≡ with_tie S t from to kind lag calendar → Stored p k t S T
+    pub put_stored : (T : State) → T ≡ with_link S t x → Stored p k t S T
     put_stored T e = record {
       row = ap (λ (X : State). tie_in X t) e ∙ put_row;
       rows = λ f q n. ap (λ (X : State). X.link f q) e ∙ other f q n;

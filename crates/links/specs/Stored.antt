@@ -1,15 +1,10 @@
 -- A kept link in its row of the link table.
-use Rattle.std.specs.Prelude.{◌≡◌, ◌≢◌, ℕ, ℤ}
+use Rattle.std.specs.Prelude.{◌≡◌, ◌≢◌, ℕ}
 use Rattle.project.specs.Records.{relationship_type_of}
-use Rattle.memory.specs.State.{State, put_link, put_link_z}
+use Rattle.memory.specs.State.{State}
 use Rattle.memory.specs.Fields.{from_field, to_field, kind_field, lag_field, lag_calendar_field}
 use Rattle.order.specs.Plan.{Plan}
 use Rattle.order.specs.Ties.{Tie, tie_of}
-
--- S with a link in row t
-abbrev pub with_tie : State → ℕ → ℕ → ℕ → ℕ → ℤ → ℕ → State
-with_tie S t from to kind lag calendar =
-    put_link (put_link_z (put_link (put_link (put_link S from_field t from) to_field t to) kind_field t kind) lag_field t lag) lag_calendar_field t calendar
 
 -- the link in row t
 abbrev pub tie_in : State → ℕ → Tie

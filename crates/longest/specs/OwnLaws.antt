@@ -1,8 +1,7 @@
--- An activity in hand, its own calendar, and what is read of its dates and of a link into it, as the definitions have them.
+-- Work in hand, and what is read of an activity's dates and of a link into it, as the definitions have them.
 use Rattle.std.specs.Prelude.{◌≡◌, ℕ, ◌<◌, Result, Ok}
 use Rattle.worktime.specs.declared.ClockError.{ClockError}
 use Rattle.std.proofs.Common.{sym, ap, ap₂, ◌∙◌, arith}
-use Rattle.calendar.specs.declared.value.Calendar.{Calendar}
 use Rattle.clock.specs.On.{worked_by}
 use Rattle.project.specs.declared.Activity.{Activity}
 use Rattle.project.specs.declared.RelationshipType.{RelationshipType}
@@ -18,25 +17,21 @@ use Rattle.order.specs.Ties as ties
 use Rattle.passes.specs.Plan.{origin, own, tie, kind_of, recorded}
 use Rattle.passes.specs.Forward.{start_for}
 use Rattle.passes.specs.Floats.{is_completed}
-use Rattle.calendars.specs.Calendars.{Own}
-use Rattle.calendars.specs.CalendarLaws.{in_plan_worked}
 use Rattle.dates.specs.Columns.{early_in}
 use Rattle.dates.specs.ColumnLaws.{column_at}
-use Rattle.dates.specs.Standing.{actual_in}
+use Rattle.dates.specs.Standing.{actual_in, Lent}
 use Rattle.bounds.specs.ReadyLaws.{activities_are, kept_within, tie_from_below}
-use Rattle.longest.specs.Path.{Lent}
-use Rattle.sheet.specs.declared.value.Sheet.{Sheet}
+use Rattle.dates.specs.InHand.{InHand}
+use Rattle.placing.specs.declared.work.Work.{Work}
+use Rattle.passes.specs.Dates.{Early}
 use Rattle.calendars.specs.declared.plan_sheet.PlanSheet.{PlanSheet}
 
-module _ {sheet : Sheet} {i : ℕ} {activity : Activity} {calendar : Calendar} (O : Own sheet i activity calendar) where
-  pub own_worked : own (plan_in sheet) i ≡ worked_by calendar
-  own_worked = sym (in_plan_worked O.in_plan)
+module _ {p : Plan} {d : Early} {i : ℕ} {work : Work} (H : InHand p d i work) where
+  own_kind : kind_of p i ≡ work.activity.kind
+  own_kind = sym (ap (λ (x : Activity). x.kind) H.activity_is)
 
-  own_kind : kind_of (plan_in sheet) i ≡ activity.kind
-  own_kind = sym (ap (λ (x : Activity). x.kind) O.is)
-
-  pub own_place : (u : ℕ) (r : Result ℕ ClockError) → r ≡ place_start (worked_by calendar) activity.kind u → r ≡ place_start (own (plan_in sheet) i) (kind_of (plan_in sheet) i) u
-  own_place u r e = e ∙ (λ z. place_start (sym own_worked z) (sym own_kind z) u)
+  pub own_place : (u : ℕ) (r : Result ℕ ClockError) → r ≡ place_start (worked_by work.calendar) work.activity.kind u → r ≡ place_start (own p i) (kind_of p i) u
+  own_place u r e = e ∙ (λ z. place_start (sym H.own_is z) (sym own_kind z) u)
 
 module _ {plan : PlanSheet} {tables : Tables} (L : Lent plan tables) where
   abbrev p : Plan
@@ -76,7 +71,7 @@ module _ {plan : PlanSheet} {tables : Tables} (L : Lent plan tables) where
         ap (λ (j : ℕ). is_completed p (recorded p j)) (sym (from_read v e))
         ∙ ap (is_completed p) (sym (ap Ok f ∙ L.recorded v (omega (arith, from_inside v e, activities_are plan.sheet.bytes.now plan.sheet.contents))))
 
-    -- the start that its bound b leaves activity i
-    pub start_left : (i : ℕ) → i < plan.sheet.contents.activities → (v u b : ℕ) (r : RelationshipType) (w : Result ℕ ClockError) → v ≡ S.act work_left i → u ≡ S.link kind_field k → r ≡ relationship_type_of u → w ≡ start_for p i v r b
-        → w ≡ start_for p i ((early_in p S).left i) (tie p k).kind b
-    start_left i m v u b r w e f g h = h ∙ ap₂ (λ (x : ℕ) (y : RelationshipType). start_for p i x y b) (left_read i m v e) (kind_read u r f g)
+    -- the start that its bound b leaves an activity with `left` minutes of work left
+    pub start_left : (d : Early) (i left : ℕ) → left ≡ d.left i → (u b : ℕ) (r : RelationshipType) (w : Result ℕ ClockError) → u ≡ S.link kind_field k → r ≡ relationship_type_of u → w ≡ start_for p i left r b
+        → w ≡ start_for p i (d.left i) (tie p k).kind b
+    start_left d i left v u b r w f g h = h ∙ ap₂ (λ (x : ℕ) (y : RelationshipType). start_for p i x y b) v (kind_read u r f g)

@@ -2,20 +2,11 @@
 use Rattle.std.specs.Prelude.{Bool, true, false, ℕ, Result, Ok, Err}
 use Rattle.worktime.specs.declared.ClockError.{ClockError}
 use Rattle.placing.specs.Placing.{via, place_start}
-use Rattle.memory.specs.declared.Tables.{Tables}
-use Rattle.memory.specs.Seen.{state}
-use Rattle.order.specs.Plan.{Plan, plan_in}
+use Rattle.order.specs.Plan.{Plan}
 use Rattle.passes.specs.Plan.{own, tie, kind_of}
 use Rattle.passes.specs.Dates.{Early, Pass, refused, put}
 use Rattle.passes.specs.Forward.{link_bound, start_for}
 use Rattle.passes.specs.Floats.{drives}
-use Rattle.dates.specs.Standing.{Ready, Recorded}
-use Rattle.calendars.specs.declared.plan_sheet.PlanSheet.{PlanSheet}
-
--- what the passes are lent, with what is recorded of work
-pub record Lent (plan : PlanSheet) (tables : Tables) : Type 0 where
-  pub ready : Ready plan tables
-  pub recorded : Recorded (plan_in plan.sheet) (state tables)
 
 -- what follows the answer whether a link sets the start of its successor
 abbrev pub driven : Result Bool ClockError → (Bool → Pass (ℕ → Bool)) → Pass (ℕ → Bool)

@@ -10,17 +10,16 @@ ghost use Rattle.passes.specs.Floats.{is_completed, last_ones, drives, marked, o
 ghost use Rattle.passes.specs.Plan.{ties_into};
 ghost use Rattle.passes.specs.Run.{path_pass};
 ghost use Rattle.dates.specs.Columns.{early_in, path_in, ended};
-ghost use Rattle.calendars.specs.Calendars.{Own};
-ghost use Rattle.dates.specs.Standing.{Standing, Ready, Recorded};
+ghost use Rattle.dates.specs.InHand.{InHand};
+ghost use Rattle.dates.specs.Standing.{Standing, Lent, Recorded};
 ghost use Rattle.longest.specs.KeptLaws.{turn_kept};
-ghost use Rattle.longest.specs.Path.{Lent, driven, bound_start, marks};
+ghost use Rattle.longest.specs.Path.{driven, bound_start, marks};
 
-use calendar::Calendar;
 use calendars::PlanSheet;
 use dates::step::Step;
 use memory::Tables;
-use placing::Actual;
-use project::{Activity, RelationshipType};
+use placing::{Actual, Work};
+use project::RelationshipType;
 use worktime::ClockError;
 
 // Whether work is completed.
@@ -60,38 +59,35 @@ fn mark_last(tables: &mut Tables, finish: u64)
 // ---- the links that set a start
 
 // Where the bound of link `k` places activity `i`, on its own calendar.
+// `InHand` stands here and at its callers: it relates the work to the plan, to the tables and to the place `i`, which a type of the work would have to hold too.
 fn bound_start(
     plan: &PlanSheet,
     tables: &Tables,
-    activity: Activity,
-    calendar: &Calendar,
+    work: &Work,
     i: usize,
     k: usize,
 ) -> Result<u64, ClockError>
-    requires { Lent plan.now tables.now × Own plan.now.sheet i activity calendar.now × (i < plan.now.sheet.contents.activities) × (k < tables.now.kept) }
+    requires { Lent plan.now tables.now × InHand (plan_in plan.now.sheet) (early_in (plan_in plan.now.sheet) (state tables.now)) i work.now × (i < plan.now.sheet.contents.activities) × (k < tables.now.kept) }
     ensures { result ≡ bound_start (plan_in plan.now.sheet) (early_in (plan_in plan.now.sheet) (state tables.now)) i k }
 {
     let b = bounds::link_bound(plan, tables, k)?;
-    let left = tables.act(i, memory::fields::WORK_LEFT);
-    let code = tables.link(k, memory::fields::KIND);
-    let kind = RelationshipType::from(code);
-    let s = bounds::start_for(activity, calendar, left, kind, b)?;
-    placing::place_start(activity, calendar, s)
+    let kind = RelationshipType::from(tables.link(k, memory::fields::KIND));
+    let s = bounds::start_for(work, kind, b)?;
+    work.place_start(s)
 }
 
 // Whether link `k` sets the start of activity `i`: its bound places it where it is, and its predecessor is not completed.
 fn drives(
     plan: &PlanSheet,
     tables: &Tables,
-    activity: Activity,
-    calendar: &Calendar,
+    work: &Work,
     i: usize,
     k: usize,
 ) -> Result<bool, ClockError>
-    requires { Lent plan.now tables.now × Own plan.now.sheet i activity calendar.now × (i < plan.now.sheet.contents.activities) × (k < tables.now.kept) }
+    requires { Lent plan.now tables.now × InHand (plan_in plan.now.sheet) (early_in (plan_in plan.now.sheet) (state tables.now)) i work.now × (i < plan.now.sheet.contents.activities) × (k < tables.now.kept) }
     ensures { (go : Bool → Pass (ℕ → Bool)) → driven result go ≡ drives (plan_in plan.now.sheet) (early_in (plan_in plan.now.sheet) (state tables.now)) i k go }
 {
-    let u = bound_start(plan, tables, activity, calendar, i, k)?;
+    let u = bound_start(plan, tables, work, i, k)?;
     if u != tables.act(i, memory::fields::EARLY_START) {
         return Ok(false);
     }
@@ -104,15 +100,14 @@ fn drives(
 fn mark_link(
     plan: &PlanSheet,
     tables: &mut Tables,
-    activity: Activity,
-    calendar: &Calendar,
+    work: &Work,
     i: usize,
     k: usize,
 ) -> Result<(), ClockError>
-    requires { Lent plan.now tables.old × Own plan.now.sheet i activity calendar.now × (i < plan.now.sheet.contents.activities) × (k < tables.old.kept) }
+    requires { Lent plan.now tables.old × InHand (plan_in plan.now.sheet) (early_in (plan_in plan.now.sheet) (state tables.old)) i work.now × (i < plan.now.sheet.contents.activities) × (k < tables.old.kept) }
     ensures { ((other : ℕ → Bool) (go : (ℕ → Bool) → Pass (ℕ → Bool)) → after (ended (path_in (plan_in plan.now.sheet) (state tables.new) other) result) go ≡ marks (plan_in plan.now.sheet) (early_in (plan_in plan.now.sheet) (state tables.old)) i (path_in (plan_in plan.now.sheet) (state tables.old) other) k go) × Frame 16 17 0 0 (state tables.old) (state tables.new) × SameSlice tables.old tables.new }
 {
-    let sets = drives(plan, tables, activity, calendar, i, k)?;
+    let sets = drives(plan, tables, work, i, k)?;
     if sets {
         let from = tables.link(k, memory::fields::FROM) as usize;
         tables.put_act(from, memory::fields::LONGEST_PATH, 1);
@@ -124,17 +119,16 @@ fn mark_link(
 fn mark_links(
     plan: &PlanSheet,
     tables: &mut Tables,
-    activity: Activity,
-    calendar: &Calendar,
+    work: &Work,
     i: usize,
 ) -> Result<(), ClockError>
-    requires { Lent plan.now tables.old × Own plan.now.sheet i activity calendar.now × (i < plan.now.sheet.contents.activities) }
+    requires { Lent plan.now tables.old × InHand (plan_in plan.now.sheet) (early_in (plan_in plan.now.sheet) (state tables.old)) i work.now × (i < plan.now.sheet.contents.activities) }
     ensures { ((other : ℕ → Bool) → ended (path_in (plan_in plan.now.sheet) (state tables.new) other) result ≡ marked (plan_in plan.now.sheet) (early_in (plan_in plan.now.sheet) (state tables.old)) i (ties_into (plan_in plan.now.sheet) i) (path_in (plan_in plan.now.sheet) (state tables.old) other)) × Frame 16 17 0 0 (state tables.old) (state tables.new) × SameSlice tables.old tables.new }
 {
     let mut k = tables.act(i, memory::fields::FIRST_IN) as usize;
     // A `while`: the body writes the tables that the next link is read from, so no iterator may hold them.
     while k < tables.kept {
-        mark_link(plan, tables, activity, calendar, i, k)?;
+        mark_link(plan, tables, work, i, k)?;
         k = tables.link(k, memory::fields::NEXT_INTO) as usize;
     }
     Ok(())
@@ -165,16 +159,14 @@ impl Step for PathBack {
         if tables.act(i, memory::fields::LONGEST_PATH) == 0 {
             return Ok(());
         }
-        let activity = dates::activity_of(&plan.sheet, i);
-        let k = activity.calendar as usize;
-        let calendar = plan.calendar(k);
-        mark_links(plan, tables, activity, &calendar, i)
+        let work = dates::work_of(plan, tables, i);
+        mark_links(plan, tables, &work, i)
     }
 }
 
 // The longest path of a project whose greatest finish is `finish`.
 pub fn path_pass(plan: &PlanSheet, tables: &mut Tables, finish: u64) -> Result<(), ClockError>
-    requires { Ready plan.now tables.old × Recorded (plan_in plan.now.sheet) (state tables.old) }
+    requires { Lent plan.now tables.old }
     ensures { (ended (path_in (plan_in plan.now.sheet) (state tables.new) (last_ones (plan_in plan.now.sheet) (early_in (plan_in plan.now.sheet) (state tables.old)) finish)) result ≡ path_pass (plan_in plan.now.sheet) finish (early_in (plan_in plan.now.sheet) (state tables.old))) × Frame 16 17 0 0 (state tables.old) (state tables.new) × SameSlice tables.old tables.new }
 {
     mark_last(tables, finish);

@@ -2,6 +2,7 @@
 use Rattle.std.specs.Prelude.{◌≡◌, ◌≢◌, ℕ, zero, suc, ◌+◌}
 use Rattle.cells.specs.Chain.{Chained}
 use Rattle.memory.specs.State.{State, put_act, put_link, fill_act}
+use Rattle.memory.specs.Fields.{first_in, first_out, from_field, to_field, next_into, next_out}
 
 -- link k comes before the links that have its key
 unfoldable pub linked : ℕ → ℕ → ℕ → State → ℕ → State
@@ -15,6 +16,13 @@ linked_from key head next (suc n) k S = linked key head next (linked_from key he
 -- S with the chains of its first t links; t ends a chain
 abbrev pub with_chains : ℕ → ℕ → ℕ → ℕ → ℕ → State → State
 with_chains key head next a t S = linked_from key head next t 0 (fill_act S head a t)
+
+-- the first t links into each of a activities, and those out of it, as chains
+abbrev pub ChainsIn : ℕ → ℕ → State → Type 0
+ChainsIn a t S = Chained (S.link to_field) (S.act first_in) (S.link next_into) a t 0
+
+abbrev pub ChainsOut : ℕ → ℕ → State → Type 0
+ChainsOut a t S = Chained (S.link from_field) (S.act first_out) (S.link next_out) a t 0
 
 -- T is S but for the fields head and next
 pub record Kept (head next : ℕ) (S T : State) : Type 0 where

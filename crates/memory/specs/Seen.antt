@@ -7,6 +7,7 @@ unfoldable pub state : Tables → State
 state t = state_of t.activities t.links t.cells.now
 
 -- t is of the sizes of s and in the same slice, which is as long as it was
+-- a clause, and no type's field: it relates what a function found to what it leaves
 pub record SameLent (s t : Tables) : Type 0 where
   pub activities : t.activities ≡ s.activities
   pub links : t.links ≡ s.links

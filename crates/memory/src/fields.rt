@@ -1,5 +1,5 @@
 // The fields of the two tables: the list of `memory`'s specs, for code.
-// They are numbers and no enum: the specs speak of runs of fields, as a frame's from one to another, and the code computes places and runs of columns from them.
+// They are numbers, no enum and no newtype: the specs speak of runs of fields, as a frame's from one to another, and `place`, `rest` and the chains of `rollup` compute with them; a type that keeps the bound would put its number between each contract and its definition.
 
 // ---- activities
 pub const LOW_CHILD: usize = 0;

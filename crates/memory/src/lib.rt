@@ -5,6 +5,7 @@
 ghost use Rattle.std.specs.Prelude.{◌≡◌, ◌≢◌, ℕ, ◌+◌, ◌*◌, ◌^◌, ◌≤◌, ◌<◌, pos, length, replicate};
 ghost use Rattle.memory.specs.State.{Room, place, state_of, put_act, put_act_z, put_link, put_link_z, fill_act};
 
+pub mod chain;
 pub mod fields;
 
 // Where field `f` of row `i` stands in a table of `n` rows.
@@ -22,6 +23,7 @@ fn place(n: usize, i: usize, f: usize) -> usize
 }
 
 // The tables of so many activities and links, in cells that a caller lends; the first `kept` rows of the link table are the kept links.
+// C lends one slice of i64 and the call may not allocate: so a field is a column of the slice and no field of a struct, and a chain, a tree or a queue names its next by its row.
 #[derive(Drop)]
 pub struct Tables<'a> {
     pub cells: &'a mut [i64],
@@ -32,8 +34,20 @@ pub struct Tables<'a> {
     pub ghost within: { kept ≤ links },
 }
 
+// What a kept link's row has before the chains: its ends by the activities' numbers, the code of its type, and its lag in minutes with the calendar's number.
+// The type is a code, as the cell holds it: `dates::Tie` has the enum of `project`, which the memory does not know.
+#[derive(Clone, Copy)]
+pub struct KeptLink {
+    pub from: usize,
+    pub to: usize,
+    pub kind: u64,
+    pub lag: i64,
+    pub calendar: u64,
+}
+
 impl<'a> Tables<'a> {
     ghost use Rattle.memory.specs.Seen.{state, SameLent, SameSlice};
+    ghost use Rattle.memory.specs.Kept.{with_link};
     ghost use Rattle.memory.specs.Chains.{linked, linked_from, with_chains, Chains};
 
     // The tables in `cells`, no link kept yet.
@@ -59,11 +73,25 @@ impl<'a> Tables<'a> {
         self.kept = n;
     }
 
+    // Keeps one more link, in the row after those of the kept ones.
+    pub fn add_link(&mut self, link: KeptLink)
+        requires { (self.old.kept < self.old.links) × (link.from < 2 ^ 63) × (link.to < 2 ^ 63) × (link.kind < 2 ^ 63) × (link.calendar < 2 ^ 63) }
+        ensures { (state self.new ≡ with_link (state self.old) self.old.kept link) × (self.new.kept ≡ self.old.kept + 1) × SameLent self.old self.new }
+    {
+        let k = self.kept;
+        self.put_link(k, fields::FROM, link.from as u64);
+        self.put_link(k, fields::TO, link.to as u64);
+        self.put_link(k, fields::KIND, link.kind);
+        self.put_link_signed(k, fields::LAG, link.lag);
+        self.put_link(k, fields::LAG_CALENDAR, link.calendar);
+        self.kept = k + 1;
+    }
+
     // Every cell is 0, also those past the tables.
     pub fn clear(&mut self)
         ensures { (self.new.cells.now ≡ replicate (length self.old.cells.now) (pos 0)) × SameSlice self.old self.new }
     {
-        cells::clear(self.cells);
+        self.cells.fill(0);
     }
 
     // Field `f` of activity `i`: 0 where it is negative.

@@ -1,9 +1,10 @@
 -- Links between activities, which are numbered from 0 in sheet order, and what it is for links to close a loop.
 use Rattle.std.specs.Prelude.{◌≡◌, List, [], ◌∷◌, ℕ, ◌-◌, ◌≤◌, ◌<◌, length, get_or}
+use Rattle.network.specs.declared.Link as code
 
-pub record Link : Type 0 where
-  pub from : ℕ
-  pub to : ℕ
+-- a link from one activity to another, as the code has it
+abbrev pub Link : Type 0
+Link = code.Link
 
 abbrev pub no_link : Link
 no_link = record { from = 0; to = 0 }

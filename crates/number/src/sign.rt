@@ -1,29 +1,14 @@
 // Signed arithmetic: each result is the integer's, and what it asks is that the integer fits.
-// `min`, `max` and `negate` stay beside std's and `-`: they give the value by the specs' own definition, a step that each caller would have to prove.
-ghost use Rattle.std.specs.Prelude.{◌≡◌, ◌+◌, ◌^◌, ◌≤◌, ◌<◌, pos, neg_ℤ, ◌-ℤ◌};
+// `min` stays beside std's: its answer is the specs' own `min_z`, so its three callers need no step from std's definition to that one.
+ghost use Rattle.std.specs.Prelude.{◌≡◌, ◌+◌, ◌^◌, ◌≤◌, ◌<◌, pos, ◌-ℤ◌};
 ghost use Rattle.number.specs.Zed.{up, dn};
-ghost use Rattle.number.specs.Sign.{min_z, max_z, percent_of, whole_days};
-
-// `z` with the other sign.
-pub fn negate(z: i64) -> i64
-    requires { dn z < 2 ^ 63 }
-    ensures { result ≡ neg_ℤ z }
-{
-    -z
-}
+ghost use Rattle.number.specs.Sign.{min_z, percent_of, whole_days};
 
 // The smaller of two.
 pub fn min(a: i64, b: i64) -> i64
     ensures { result ≡ min_z a b }
 {
     a.min(b)
-}
-
-// The larger of two.
-pub fn max(a: i64, b: i64) -> i64
-    ensures { result ≡ max_z a b }
-{
-    a.max(b)
 }
 
 // A share of a duration, in hundredths of one percent, toward zero.

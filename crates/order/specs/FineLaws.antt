@@ -7,6 +7,7 @@ use Rattle.order.specs.CheckLaws.{ActivityFine, SummaryFine, LinkFine}
 
 module _ (p : Plan) where
   -- after rows 6 to 9, after row 10, after rows 11 and 12, and after rows 13, 14 and 8
+  -- clauses, and no type's fields: they are of the plan that a sheet holds, and the sheet is handed on before and after it is judged
   abbrev pub ActivitiesFine : Type 0
   ActivitiesFine = (i : ℕ) → i < p.activities → ActivityFine p i
 

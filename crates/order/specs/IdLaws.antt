@@ -108,6 +108,7 @@ module _ (p : Plan) where
     index_id e = (index_of_lem e).has
 
   -- where ids are distinct, the activity with activity i's id is i
+  -- a clause, and no type's field: it is of the plan that a sheet holds, and the sheet is handed on before and after it is judged
   abbrev pub DistinctIds : Type 0
   DistinctIds = (i j : ℕ) → i < p.activities → j < p.activities → id_of p i ≡ id_of p j → i ≡ j
 

@@ -1,5 +1,6 @@
 -- The checks before the passes. First the definitions that contracts cite.
 pub mod Plan
+pub mod InSheet
 pub mod Ids
 pub mod Lags
 pub mod Ties

@@ -1,9 +1,9 @@
 -- One law for each way out of the placings: what the walks on the way make of the answer.
-use Rattle.std.specs.Prelude.{◌≡◌, Bool, true, false, List, ℕ, ◌+◌, ◌*◌, ◌/◌, ◌≤◌, ◌<◌, max, eqb, Result, Ok, Err, Option, Some, None}
+use Rattle.std.specs.Prelude.{◌≡◌, ◌⊎◌, Bool, true, false, List, ℕ, ◌+◌, ◌*◌, ◌/◌, ◌≤◌, ◌<◌, max, eqb, Result, Ok, Err, Option, Some, None}
 use Rattle.worktime.specs.declared.ClockError.{ClockError}
 use Rattle.worktime.specs.declared.ClockError.TheVariants.{TooLong}
 use Rattle.std.proofs.Math.Path.{refl, ap}
-use Rattle.std.proofs.Common.{sym, ap₂, ◌∙◌, arith, eq-eqb, ne_eqb, le-leb}
+use Rattle.std.proofs.Common.{sym, ap₂, ◌∙◌, inl, inr, arith, eq-eqb, ne_eqb, le-leb, unwrap_or, add-zero}
 use Rattle.std.proofs.Math.Bool.{◌&&◌}
 use Rattle.std.proofs.lemmas.Bool.{lt-leb}
 use Rattle.std.proofs.Math.Dec.{leb}
@@ -48,13 +48,10 @@ module _ (origin t : ℕ) where
 
 module _ (w : ℕ → Bool) where
   -- ---- place start, by the activity's kind
-  pub place_start_task : (kind : ActivityKind) (t : ℕ) → kind ≡ Task → place_start w kind t ≡ next_start w t
+  pub place_start_at_start : (kind : ActivityKind) (t : ℕ) → (kind ≡ Task) ⊎ (kind ≡ StartMilestone) → place_start w kind t ≡ next_start w t
   unfolding place_start
-  place_start_task kind t e = rw e
-
-  pub place_start_start : (kind : ActivityKind) (t : ℕ) → kind ≡ StartMilestone → place_start w kind t ≡ next_start w t
-  unfolding place_start
-  place_start_start kind t e = rw e
+  place_start_at_start kind t (inl e) = rw e
+  place_start_at_start kind t (inr e) = rw e
 
   pub place_start_finish : (kind : ActivityKind) (t : ℕ) → kind ≡ FinishMilestone → place_start w kind t ≡ next_finish w t
   unfolding place_start
@@ -207,3 +204,7 @@ module _ (h : ℕ → List Period) (d : ℕ) (o : Ordered 0 (h d)) where
 
   pub day_start_free : next_in (h d) 0 ≡ None → day_start (worked h) (d * 1440) ≡ d * 1440
   day_start_free e = day_start_none (worked h) (d * 1440) (day_next_none h d o 0 (omega arith) e ∙ midnight_count)
+
+  pub day_start_tells : (f : Option ℕ) → next_in (h d) 0 ≡ f → (day_start (worked h) (d * 1440) ≡ d * 1440 + unwrap_or f 0) × (unwrap_or f 0 < 1440)
+  day_start_tells None e = (day_start_free e ∙ sym (add-zero (d * 1440)), omega arith)
+  day_start_tells (Some m) e = day_start_found m e

@@ -15,7 +15,7 @@ use Rattle.worktime.proofs.Shift.{advance_sound, advance_refused, retreat_sound,
 use Rattle.project.specs.declared.ActivityKind.{ActivityKind}
 use Rattle.project.specs.declared.ActivityKind.TheVariants.{Task, StartMilestone, FinishMilestone}
 use Rattle.placing.specs.Placing.{bounded, is_moment, place_start, finish_of, start_for_finish, place_finish, latest_same, start_of, finish_for_start, finish_for_start_by}
-use Rattle.placing.proofs.PlacingLaws.{bounded_in, bounded_after, bounded_before, place_start_task, place_start_start, place_start_finish, start_for_finish_none, start_for_finish_at, start_for_finish_refuses, finish_for_start_none, finish_for_start_at, finish_for_start_refuses, finish_for_start_by_none, finish_for_start_by_at, finish_for_start_by_refuses, place_finish_refuses, place_finish_here, place_finish_start, place_finish_before, place_finish_start_refuses}
+use Rattle.placing.proofs.PlacingLaws.{bounded_in, bounded_after, bounded_before, place_start_at_start, place_start_finish, start_for_finish_none, start_for_finish_at, start_for_finish_refuses, finish_for_start_none, finish_for_start_at, finish_for_start_refuses, finish_for_start_by_none, finish_for_start_by_at, finish_for_start_by_refuses, place_finish_refuses, place_finish_here, place_finish_start, place_finish_before, place_finish_start_refuses}
 
 -- ---- walks
 
@@ -112,14 +112,14 @@ module _ (w : ℕ → Bool) where
 
   pub place_start_sound : (kind : ActivityKind) (t u : ℕ) → place_start w kind t ≡ Ok u → PlacedStart w kind t u
   place_start_sound Task t u e =
-      at_start Task t u (λ p. clash (cc)) (sym (place_start_task w Task t refl) ∙ e)
+      at_start Task t u (λ p. clash (cc)) (sym (place_start_at_start w Task t (inl refl)) ∙ e)
   place_start_sound StartMilestone t u e =
-      at_start StartMilestone t u (λ p. clash (cc)) (sym (place_start_start w StartMilestone t refl) ∙ e)
+      at_start StartMilestone t u (λ p. clash (cc)) (sym (place_start_at_start w StartMilestone t (inr refl)) ∙ e)
   place_start_sound FinishMilestone t u e = at_finish t u (sym (place_start_finish w FinishMilestone t refl) ∙ e)
 
   pub place_start_refused : (kind : ActivityKind) (t : ℕ) (k : ClockError) → place_start w kind t ≡ Err k → k ≡ TooLong
-  place_start_refused Task t k e = next_start_refused w t k (sym (place_start_task w Task t refl) ∙ e)
-  place_start_refused StartMilestone t k e = next_start_refused w t k (sym (place_start_start w StartMilestone t refl) ∙ e)
+  place_start_refused Task t k e = next_start_refused w t k (sym (place_start_at_start w Task t (inl refl)) ∙ e)
+  place_start_refused StartMilestone t k e = next_start_refused w t k (sym (place_start_at_start w StartMilestone t (inr refl)) ∙ e)
   place_start_refused FinishMilestone t k e = next_finish_refused w t k (sym (place_start_finish w FinishMilestone t refl) ∙ e)
 
   -- ---- finish of, and start of: advance and retreat, which stay within the end of years where they begin within it

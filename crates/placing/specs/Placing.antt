@@ -17,6 +17,12 @@ use Rattle.placing.specs.declared.Actual.TheVariants.{Unstarted, Begun, Complete
 abbrev pub midnight_of : Date → ℕ
 midnight_of d = midnight (biased d.0)
 
+-- "status (0, 1, 2)": how far the work has come
+abbrev pub status_of : Actual → ℕ
+status_of Unstarted = 0
+status_of (Begun s) = 1
+status_of (Completed s f) = 2
+
 -- ---- refusals travel: what follows a walk is made where the walk answers
 abbrev pub via : {A : Type 0} → (ClockError → A) → Result ℕ ClockError → (ℕ → A) → A
 via refused (Ok t) go = go t

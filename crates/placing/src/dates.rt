@@ -1,5 +1,5 @@
 // Days as times on the activity's own calendar: a constraint's, and those that are recorded of its work.
-ghost use Rattle.std.specs.Prelude.{◌≡◌, ℕ, ◌+◌, ◌/◌, Ok, Err, Some, None};
+ghost use Rattle.std.specs.Prelude.{◌≡◌, ◌+◌, ◌/◌, Ok, Err, Some, None};
 ghost use Rattle.clock.specs.On.{worked_by};
 ghost use Rattle.worktime.specs.Walks.{reads, previous_finish};
 ghost use Rattle.project.specs.Status.{on_start};
@@ -16,19 +16,9 @@ fn start_of_day(calendar: &Calendar, day: Date) -> Result<u64, ClockError>
     ensures { result ≡ reads Err (midnight_of day / 1440) (Ok (day_start (worked_by calendar.now) (midnight_of day))) }
 {
     let t = day.midnight();
-    let d = t / 1440;
-    if date::in_years(d) {
-        let hours = calendar::periods_on(calendar, d);
-        match calendar::day_next(hours, calendar.exceptions.sheet, 0) {
-            Some(m) => {
-                return Ok(t + m);
-            },
-            None => {
-                return Ok(t);
-            },
-        }
-    }
-    Err(ClockError::TooLong)
+    let d = worktime::read_day(t / 1440)?;
+    let hours = calendar.hours_on(d);
+    Ok(t + hours.next_minute(0).unwrap_or(0))
 }
 
 // The last finish by the end of a day.
@@ -42,13 +32,11 @@ fn finish_by_day(calendar: &Calendar, day: Date) -> Result<u64, ClockError>
 fn moment_of(walk: Result<u64, ClockError>) -> Result<Option<u64>, ClockError>
     ensures { result ≡ moment_of walk }
 {
-    let t = walk?;
-    Ok(Some(t))
+    walk.map(Some)
 }
 
 // The time that a constraint holds its end to, if it bounds one.
 pub fn constraint_time(
-    activity: Activity,
     calendar: &Calendar,
     constraint: Option<Constraint>,
 ) -> Result<Option<u64>, ClockError>
@@ -58,14 +46,8 @@ pub fn constraint_time(
         return Ok(None);
     };
     match end {
-        End::Start(day) => {
-            let walk = start_of_day(calendar, day);
-            moment_of(walk)
-        }
-        End::Finish(day) => {
-            let walk = finish_by_day(calendar, day);
-            moment_of(walk)
-        }
+        End::Start(day) => moment_of(start_of_day(calendar, day)),
+        End::Finish(day) => moment_of(finish_by_day(calendar, day)),
     }
 }
 
@@ -87,19 +69,13 @@ fn completed(calendar: &Calendar, start: Date, finish: Date) -> Result<Actual, C
 }
 
 // What is recorded of the activity's work: with only a finish day, it began on that day.
-pub fn actual(activity: Activity, calendar: &Calendar) -> Result<Actual, ClockError>
-    ensures { result ≡ actual (worked_by calendar.now) activity.actual_start activity.actual_finish }
+pub fn actual(activity: &Activity, calendar: &Calendar) -> Result<Actual, ClockError>
+    ensures { result ≡ actual (worked_by calendar.now) activity.now.actual_start activity.now.actual_finish }
 {
-    let first = activity.actual_start;
-    let last = activity.actual_finish;
-    match last {
-        Some(finish) => match first {
-            Some(start) => completed(calendar, start, finish),
-            None => completed(calendar, finish, finish),
-        },
-        None => match first {
-            Some(start) => begun(calendar, start),
-            None => Ok(Actual::Unstarted),
-        },
+    match (activity.actual_start, activity.actual_finish) {
+        (Some(start), Some(finish)) => completed(calendar, start, finish),
+        (None, Some(finish)) => completed(calendar, finish, finish),
+        (Some(start), None) => begun(calendar, start),
+        (None, None) => Ok(Actual::Unstarted),
     }
 }

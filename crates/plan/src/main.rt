@@ -1,18 +1,21 @@
 // The program of document 01: a plan sheet on standard input, its dates or its refusal on standard output.
 #![tactic(auto)]
 
-ghost use Rattle.std.specs.Prelude.{◌<◌, length};
+ghost use Rattle.std.specs.Prelude.{◌≡◌, ◌^◌, ◌<◌, length};
+ghost use Rattle.number.specs.Zed.{dn};
 
 use sched::{Accepted, Refusal};
 use std::io;
 
-// A number as it is shown: the least one, which has no opposite, as the next. This and the two after it stand in both `plan` and `replay`. std's `Print` promises
-// nothing of what is written, so in a library they would be public functions with no contract, and a rule of the project wants one of each.
-fn shown(z: i64) -> i64 {
+// A number as it is shown: the least one, which has no opposite, as the next. `plan` and `replay` each have it: one call of std's.
+fn shown(z: i64) -> i64
+    ensures { (dn z < 2 ^ 63 → result ≡ z) × (dn result < 2 ^ 63) }
+{
     z.max(-i64::MAX)
 }
 
-// A row's numbers, on a line.
+// A row's numbers, on a line. This and the next stand in both `plan` and `replay`: std's `Print` promises nothing of what is written, so in a library they
+// would be public functions with no contract, and a rule of the project wants one of each.
 fn print_row(rt: &impl Print, row: &[i64]) -> io::Result<()>
     requires { 0 < length row.now }
 {
@@ -31,6 +34,7 @@ fn print_rows(rt: &impl Print, results: &[i64], a: u64) -> io::Result<()> {
     Ok(())
 }
 
+// A refusal shows its number and id where a program prints it: Display for it in a library would be a public function with no contract, too.
 fn print_answer(
     rt: &impl Print,
     answer: Result<Accepted, Refusal>,
@@ -46,8 +50,9 @@ fn print_answer(
     }
 }
 
-// Memory for 64 activities and 128 links is lent.
-fn plan(rt: &impl Print, sheet: &[u8]) -> io::Result<()> {
+// Schedules a sheet and writes its answer. Memory for 64 activities and 128 links is lent.
+// `plan` and `replay` do it alike, and write other things of it.
+fn answer(rt: &impl Print, sheet: &[u8]) -> io::Result<()> {
     let mut results = [0i64; 960];
     let mut names = [0u32; 128];
     let mut work = [0i64; 6144];
@@ -61,5 +66,5 @@ fn main(rt: HostRuntime) -> io::Result<()> {
     if n > 16384 {
         return println!(rt; "too big");
     }
-    plan(&rt, &sheet[..n])
+    answer(&rt, &sheet[..n])
 }

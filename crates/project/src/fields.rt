@@ -1,4 +1,5 @@
 // What stands at a place of the sheet: a day, minutes of work left, a constraint.
+// These take a place: which it is, only the record knows, and an array of the field's bytes would have to be cut out at each call.
 ghost use Rattle.std.specs.Prelude.{◌≡◌, ℕ, ◌+◌, ◌≤◌, length};
 ghost use Rattle.number.specs.Bytes.{byte_at};
 ghost use Rattle.project.specs.Records.{date_at, optional_date_at, remaining_at, constraint_of};
@@ -15,6 +16,7 @@ pub fn read_date(sheet: &[u8], at: usize) -> Date
 }
 
 // The number at a place, or none for the absent mark.
+#[tactic(auto, unfolding(crate::specs::Records::remaining_at))]
 fn read_optional(sheet: &[u8], at: usize) -> Option<i32>
     requires { at + 4 ≤ length sheet.now }
     ensures { result ≡ remaining_at sheet.now at }

@@ -6,9 +6,14 @@ ghost use Rattle.project.specs.Status.{is_milestone, on_start, bounds_start, sta
 
 use date::Date;
 
+mod activity_record;
 pub mod codes;
 pub mod fields;
+mod link_record;
 pub mod records;
+
+pub use activity_record::ActivityRecord;
+pub use link_record::LinkRecord;
 
 // What an activity is, as far as scheduling cares.
 #[derive(Clone, Copy)]
@@ -172,6 +177,7 @@ pub fn bounds_start(constraint: Option<Constraint>) -> bool
 }
 
 // The status that two recorded days give an activity that is no summary.
+#[tactic(auto, unfolding(crate::specs::Status::status_of))]
 pub fn status_of(actual_start: Option<Date>, actual_finish: Option<Date>) -> Status
     ensures { result ≡ status_of actual_start actual_finish }
 {

@@ -3,7 +3,7 @@ use Rattle.std.specs.Prelude.{◌≡◌, ◌≢◌, ℕ, ◌+◌, ◌<◌, Resul
 use Rattle.worktime.specs.declared.ClockError.{ClockError}
 use Rattle.placing.specs.declared.Actual.{Actual}
 use Rattle.placing.specs.declared.Actual.TheVariants.{Unstarted, Begun, Completed}
-use Rattle.placing.specs.Placing.{via}
+use Rattle.placing.specs.Placing.{status_of, via}
 use Rattle.memory.specs.State.{State, put_act}
 use Rattle.memory.specs.Fields.{work_left, recorded_as, recorded_start, recorded_finish}
 use Rattle.topology.specs.Frame.{Frame}
@@ -16,9 +16,7 @@ use Rattle.dates.specs.Standing.{actual_in}
 
 -- ---- the three cells of what is recorded
 abbrev pub how_of : Actual → ℕ
-how_of Unstarted = 0
-how_of (Begun s) = 1
-how_of (Completed s f) = 2
+how_of a = status_of a
 
 abbrev pub start_of : Actual → ℕ
 start_of Unstarted = 0

@@ -7,20 +7,18 @@ ghost use Rattle.memory.specs.Seen.{state, SameSlice};
 ghost use Rattle.topology.specs.Frame.{Frame};
 ghost use Rattle.order.specs.Plan.{plan_in};
 ghost use Rattle.order.specs.Ids.{summary};
-ghost use Rattle.order.specs.Ties.{calendar_of};
 ghost use Rattle.passes.specs.Plan.{full};
 ghost use Rattle.passes.specs.Forward.{since_start, still_left, left_by};
 ghost use Rattle.passes.specs.Run.{remaining};
-ghost use Rattle.calendars.specs.Calendars.{InPlan, Places};
+ghost use Rattle.calendars.specs.Calendars.{Own};
 ghost use Rattle.dates.specs.Columns.{left_in, ended};
 ghost use Rattle.dates.specs.Standing.{Ready, Recorded};
 ghost use Rattle.dates.specs.Bounds.{ActualBelow};
-ghost use Rattle.remaining.specs.Rows.{how_of, start_of, finish_of, kept, Row};
+ghost use Rattle.remaining.specs.Rows.{start_of, finish_of, kept, Row};
 
-use calendar::Calendar;
 use calendars::PlanSheet;
 use memory::Tables;
-use placing::Actual;
+use placing::{Actual, Work};
 use project::{Activity, Status};
 use sheet::Sheet;
 use worktime::ClockError;
@@ -36,71 +34,41 @@ fn minutes_of(minutes: i32) -> u64
 }
 
 // The minutes less the work from the recorded start to the data day; all of them without a data day.
-fn since_start(
-    sheet: &Sheet,
-    i: usize,
-    calendar: &Calendar,
-    start: u64,
-    whole: u64,
-) -> Result<u64, ClockError>
-    requires { InPlan sheet.now (calendar_of (plan_in sheet.now) i) calendar.now × (whole ≡ full (plan_in sheet.now) i) }
+// `Own` and `full` stand here and at its callers: they relate the work to the sheet and to the place `i`, which a type of the work would have to hold too.
+fn since_start(sheet: &Sheet, i: usize, work: &Work, start: u64) -> Result<u64, ClockError>
+    requires { Own sheet.now i work.now.activity work.now.calendar × (work.now.left ≡ full (plan_in sheet.now) i) }
     ensures { result ≡ since_start (plan_in sheet.now) i start (plan_in sheet.now).project.data_date }
 {
-    match project::fields::read_optional_date(sheet.bytes, 5) {
-        None => Ok(whole),
+    match sheet.data_date() {
+        None => Ok(work.left),
         Some(day) => {
             let by = day.midnight().max(start);
-            let done = clock::between(calendar, start, by)?;
-            Ok(whole.saturating_sub(number::sign::upward(done)))
+            let done = clock::between(&work.calendar, start, by)?;
+            Ok(work.left.saturating_sub(number::sign::upward(done)))
         }
     }
 }
 
 // The work left of work under way: what the activity tells, else its minutes less the work done by the data day.
-fn still_left(
-    sheet: &Sheet,
-    i: usize,
-    activity: Activity,
-    calendar: &Calendar,
-    start: u64,
-    whole: u64,
-) -> Result<u64, ClockError>
-    requires { (activity ≡ (plan_in sheet.now).activity i) × InPlan sheet.now (calendar_of (plan_in sheet.now) i) calendar.now × (whole ≡ full (plan_in sheet.now) i) }
+fn still_left(sheet: &Sheet, i: usize, work: &Work, start: u64) -> Result<u64, ClockError>
+    requires { Own sheet.now i work.now.activity work.now.calendar × (work.now.left ≡ full (plan_in sheet.now) i) }
     ensures { result ≡ still_left (plan_in sheet.now) i start ((plan_in sheet.now).activity i).remaining }
 {
-    match activity.remaining {
+    match work.activity.remaining {
         Some(minutes) => Ok(minutes_of(minutes).min(MOST)),
-        None => since_start(sheet, i, calendar, start, whole),
+        None => since_start(sheet, i, work, start),
     }
 }
 
-// The work left by what is recorded: all of it where work has not begun, none once it is completed.
-fn left_of(
-    sheet: &Sheet,
-    i: usize,
-    activity: Activity,
-    calendar: &Calendar,
-    actual: Actual,
-    whole: u64,
-) -> Result<u64, ClockError>
-    requires { (activity ≡ (plan_in sheet.now).activity i) × InPlan sheet.now (calendar_of (plan_in sheet.now) i) calendar.now × (whole ≡ full (plan_in sheet.now) i) }
+// The work left by what is recorded, where `work` has all minutes of the activity: all of it where work has not begun, none once it is completed.
+fn left_of(sheet: &Sheet, i: usize, work: &Work, actual: Actual) -> Result<u64, ClockError>
+    requires { Own sheet.now i work.now.activity work.now.calendar × (work.now.left ≡ full (plan_in sheet.now) i) }
     ensures { result ≡ left_by (plan_in sheet.now) i (Ok actual) }
 {
     match actual {
-        Actual::Unstarted => Ok(whole),
-        Actual::Begun(start) => still_left(sheet, i, activity, calendar, start, whole),
+        Actual::Unstarted => Ok(work.left),
+        Actual::Begun(start) => still_left(sheet, i, work, start),
         Actual::Completed(_, _) => Ok(0),
-    }
-}
-
-// How far the work has come, as the memory tells it: 0 unstarted, 1 begun, 2 completed.
-fn how_of(actual: Actual) -> u64
-    ensures { (result ≡ how_of actual) × (result < 3) }
-{
-    match actual {
-        Actual::Unstarted => 0,
-        Actual::Begun(_) => 1,
-        Actual::Completed(_, _) => 2,
     }
 }
 
@@ -129,7 +97,7 @@ fn keep(tables: &mut Tables, i: usize, actual: Actual, left: u64)
     requires { (i < tables.old.activities) × ActualBelow (Ok actual) × (left < 2 ^ 63) }
     ensures { (state tables.new ≡ kept (state tables.old) i actual left) × SameSlice tables.old tables.new }
 {
-    tables.put_act(i, memory::fields::RECORDED_AS, how_of(actual));
+    tables.put_act(i, memory::fields::RECORDED_AS, actual.status());
     tables.put_act(i, memory::fields::RECORDED_START, start_of(actual));
     tables.put_act(i, memory::fields::RECORDED_FINISH, finish_of(actual));
     tables.put_act(i, memory::fields::WORK_LEFT, left);
@@ -146,10 +114,13 @@ fn record_dated(
     requires { (tables.old.activities ≡ plan.now.sheet.contents.activities) × (i < plan.now.sheet.contents.activities) × (activity ≡ (plan_in plan.now.sheet).activity i) × (summary (plan_in plan.now.sheet) i ≡ false) × (whole ≡ full (plan_in plan.now.sheet) i) × (whole < 2 ^ 63) }
     ensures { Row (plan_in plan.now.sheet) i (state tables.old) (state tables.new) result × SameSlice tables.old tables.new }
 {
-    let k = activity.calendar as usize;
-    let calendar = plan.calendar(k);
-    let actual = placing::dates::actual(activity, &calendar)?;
-    let left = left_of(&plan.sheet, i, activity, &calendar, actual, whole)?;
+    let work = Work {
+        activity,
+        calendar: plan.calendar(activity.calendar as usize),
+        left: whole,
+    };
+    let actual = placing::dates::actual(&work.activity, &work.calendar)?;
+    let left = left_of(&plan.sheet, i, &work, actual)?;
     keep(tables, i, actual, left);
     Ok(())
 }
@@ -168,12 +139,13 @@ fn record_one(plan: &PlanSheet, tables: &mut Tables, i: usize) -> Result<(), Clo
     let whole = minutes_of(activity.minutes);
     let first = activity.actual_start;
     let last = activity.actual_finish;
-    let status = project::status_of(first, last);
-    let Status::NotStarted = status else {
-        return record_dated(plan, tables, i, activity, whole);
-    };
-    keep(tables, i, Actual::Unstarted, whole);
-    Ok(())
+    match project::status_of(first, last) {
+        Status::NotStarted => {
+            keep(tables, i, Actual::Unstarted, whole);
+            Ok(())
+        }
+        Status::InProgress | Status::Completed => record_dated(plan, tables, i, activity, whole),
+    }
 }
 
 // Places the recorded dates and finds the work left of all activities, in sheet order.

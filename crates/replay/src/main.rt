@@ -2,19 +2,22 @@
 // expected, the Rust's answers, come from tools/replay_cases.py.
 #![tactic(auto)]
 
-ghost use Rattle.std.specs.Prelude.{◌≤◌, ◌<◌, length};
+ghost use Rattle.std.specs.Prelude.{◌≡◌, ◌^◌, ◌≤◌, ◌<◌, length};
+ghost use Rattle.number.specs.Zed.{dn};
 
 use sched::{Accepted, Refusal};
 use std::io::Read;
 use std::{fs, io};
 
-// A number as it is shown: the least one, which has no opposite, as the next. This and the two after it stand in both `plan` and `replay`. std's `Print` promises
-// nothing of what is written, so in a library they would be public functions with no contract, and a rule of the project wants one of each.
-fn shown(z: i64) -> i64 {
+// A number as it is shown: the least one, which has no opposite, as the next. `plan` and `replay` each have it: one call of std's.
+fn shown(z: i64) -> i64
+    ensures { (dn z < 2 ^ 63 → result ≡ z) × (dn result < 2 ^ 63) }
+{
     z.max(-i64::MAX)
 }
 
-// A row's numbers, on a line.
+// A row's numbers, on a line. This and the next stand in both `plan` and `replay`: std's `Print` promises nothing of what is written, so in a library they
+// would be public functions with no contract, and a rule of the project wants one of each.
 fn print_row(rt: &impl Print, row: &[i64]) -> io::Result<()>
     requires { 0 < length row.now }
 {
@@ -33,7 +36,8 @@ fn print_rows(rt: &impl Print, results: &[i64], a: u64) -> io::Result<()> {
     Ok(())
 }
 
-// Where the first 0 stands, or the end.
+// Where the first 0 stands, by std's `position`, or the end. `check_cases` and `replay` each have this: std's call is all that it does, and no library below
+// them is about names.
 fn first_zero(names: &[u32]) -> usize
     ensures { result ≤ length names.now }
 {
@@ -87,8 +91,9 @@ fn print_answer(
     }
 }
 
-// Memory for 64 activities and 128 links is lent.
-fn plan(rt: &impl Print, sheet: &[u8]) -> io::Result<()> {
+// Schedules a sheet and writes its answer. Memory for 64 activities and 128 links is lent.
+// `plan` and `replay` do it alike, and write other things of it.
+fn answer(rt: &impl Print, sheet: &[u8]) -> io::Result<()> {
     let mut results = [0i64; 960];
     let mut names = [0u32; 128];
     let mut work = [0i64; 6144];
@@ -102,7 +107,7 @@ fn replay_sheet(rt: &impl Print, file: &mut impl Read, sheet: &mut [u8]) -> io::
     if n < sheet.len() {
         return Ok(false);
     }
-    plan(rt, sheet)?;
+    answer(rt, sheet)?;
     Ok(true)
 }
 

@@ -9,6 +9,7 @@ ghost use Rattle.rest.specs.Stands.{of_activity, of_link, Cleared, ColumnsCleare
 use memory::{Tables, fields};
 
 // Makes the cells from `from` up to `to` 0.
+// A function of its own: its contract says of each cell what it holds, where that of `cells::fill` is a run of stores, and five calls need the former.
 fn clear_cells(work: &mut [i64], from: usize, to: usize)
     requires { (from ≤ to) × (to ≤ length work.old) }
     ensures { Cleared from to work.old work.new }

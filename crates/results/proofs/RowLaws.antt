@@ -26,6 +26,7 @@ use Rattle.dates.specs.Standing.{Ready, Recorded}
 use Rattle.dates.specs.FineLaws.{checked_fine}
 use Rattle.dates.specs.KeptLaws.{recorded_kept}
 use Rattle.results.specs.declared.Shown.{Shown}
+use Rattle.results.specs.declared.row.ShownRow.{ShownRow}
 use Rattle.results.specs.declared.Times.{Times}
 use Rattle.results.specs.Results.{shown, shown_below}
 use Rattle.results.specs.View.{ran_in, times_in, shown_to, put_shown}
@@ -85,10 +86,10 @@ module _ (p : Plan) where
         path = ap (ltb 0) (kept longest_path (omega arith)) z;
       }
 
-pub next_done : (S : State) (i : ℕ) (r : Result Shown ClockError) (x : Shown) (T : State) → r ≡ Ok x → T ≡ put_shown S i x → ended (shown_to (i + 1) T) (Ok tt) ≡ shown_next (showing r) (shown_to i S) i
-next_done S i r x T e f = rw (e, f) (ap leaves (to_more i S x))
+pub next_done : (S : State) (i : ℕ) (r : Result ShownRow ClockError) (x : ShownRow) (T : State) → r ≡ Ok x → T ≡ put_shown S i x.shown → ended (shown_to (i + 1) T) (Ok tt) ≡ shown_next (showing r) (shown_to i S) i
+next_done S i r x T e f = rw (e, f) (ap leaves (to_more i S x.shown))
 
-pub next_refused : (S : State) (i : ℕ) (r : Result Shown ClockError) (k : ClockError) (T : State) → r ≡ Err k → ended (shown_to (i + 1) T) (Err k) ≡ shown_next (showing r) (shown_to i S) i
+pub next_refused : (S : State) (i : ℕ) (r : Result ShownRow ClockError) (k : ClockError) (T : State) → r ≡ Err k → ended (shown_to (i + 1) T) (Err k) ≡ shown_next (showing r) (shown_to i S) i
 next_refused S i r k T e = rw e
 
 pub shown_frame : (S : State) (i : ℕ) (x : Shown) → Frame 20 30 0 0 S (put_shown S i x)

@@ -2,6 +2,7 @@
 pub mod Results
 pub mod Rows
 pub mod View
+pub mod Holds
 pub mod Showing
 pub mod ViewLaws
 pub mod Row

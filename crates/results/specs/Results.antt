@@ -6,6 +6,7 @@ use Rattle.project.specs.declared.ActivityKind.{ActivityKind}
 use Rattle.project.specs.declared.ActivityKind.TheVariants.{Task, StartMilestone, FinishMilestone}
 use Rattle.placing.specs.declared.Actual.{Actual}
 use Rattle.placing.specs.declared.Actual.TheVariants.{Unstarted, Begun, Completed}
+use Rattle.placing.specs.Placing.{status_of}
 use Rattle.network.specs.ParentLinks.{depth}
 use Rattle.order.specs.Plan.{Plan}
 use Rattle.order.specs.Ids.{parent_of, summary}
@@ -30,9 +31,7 @@ finish_minute FinishMilestone m t = t - 1
 
 -- "status (0, 1, 2)"
 abbrev pub status_number : Result Actual ClockError → ℕ
-status_number (Ok Unstarted) = 0
-status_number (Ok (Begun s)) = 1
-status_number (Ok (Completed s f)) = 2
+status_number (Ok a) = status_of a
 status_number (Err k) = 0
 
 -- a day that is shown lies in the years that may be read
@@ -41,7 +40,7 @@ shown_day t go = reads refused (t / 1440) (go (t / 1440))
 
 -- past the activities
 abbrev pub nothing : Shown
-nothing = record { es = 0; ef = 0; ls = 0; lf = 0; total = pos 0; free = 0; critical = false; path = false; finish = 0; late = 0 }
+nothing = record { days = record { es = 0; ef = 0; ls = 0; lf = 0 }; total = pos 0; free = 0; critical = false; path = false; finish = 0; late = 0 }
 
 -- "A completed activity has no float"
 abbrev pub total_by : Result Actual ClockError → ℤ → ℤ
@@ -78,10 +77,7 @@ module _ (p : Plan) (r : Ran) where
       (λ ls. shown_day (finish_minute (kind_of p i) (r.early.left i) (r.late.lf i))
       (λ lf.
       leaves (record {
-        es = es;
-        ef = ef;
-        ls = ls;
-        lf = lf;
+        days = record { es = es; ef = ef; ls = ls; lf = lf };
         total = total_of i finish_float start_float;
         free = r.free i;
         critical = not (is_completed p (recorded p i)) && critical_by p i p.project.critical_by (total_of i finish_float start_float) (r.path i);
@@ -121,10 +117,12 @@ module _ (p : Plan) (r : Ran) where
       leaves
       (put f s
       (record {
-        es = least_of (λ k. (f k).es) (f c).es cs;
-        ef = greatest_of (λ k. (f k).ef) (f c).ef cs;
-        ls = least_of (λ k. (f k).ls) (f c).ls cs;
-        lf = greatest_of (λ k. (f k).lf) (f c).lf cs;
+        days = record {
+          es = least_of (λ k. (f k).days.es) (f c).days.es cs;
+          ef = greatest_of (λ k. (f k).days.ef) (f c).days.ef cs;
+          ls = least_of (λ k. (f k).days.ls) (f c).days.ls cs;
+          lf = greatest_of (λ k. (f k).days.lf) (f c).days.lf cs;
+        };
         total = total;
         free = 0;
         critical = critical_by p s p.project.critical_by total (some_of (λ k. (f k).path) (c ∷ cs));
@@ -142,4 +140,4 @@ module _ (p : Plan) (r : Ran) where
   -- "finish day": the greatest early finish day, and not before the start
   unfoldable pub finish_day : (ℕ → Shown) → ℕ → ℕ
   finish_day f zero = origin p / 1440
-  finish_day f (suc n) = max (finish_day f n) (f n).ef
+  finish_day f (suc n) = max (finish_day f n) (f n).days.ef

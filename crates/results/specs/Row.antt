@@ -16,6 +16,7 @@ use Rattle.results.specs.Showing.{shown_from}
 use Rattle.calendars.specs.declared.plan_sheet.PlanSheet.{PlanSheet}
 
 -- a sheet that was read, its calendars' places and day lengths, each activity's calendar among them, and the recorded work in the memory
+-- a clause, and no type's field: it relates the tables, which are written, to the plan
 pub record ToShow (plan : PlanSheet) (tables : Tables) : Type 0 where
   pub activities : tables.activities ≡ plan.sheet.contents.activities
   pub links : tables.links ≡ plan.sheet.contents.links

@@ -21,7 +21,7 @@ module _ (p : Plan) (r : Ran) (f : ℕ → Shown) where
 
   unfoldable pub row_of : ℕ → List ℤ
   row_of i =
-      pos (id_of p i) ∷ signed_day_of (f i).es ∷ signed_day_of (f i).ef ∷ signed_day_of (f i).ls ∷ signed_day_of (f i).lf ∷ in_days p i (f i).total
+      pos (id_of p i) ∷ signed_day_of (f i).days.es ∷ signed_day_of (f i).days.ef ∷ signed_day_of (f i).days.ls ∷ signed_day_of (f i).days.lf ∷ in_days p i (f i).total
       ∷ in_days p i (pos (f i).free) ∷ (f i).total ∷ pos (f i).free ∷ pos (bit (f i).critical) ∷ pos (bit (f i).path)
       ∷ pos (status_number (recorded p i)) ∷ pos (r.early.left i) ∷ minute_of i (r.early.es i) ∷ minute_of i (r.early.ef i) ∷ []
 

@@ -1,5 +1,5 @@
 -- What is shown of an activity, in the parts that the code computes: its total float, its four days and whether it is critical.
-use Rattle.std.specs.Prelude.{Bool, true, false, ◌&&◌, not, ℕ, ◌/◌, ◌<◌, ◌^◌, ℤ, pos, ◌*ℤ◌, Result, Ok, Err}
+use Rattle.std.specs.Prelude.{Bool, true, false, ◌&&◌, not, ℕ, ◌/◌, ℤ, pos, ◌*ℤ◌, Result, Ok, Err}
 use Rattle.worktime.specs.declared.ClockError.{ClockError}
 use Rattle.worktime.specs.declared.ClockError.TheVariants.{TooLong}
 use Rattle.std.specs.Int.Signed.{le_z}
@@ -16,34 +16,15 @@ use Rattle.passes.specs.Plan.{begun}
 use Rattle.passes.specs.Dates.{Pass, leaves, refused}
 use Rattle.passes.specs.Floats.{measured, float_by, is_completed}
 use Rattle.results.specs.declared.Shown.{Shown}
+use Rattle.results.specs.declared.row.ShownRow.{ShownRow}
 use Rattle.results.specs.declared.Times.{Times}
 use Rattle.results.specs.declared.Days.{Days}
 use Rattle.results.specs.Results.{start_minute, finish_minute, total_by}
 
 -- the code's answer as the definition's
-abbrev pub showing : Result Shown ClockError → Pass Shown
-showing (Ok x) = leaves x
+abbrev pub showing : Result ShownRow ClockError → Pass Shown
+showing (Ok x) = leaves x.shown
 showing (Err k) = refused k
-
--- what memory can hold
-pub record Holds (x : Shown) : Type 0 where
-  pub es : x.es < 2 ^ 63
-  pub ef : x.ef < 2 ^ 63
-  pub ls : x.ls < 2 ^ 63
-  pub lf : x.lf < 2 ^ 63
-  pub free : x.free < 2 ^ 63
-  pub finish : x.finish < 2 ^ 63
-  pub late : x.late < 2 ^ 63
-
-pub record DaysHold (d : Days) : Type 0 where
-  pub es : d.es < 2 ^ 63
-  pub ef : d.ef < 2 ^ 63
-  pub ls : d.ls < 2 ^ 63
-  pub lf : d.lf < 2 ^ 63
-
-abbrev pub HoldsIf : Result Shown ClockError → Type 0
-HoldsIf (Ok x) = Holds x
-HoldsIf (Err k) = Unit {0}
 
 -- all four days lie in the years that may be read
 abbrev pub all_in_years : Days → Bool
@@ -79,10 +60,7 @@ module _ (p : Plan) where
 
   abbrev pub shown_of : Days → ℤ → Bool → Times → Shown
   shown_of d total critical t = record {
-    es = d.es;
-    ef = d.ef;
-    ls = d.ls;
-    lf = d.lf;
+    days = d;
     total = total;
     free = t.free;
     critical = critical;

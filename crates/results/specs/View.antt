@@ -39,26 +39,23 @@ times_in S i = record {
 }
 
 -- what is shown of an activity, in its row
-abbrev pub shown_at : State → ℕ → Shown
-shown_at S i = record {
-  es = S.act shown_start i;
-  ef = S.act shown_finish i;
-  ls = S.act shown_late_start i;
-  lf = S.act shown_late_finish i;
-  total = S.act_z total_float i;
-  free = S.act shown_free i;
-  critical = ltb 0 (S.act is_critical i);
-  path = ltb 0 (S.act is_longest i);
-  finish = S.act greatest_finish i;
-  late = S.act greatest_late i;
-}
-
 abbrev pub days_in : State → ℕ → Days
 days_in S i = record {
   es = S.act shown_start i;
   ef = S.act shown_finish i;
   ls = S.act shown_late_start i;
   lf = S.act shown_late_finish i;
+}
+
+abbrev pub shown_at : State → ℕ → Shown
+shown_at S i = record {
+  days = days_in S i;
+  total = S.act_z total_float i;
+  free = S.act shown_free i;
+  critical = ltb 0 (S.act is_critical i);
+  path = ltb 0 (S.act is_longest i);
+  finish = S.act greatest_finish i;
+  late = S.act greatest_late i;
 }
 
 -- what is shown of the first n activities
@@ -70,7 +67,7 @@ shown_in p S = shown_to p.activities S
 
 -- the row with x in it
 abbrev pub put_days : State → ℕ → Shown → State
-put_days S i x = put_act (put_act (put_act (put_act S shown_start i x.es) shown_finish i x.ef) shown_late_start i x.ls) shown_late_finish i x.lf
+put_days S i x = put_act (put_act (put_act (put_act S shown_start i x.days.es) shown_finish i x.days.ef) shown_late_start i x.days.ls) shown_late_finish i x.days.lf
 
 abbrev pub put_floats : State → ℕ → Shown → State
 put_floats S i x = put_act (put_act (put_act (put_act_z S total_float i x.total) shown_free i x.free) is_critical i (bit x.critical)) is_longest i (bit x.path)

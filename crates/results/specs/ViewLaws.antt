@@ -21,10 +21,7 @@ use Rattle.results.specs.View.{ran_in, times_of, times_in, shown_at, shown_to, p
 module _ (S : State) (i : ℕ) (x : Shown) where
   pub shown_here : shown_at (put_shown S i x) i ≡ x
   shown_here = rw (eq-eqb i i refl) (λ z. record {
-    es = x.es;
-    ef = x.ef;
-    ls = x.ls;
-    lf = x.lf;
+    days = x.days;
     total = x.total;
     free = x.free;
     critical = mark_flag x.critical refl z;

@@ -12,7 +12,8 @@ ghost use Rattle.dates.specs.Columns.{ended};
 ghost use Rattle.results.specs.Row.{ToShow, row_shown};
 ghost use Rattle.results.specs.RowLaws.{shown_next};
 ghost use Rattle.results.specs.View.{ran_in, shown_to, shown_at, days_in, times_in, put_days, put_floats, put_bounds, put_shown};
-ghost use Rattle.results.specs.Showing.{Holds, DaysHold, HoldsIf, showing, all_in_years, critical_in, total_work, days_of, critical_of, shown_from};
+ghost use Rattle.results.specs.Holds.{DaysHold};
+ghost use Rattle.results.specs.Showing.{showing, all_in_years, critical_in, total_work, days_of, critical_of, shown_from};
 
 use calendar::Calendar;
 use calendars::PlanSheet;
@@ -21,13 +22,23 @@ use placing::Actual;
 use project::{ActivityKind, CriticalBy, FloatKind, Project};
 use worktime::ClockError;
 
-// Days counted from the first that an i32 can name, floats in minutes, and for the roll-up the early and the late finish.
+mod row;
+
+pub use row::ShownRow;
+
+// The days that are shown, counted from the first that an i32 can name.
 #[derive(Clone, Copy)]
-pub struct Shown {
+pub struct Days {
     pub es: u64,
     pub ef: u64,
     pub ls: u64,
     pub lf: u64,
+}
+
+// What is shown of an activity: its days, its floats in minutes, its flags, and for the roll-up its early and its late finish.
+#[derive(Clone, Copy)]
+pub struct Shown {
+    pub days: Days,
     pub total: i64,
     pub free: u64,
     pub critical: bool,
@@ -46,15 +57,6 @@ pub struct Times {
     pub lf: u64,
     pub free: u64,
     pub path: bool,
-}
-
-// The days that are shown.
-#[derive(Clone, Copy)]
-pub struct Days {
-    pub es: u64,
-    pub ef: u64,
-    pub ls: u64,
-    pub lf: u64,
 }
 
 // ---- total float
@@ -164,9 +166,9 @@ fn shown_of(
     actual: Actual,
     t: Times,
     calendar: &Calendar,
-) -> Result<Shown, ClockError>
+) -> Result<ShownRow, ClockError>
     requires { (day_length ≤ 1440) × (t.ef < 2 ^ 63) × (t.lf < 2 ^ 63) × (t.free < 2 ^ 63) }
-    ensures { ((p : Plan) → showing result ≡ shown_from p project kind day_length (worked_by calendar.now) (Ok actual) t) × HoldsIf result }
+    ensures { (p : Plan) → showing result ≡ shown_from p project kind day_length (worked_by calendar.now) (Ok actual) t }
 {
     let float = project.float_kind;
     let by = project.critical_by;
@@ -176,18 +178,15 @@ fn shown_of(
         return Err(ClockError::TooLong);
     }
     let critical = critical_of(actual, by, day_length, total, t.path);
-    Ok(Shown {
-        es: days.es,
-        ef: days.ef,
-        ls: days.ls,
-        lf: days.lf,
+    Ok(ShownRow::new(Shown {
+        days,
         total,
         free: t.free,
         critical,
         path: t.path,
         finish: t.ef,
         late: t.lf,
-    })
+    }))
 }
 
 // ---- an activity's row of the memory
@@ -225,63 +224,61 @@ fn days_at(tables: &Tables, i: usize) -> Days
 }
 
 // What is shown of activity `i`, from its row.
-pub fn shown_at(tables: &Tables, i: usize) -> Shown
+pub fn shown_at(tables: &Tables, i: usize) -> ShownRow
     requires { i < tables.now.activities }
-    ensures { (result ≡ shown_at (state tables.now) i) × Holds result }
+    ensures { result.shown ≡ shown_at (state tables.now) i }
 {
-    let d = days_at(tables, i);
+    let days = days_at(tables, i);
     let total = tables.act_signed(i, memory::fields::TOTAL_FLOAT);
     let free = tables.act(i, memory::fields::SHOWN_FREE);
     let critical = tables.act(i, memory::fields::IS_CRITICAL) > 0;
     let path = tables.act(i, memory::fields::IS_LONGEST) > 0;
     let finish = tables.act(i, memory::fields::GREATEST_FINISH);
     let late = tables.act(i, memory::fields::GREATEST_LATE);
-    Shown {
-        es: d.es,
-        ef: d.ef,
-        ls: d.ls,
-        lf: d.lf,
+    ShownRow::new(Shown {
+        days,
         total,
         free,
         critical,
         path,
         finish,
         late,
-    }
+    })
 }
 
-fn put_days(tables: &mut Tables, i: usize, x: Shown)
-    requires { (i < tables.old.activities) × Holds x }
-    ensures { (state tables.new ≡ put_days (state tables.old) i x) × SameSlice tables.old tables.new }
+fn put_days(tables: &mut Tables, i: usize, x: &ShownRow)
+    requires { i < tables.old.activities }
+    ensures { (state tables.new ≡ put_days (state tables.old) i x.now.shown) × SameSlice tables.old tables.new }
 {
-    tables.put_act(i, memory::fields::SHOWN_START, x.es);
-    tables.put_act(i, memory::fields::SHOWN_FINISH, x.ef);
-    tables.put_act(i, memory::fields::SHOWN_LATE_START, x.ls);
-    tables.put_act(i, memory::fields::SHOWN_LATE_FINISH, x.lf);
+    let days = x.shown.days;
+    tables.put_act(i, memory::fields::SHOWN_START, days.es);
+    tables.put_act(i, memory::fields::SHOWN_FINISH, days.ef);
+    tables.put_act(i, memory::fields::SHOWN_LATE_START, days.ls);
+    tables.put_act(i, memory::fields::SHOWN_LATE_FINISH, days.lf);
 }
 
-fn put_floats(tables: &mut Tables, i: usize, x: Shown)
-    requires { (i < tables.old.activities) × Holds x }
-    ensures { (state tables.new ≡ put_floats (state tables.old) i x) × SameSlice tables.old tables.new }
+fn put_floats(tables: &mut Tables, i: usize, x: &ShownRow)
+    requires { i < tables.old.activities }
+    ensures { (state tables.new ≡ put_floats (state tables.old) i x.now.shown) × SameSlice tables.old tables.new }
 {
-    tables.put_act_signed(i, memory::fields::TOTAL_FLOAT, x.total);
-    tables.put_act(i, memory::fields::SHOWN_FREE, x.free);
-    tables.put_act(i, memory::fields::IS_CRITICAL, u64::from(x.critical));
-    tables.put_act(i, memory::fields::IS_LONGEST, u64::from(x.path));
+    tables.put_act_signed(i, memory::fields::TOTAL_FLOAT, x.shown.total);
+    tables.put_act(i, memory::fields::SHOWN_FREE, x.shown.free);
+    tables.put_act(i, memory::fields::IS_CRITICAL, u64::from(x.shown.critical));
+    tables.put_act(i, memory::fields::IS_LONGEST, u64::from(x.shown.path));
 }
 
-fn put_bounds(tables: &mut Tables, i: usize, x: Shown)
-    requires { (i < tables.old.activities) × Holds x }
-    ensures { (state tables.new ≡ put_bounds (state tables.old) i x) × SameSlice tables.old tables.new }
+fn put_bounds(tables: &mut Tables, i: usize, x: &ShownRow)
+    requires { i < tables.old.activities }
+    ensures { (state tables.new ≡ put_bounds (state tables.old) i x.now.shown) × SameSlice tables.old tables.new }
 {
-    tables.put_act(i, memory::fields::GREATEST_FINISH, x.finish);
-    tables.put_act(i, memory::fields::GREATEST_LATE, x.late);
+    tables.put_act(i, memory::fields::GREATEST_FINISH, x.shown.finish);
+    tables.put_act(i, memory::fields::GREATEST_LATE, x.shown.late);
 }
 
 // Puts what is shown into the row of activity `i`.
-pub fn put_shown(tables: &mut Tables, i: usize, x: Shown)
-    requires { (i < tables.old.activities) × Holds x }
-    ensures { (state tables.new ≡ put_shown (state tables.old) i x) × SameSlice tables.old tables.new }
+pub fn put_shown(tables: &mut Tables, i: usize, x: &ShownRow)
+    requires { i < tables.old.activities }
+    ensures { (state tables.new ≡ put_shown (state tables.old) i x.now.shown) × SameSlice tables.old tables.new }
 {
     put_days(tables, i, x);
     put_floats(tables, i, x);
@@ -289,15 +286,16 @@ pub fn put_shown(tables: &mut Tables, i: usize, x: Shown)
 }
 
 // ---- all activities
-// What is shown of activity `i`, on its own calendar.
+// What is shown of activity `i`, on its own calendar. The project comes beside the plan here and in `rollup`, read once a pass, since reading it at each
+// activity costs; a struct of the two would say their one equation once, and put its own name before the plan's in every other clause.
 fn row_of(
     plan: &PlanSheet,
     project: Project,
     tables: &Tables,
     i: usize,
-) -> Result<Shown, ClockError>
+) -> Result<ShownRow, ClockError>
     requires { ToShow plan.now tables.now × (i < plan.now.sheet.contents.activities) × (project ≡ (plan_in plan.now.sheet).project) }
-    ensures { (showing result ≡ row_shown (plan_in plan.now.sheet) (state tables.now) i) × HoldsIf result }
+    ensures { showing result ≡ row_shown (plan_in plan.now.sheet) (state tables.now) i }
 {
     let activity = dates::activity_of(&plan.sheet, i);
     let kind = activity.kind;
@@ -326,7 +324,7 @@ fn show_one(
     ensures { (ended (shown_to (i + 1) (state tables.new)) result ≡ shown_next (row_shown (plan_in plan.now.sheet) (state tables.old) i) (shown_to i (state tables.old)) i) × Frame 20 30 0 0 (state tables.old) (state tables.new) × SameSlice tables.old tables.new }
 {
     let x = row_of(plan, project, tables, i)?;
-    put_shown(tables, i, x);
+    put_shown(tables, i, &x);
     Ok(())
 }
 
@@ -335,7 +333,7 @@ pub fn show_all(plan: &PlanSheet, tables: &mut Tables) -> Result<(), ClockError>
     requires { ToShow plan.now tables.old }
     ensures { ((e : ℕ) (other : ℕ → Bool) → ended (shown_to plan.now.sheet.contents.activities (state tables.new)) result ≡ shown_below (plan_in plan.now.sheet) (ran_in (plan_in plan.now.sheet) (state tables.old) e other) plan.now.sheet.contents.activities) × Frame 20 30 0 0 (state tables.old) (state tables.new) × SameSlice tables.old tables.new }
 {
-    let project = project::records::read_project(plan.sheet.bytes, 0);
+    let project = plan.sheet.project();
     for i in 0..plan.sheet.contents.activities {
         show_one(plan, project, tables, i)?;
     }

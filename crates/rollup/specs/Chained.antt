@@ -13,5 +13,6 @@ abbrev pub LinkedIn : ℕ → ℕ → ℕ → ℕ → State → Type 0
 LinkedIn key head a k S = Linked (S.act key) (S.act head) (S.act (head + 1)) a k
 
 -- every key is that of an activity, or none
+-- a clause, and no type's field: it is of a field of the tables, which are written
 abbrev pub KeysIn : ℕ → ℕ → State → Type 0
 KeysIn key a S = (j : ℕ) → j < a → S.act key j ≤ a

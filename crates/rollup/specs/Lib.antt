@@ -1,6 +1,8 @@
 -- Summaries rolled up from their children, deepest first.
 pub mod Chained
 pub mod ChainedLaws
+pub mod Children
+pub mod ChildrenLaws
 pub mod Depths
 pub mod DepthLaws
 pub mod Prepared

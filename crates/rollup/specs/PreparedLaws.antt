@@ -90,10 +90,12 @@ module _ (p : Plan) (S T : State) (parents : (i : ℕ) → i < p.activities → 
 pub shown_kept : {lo hi : ℕ} {S T : State} → 30 ≤ lo → Frame lo hi 0 0 S T → (n : ℕ) → shown_to n T ≡ shown_to n S
 shown_kept {lo} {hi} {S} {T} l F n = λ z i. elim (ltb i n) [
   | true ↦ record {
-    es = at shown_start (omega arith) i z;
-    ef = at shown_finish (omega arith) i z;
-    ls = at shown_late_start (omega arith) i z;
-    lf = at shown_late_finish (omega arith) i z;
+    days = record {
+      es = at shown_start (omega arith) i z;
+      ef = at shown_finish (omega arith) i z;
+      ls = at shown_late_start (omega arith) i z;
+      lf = at shown_late_finish (omega arith) i z;
+    };
     total = F.acts_z total_float (outside_below lo hi total_float (omega arith)) z i;
     free = at shown_free (omega arith) i z;
     critical = ltb 0 (at is_critical (omega arith) i z);

@@ -12,10 +12,12 @@ use Rattle.results.specs.Showing.{critical_in}
 -- the float and what hangs on it stay the first one's: nothing reads them
 abbrev pub joined : Shown → Shown → Shown
 joined x y = record {
-  es = min x.es y.es;
-  ef = max x.ef y.ef;
-  ls = min x.ls y.ls;
-  lf = max x.lf y.lf;
+  days = record {
+    es = min x.days.es y.days.es;
+    ef = max x.days.ef y.days.ef;
+    ls = min x.days.ls y.days.ls;
+    lf = max x.days.lf y.days.lf;
+  };
   total = x.total;
   free = x.free;
   critical = x.critical;
@@ -35,10 +37,7 @@ child_sum S a s = join_all (shown_to a S) (shown_to a S (S.act first_child s)) (
 -- with the summary's own float
 abbrev pub summed : Plan → ℕ → ℤ → Shown → Shown
 summed p s total x = record {
-  es = x.es;
-  ef = x.ef;
-  ls = x.ls;
-  lf = x.lf;
+  days = x.days;
   total = total;
   free = 0;
   critical = critical_in p.project.critical_by (day_of p s) total x.path;

@@ -2,12 +2,13 @@
 use Rattle.std.specs.Prelude.{◌≡◌, Bool, ◌||◌, ◌&&◌}
 use Rattle.std.proofs.Math.Path.{refl, sym, ap}
 use Rattle.std.proofs.Common.{◌∙◌, arith, ne_eqb}
-use Rattle.std.proofs.Math.Bool.{true, false}
+use Rattle.std.proofs.Math.Bool.{true, false, or-false, or_assoc}
 use mathlib.Core.List.{List, [], ◌∷◌, ◌++◌, append-nil}
 use Prim.Native.Nat.{ℕ, zero, suc, ◌+◌, ◌-◌, ◌≤◌, ◌<◌}
 use Rattle.std.proofs.Math.Dec.{eqb}
+use Rattle.std.specs.List.{AllByRecursion}
 use Rattle.cells.specs.Chain.{keyed, after, Stands}
-use Rattle.cells.specs.ChainLaws.{after_hit, after_end}
+use Rattle.cells.specs.ChainLaws.{after_all, after_hit, after_end}
 use Rattle.worktime.specs.Walks.{between}
 use Rattle.memory.specs.State.{State}
 use Rattle.memory.specs.Fields.{parent, first_child}
@@ -78,22 +79,22 @@ module _ (p : Plan) (r : Ran) where
 
 -- ---- a sum field by field
 module _ (f : ℕ → Shown) where
-  join_es : (x : Shown) (cs : List ℕ) → (join_all f x cs).es ≡ least_of (λ k. (f k).es) x.es cs
+  join_es : (x : Shown) (cs : List ℕ) → (join_all f x cs).days.es ≡ least_of (λ k. (f k).days.es) x.days.es cs
   unfolding join_all
   join_es x [] = refl
   join_es x (c ∷ cs) = join_es (joined x (f c)) cs
 
-  join_ef : (x : Shown) (cs : List ℕ) → (join_all f x cs).ef ≡ greatest_of (λ k. (f k).ef) x.ef cs
+  join_ef : (x : Shown) (cs : List ℕ) → (join_all f x cs).days.ef ≡ greatest_of (λ k. (f k).days.ef) x.days.ef cs
   unfolding join_all
   join_ef x [] = refl
   join_ef x (c ∷ cs) = join_ef (joined x (f c)) cs
 
-  join_ls : (x : Shown) (cs : List ℕ) → (join_all f x cs).ls ≡ least_of (λ k. (f k).ls) x.ls cs
+  join_ls : (x : Shown) (cs : List ℕ) → (join_all f x cs).days.ls ≡ least_of (λ k. (f k).days.ls) x.days.ls cs
   unfolding join_all
   join_ls x [] = refl
   join_ls x (c ∷ cs) = join_ls (joined x (f c)) cs
 
-  join_lf : (x : Shown) (cs : List ℕ) → (join_all f x cs).lf ≡ greatest_of (λ k. (f k).lf) x.lf cs
+  join_lf : (x : Shown) (cs : List ℕ) → (join_all f x cs).days.lf ≡ greatest_of (λ k. (f k).days.lf) x.days.lf cs
   unfolding join_all
   join_lf x [] = refl
   join_lf x (c ∷ cs) = join_lf (joined x (f c)) cs
@@ -108,17 +109,9 @@ module _ (f : ℕ → Shown) where
   join_late x [] = refl
   join_late x (c ∷ cs) = join_late (joined x (f c)) cs
 
-  or_nil : (a : Bool) → a ≡ a || false
-  or_nil true = refl
-  or_nil false = refl
-
-  or_assoc : (a b c : Bool) → (a || b) || c ≡ a || (b || c)
-  or_assoc true b c = refl
-  or_assoc false b c = refl
-
   join_path : (x : Shown) (cs : List ℕ) → (join_all f x cs).path ≡ x.path || some_of (λ k. (f k).path) cs
   unfolding join_all
-  join_path x [] = or_nil x.path
+  join_path x [] = sym (or-false x.path)
   join_path x (c ∷ cs) = join_path (joined x (f c)) cs ∙ or_assoc x.path (f c).path (some_of (λ k. (f k).path) cs)
 
 -- a summary with children is their sum
@@ -128,10 +121,7 @@ module _ (p : Plan) (r : Ran) (f : ℕ → Shown) (s c : ℕ) (cs : List ℕ) wh
   sum_is =
       let g = join_path f (f c) cs in
       sym (λ z. measured refused (between (own p s) (join_finish f (f c) cs z) (join_late f (f c) cs z)) (λ total. leaves (put f s (record {
-        es = join_es f (f c) cs z;
-        ef = join_ef f (f c) cs z;
-        ls = join_ls f (f c) cs z;
-        lf = join_lf f (f c) cs z;
+        days = record { es = join_es f (f c) cs z; ef = join_ef f (f c) cs z; ls = join_ls f (f c) cs z; lf = join_lf f (f c) cs z };
         total = total;
         free = 0;
         critical = (sym (critical_in_lem p s p.project.critical_by total (join_all f (f c) cs).path) ∙ ap (critical_by p s p.project.critical_by total) g) z;
@@ -141,34 +131,26 @@ module _ (p : Plan) (r : Ran) (f : ℕ → Shown) (s c : ℕ) (cs : List ℕ) wh
       }))))
 
 -- ---- the walk along the children
--- the next child is k, and x is the sum so far
-pub record Sums (f : ℕ → Shown) (key : ℕ → ℕ) (a i : ℕ) (whole x : Shown) (k : ℕ) : Type 0 where
-  pub top : k ≤ a
-  pub hits : k < a → key k ≡ i
-  pub left : join_all f x (after key a i k) ≡ whole
+-- the children ks are left, and x is the sum so far
+pub record Sums (f : ℕ → Shown) (key : ℕ → ℕ) (a i : ℕ) (whole x : Shown) (ks : List ℕ) : Type 0 where
+  pub each : AllByRecursion (λ k. (k < a) × (key k ≡ i)) ks
+  pub left : join_all f x ks ≡ whole
 
 module _ (f : ℕ → Shown) (key : ℕ → ℕ) (a i : ℕ) where
-  pub sums_start : (c k : ℕ) → Stands key a i (c + 1) k → (x : Shown) → x ≡ f c → Sums f key a i (join_all f (f c) (after key a i (c + 1))) x k
-  sums_start c k T x e = record {
-    top = T.top;
-    hits = T.hits;
-    left = (λ z. join_all f (e z) (sym T.rest z));
+  pub sums_start : (c m : ℕ) → c < a → m ≡ c → (x : Shown) → x ≡ f c → Sums f key a i (join_all f (f c) (after key a i (c + 1))) x (after key a i (m + 1))
+  sums_start c m b d x e = record {
+    each = after_all key a i (m + 1) (omega arith);
+    left = (λ z. join_all f (e z) (after key a i (d z + 1)));
   }
 
-  module _ (whole x : Shown) (k : ℕ) (W : Sums f key a i whole x k) where
-    pub sums_turn : (y : Shown) (m : ℕ) → k < a → y ≡ f k → Stands key a (key k) (k + 1) m → Sums f key a i whole (joined x y) m
+  module _ (whole x : Shown) where
+    pub sums_turn : (k : ℕ) (ks : List ℕ) → Sums f key a i whole x (k ∷ ks) → (y : Shown) → y ≡ f k → Sums f key a i whole (joined x y) ks
     unfolding join_all
-    sums_turn y m b e T =
-        let c = rw (W.hits b) at T in record {
-          top = c.top;
-          hits = c.hits;
-          left =
-              (λ z. join_all f (joined x (e z)) (sym c.rest z)) ∙ sym (ap (join_all f x) (after_hit key a i k b (W.hits b))) ∙ W.left;
-        }
+    sums_turn k ks W y e = record { each = W.each.1; left = (λ z. join_all f (joined x (e z)) ks) ∙ W.left }
 
-    pub sums_end : a ≤ k → x ≡ whole
+    pub sums_end : Sums f key a i whole x [] → x ≡ whole
     unfolding join_all
-    sums_end b = sym (ap (join_all f x) (after_end key a i k b)) ∙ W.left
+    sums_end W = W.left
 
 -- ---- a summary by the first of its chain
 module _ (p : Plan) (r : Ran) (S : State) (s : ℕ) (parents : (j : ℕ) → j < p.activities → S.act parent j ≡ parent_of p j)

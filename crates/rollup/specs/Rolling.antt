@@ -19,6 +19,7 @@ unfoldable pub deep_of : Plan → ℕ → ℕ
 deep_of p j = elim (summary p j) [ true ↦ depth (parent_of p) p.activities j | false ↦ 0 ]
 
 -- parents, depths and the chains of both
+-- a clause, and no type's field: it relates the tables, which are written, to the plan
 pub record Deep (p : Plan) (S : State) : Type 0 where
   pub parents : (j : ℕ) → j < p.activities → S.act parent j ≡ parent_of p j
   pub depths : (j : ℕ) → j < p.activities → S.act depth_of j ≡ deep_of p j

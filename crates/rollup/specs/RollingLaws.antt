@@ -20,6 +20,7 @@ use Rattle.passes.specs.Floats.{measured, day_of}
 use Rattle.passes.specs.Run.{Ran}
 use Rattle.dates.specs.Columns.{ended}
 use Rattle.results.specs.declared.Shown.{Shown}
+use Rattle.results.specs.declared.row.ShownRow.{ShownRow}
 use Rattle.results.specs.Results.{summaries_at, deepest_first, rolled}
 use Rattle.results.specs.View.{shown_in, put_shown}
 use Rattle.results.specs.ViewLaws.{to_put}
@@ -46,16 +47,16 @@ module _ (p : Plan) (S : State) (D : Deep p S) (s : ℕ) (b : s < p.activities) 
       let J : Shown = child_sum S p.activities s in
       measured_put (between (own p s) J.finish J.late) (λ t. summed p s t J) (shown_in p S) s ∙ roll_some p q S s D.parents (D.children.heads s b) l
 
-  module _ (l : S.act first_child s < p.activities) (r : Result Shown ClockError) (x : Shown) (e : x ≡ child_sum S p.activities s) (h : showing r ≡ summed_pass p s x) where
+  module _ (l : S.act first_child s < p.activities) (r : Result ShownRow ClockError) (x : Shown) (e : x ≡ child_sum S p.activities s) (h : showing r ≡ summed_pass p s x) where
     by_sum : (q : Ran) → put_pass (showing r) (shown_in p S) s ≡ rolled p q (shown_in p S) s
     by_sum q = ap (λ (y : Pass Shown). put_pass y (shown_in p S) s) (h ∙ ap (summed_pass p s) e) ∙ one_some l q
 
-    pub one_done : (y : Shown) (T : State) → r ≡ Ok y → T ≡ put_shown S s y → (q : Ran) → ended (shown_in p T) (Ok tt) ≡ rolled p q (shown_in p S) s
+    pub one_done : (y : ShownRow) (T : State) → r ≡ Ok y → T ≡ put_shown S s y.shown → (q : Ran) → ended (shown_in p T) (Ok tt) ≡ rolled p q (shown_in p S) s
     one_done y T d f q =
-        ap (λ (U : State). leaves (shown_in p U)) f ∙ ap leaves (to_put p.activities S s y b) ∙ ap (λ (z : Result Shown ClockError). put_pass (showing z) (shown_in p S) s) (sym d) ∙ by_sum q
+        ap (λ (U : State). leaves (shown_in p U)) f ∙ ap leaves (to_put p.activities S s y.shown b) ∙ ap (λ (z : Result ShownRow ClockError). put_pass (showing z) (shown_in p S) s) (sym d) ∙ by_sum q
 
     pub one_refused : (k : ClockError) (g : ℕ → Shown) → r ≡ Err k → (q : Ran) → ended g (Err k) ≡ rolled p q (shown_in p S) s
-    one_refused k g d q = ap (λ (z : Result Shown ClockError). put_pass (showing z) (shown_in p S) s) (sym d) ∙ by_sum q
+    one_refused k g d q = ap (λ (z : Result ShownRow ClockError). put_pass (showing z) (shown_in p S) s) (sym d) ∙ by_sum q
 
 -- ---- the roll-up's fields stay while days and floats are put
 pub deep_kept : (p : Plan) (S T : State) → Frame 20 30 0 0 S T → Deep p S → Deep p T
@@ -156,7 +157,7 @@ module _ (p : Plan) (S₀ : State) where
 -- ---- a sum with its float, by its ways
 module _ (p : Plan) (s : ℕ) (x : Shown) where
   pub summed_at : (z total : ℤ) (critical : Bool) → between (own p s) x.finish x.late ≡ Ok z → total ≡ z → critical ≡ critical_in p.project.critical_by (day_of p s) z x.path
-      → leaves (record { es = x.es; ef = x.ef; ls = x.ls; lf = x.lf; total = total; free = 0; critical = critical; path = x.path; finish = x.finish; late = x.late }) ≡ summed_pass p s x
+      → leaves (record { days = x.days; total = total; free = 0; critical = critical; path = x.path; finish = x.finish; late = x.late }) ≡ summed_pass p s x
   unfolding summed_pass
   summed_at z total critical e f g = rw (e, f, g)
 

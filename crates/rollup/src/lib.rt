@@ -18,20 +18,23 @@ ghost use Rattle.dates.specs.Standing.{Ready, Recorded};
 ghost use Rattle.results.specs.Results.{summaries_at, deepest_first, rolled, results};
 ghost use Rattle.results.specs.View.{ran_in, shown_in};
 ghost use Rattle.results.specs.Row.{ToShow};
-ghost use Rattle.results.specs.Showing.{Holds, HoldsIf, showing};
+ghost use Rattle.results.specs.Showing.{showing};
 ghost use Rattle.rollup.specs.Prepared.{Prepared};
 ghost use Rattle.rollup.specs.Rolling.{Deep, ToRoll, summed_pass};
 ghost use Rattle.rollup.specs.Depths.{depth_key, DepthsTo};
 ghost use Rattle.rollup.specs.Roll.{joined, child_sum};
 
+mod children;
+
 use calendars::PlanSheet;
+use children::Children;
 use memory::Tables;
 use project::Project;
-use results::Shown;
+use results::{Days, Shown, ShownRow};
 use worktime::ClockError;
 
 // ---- chains through the activities
-// They are not `memory::chain`'s: those chain links by an activity, these activities by a key that may be none, and in another table.
+// They are not those of `memory`: those chain links by an activity, these activities by a key that may be none, and in another table.
 // Puts activity `c` before those with its key.
 fn chain_one(tables: &mut Tables, key: usize, head: usize, c: usize)
     requires { (c < tables.old.activities) × (key < head) × (head + 2 ≤ 64) × KeysIn key tables.old.activities (state tables.old) × LinkedIn key head tables.old.activities (c + 1) (state tables.old) }
@@ -71,6 +74,7 @@ fn depth_of(tables: &Tables, i: usize) -> usize
     requires { (i < tables.now.activities) × KeysIn parent tables.now.activities (state tables.now) }
     ensures { (result ≡ depth ((state tables.now).act parent) tables.now.activities i) × (result ≤ tables.now.activities) }
 {
+    // No iterator over the activities above, as in `ids::parent_loop_steps`: a field of parents alone does not say that they end.
     let mut y = i + 1;
     for k in 0..tables.activities {
         if y == 0 {
@@ -106,55 +110,61 @@ fn mark_depths(tables: &mut Tables)
 
 // ---- a summary's children
 // The dates of both, the total float of the first.
-fn join(x: Shown, y: Shown) -> Shown
-    requires { Holds x × Holds y }
-    ensures { (result ≡ joined x y) × Holds result }
+fn join(x: ShownRow, y: ShownRow) -> ShownRow
+    ensures { result.shown ≡ joined x.shown y.shown }
 {
-    Shown {
-        es: x.es.min(y.es),
-        ef: x.ef.max(y.ef),
-        ls: x.ls.min(y.ls),
-        lf: x.lf.max(y.lf),
+    let x = x.shown;
+    let y = y.shown;
+    let days = Days {
+        es: x.days.es.min(y.days.es),
+        ef: x.days.ef.max(y.days.ef),
+        ls: x.days.ls.min(y.days.ls),
+        lf: x.days.lf.max(y.days.lf),
+    };
+    ShownRow::new(Shown {
+        days,
         path: x.path || y.path,
         finish: x.finish.max(y.finish),
         late: x.late.max(y.late),
         ..x
-    }
+    })
 }
 
 // The children of summary `s`, joined, from the first of them on.
-fn sum_children(tables: &Tables, s: usize, first: usize) -> Shown
+fn sum_children(tables: &Tables, s: usize, first: usize) -> ShownRow
     requires { (s < tables.now.activities) × LinkedIn parent first_child tables.now.activities 0 (state tables.now) × (first ≡ (state tables.now).act first_child s) × (first < tables.now.activities) }
-    ensures { (result ≡ child_sum (state tables.now) tables.now.activities s) × Holds result }
+    ensures { result.shown ≡ child_sum (state tables.now) tables.now.activities s }
 {
     let mut x = results::shown_at(tables, first);
-    let mut k = tables.act(first, memory::fields::NEXT_CHILD) as usize;
-    // The next child comes from the memory: no range or iterator of std gives it, and an iterator of our own would need its own proof for this one loop.
-    while k < tables.activities {
-        x = join(x, results::shown_at(tables, k));
-        k = tables.act(k, memory::fields::NEXT_CHILD) as usize;
+    for c in Children::after(tables, s, first) {
+        x = join(x, results::shown_at(tables, c));
     }
     x
 }
 
 // ---- one summary
-// The sum of a summary's children with its own float.
-fn summed_of(plan: &PlanSheet, project: Project, s: usize, x: Shown) -> Result<Shown, ClockError>
-    requires { Lengths (plan_in plan.now.sheet) plan.now.calendars.now × (s < plan.now.sheet.contents.activities) × (calendar_of (plan_in plan.now.sheet) s < plan.now.sheet.contents.calendars) × (project ≡ (plan_in plan.now.sheet).project) × Holds x }
-    ensures { (showing result ≡ summed_pass (plan_in plan.now.sheet) s x) × HoldsIf result }
+// The sum of a summary's children with its own float. The project is read once a pass, as in `results`.
+fn summed_of(
+    plan: &PlanSheet,
+    project: Project,
+    s: usize,
+    x: &ShownRow,
+) -> Result<ShownRow, ClockError>
+    requires { Lengths (plan_in plan.now.sheet) plan.now.calendars.now × (s < plan.now.sheet.contents.activities) × (calendar_of (plan_in plan.now.sheet) s < plan.now.sheet.contents.calendars) × (project ≡ (plan_in plan.now.sheet).project) }
+    ensures { showing result ≡ summed_pass (plan_in plan.now.sheet) s x.now.shown }
 {
     let by = project.critical_by;
     let activity = dates::activity_of(&plan.sheet, s);
     let k = activity.calendar as usize;
     let calendar = plan.calendar(k);
-    let total = clock::between(&calendar, x.finish, x.late)?;
-    let critical = results::is_critical(by, plan.calendars[k].day_length, total, x.path);
-    Ok(Shown {
+    let total = clock::between(&calendar, x.shown.finish, x.shown.late)?;
+    let critical = results::is_critical(by, plan.calendars[k].day_length, total, x.shown.path);
+    Ok(ShownRow::new(Shown {
         total,
         free: 0,
         critical,
-        ..x
-    })
+        ..x.shown
+    }))
 }
 
 // Rolls summary `s` up from its children.
@@ -172,8 +182,8 @@ fn roll_one(
         return Ok(());
     }
     let x = sum_children(tables, s, first);
-    let y = summed_of(plan, project, s, x)?;
-    results::put_shown(tables, s, y);
+    let y = summed_of(plan, project, s, &x)?;
+    results::put_shown(tables, s, &y);
     Ok(())
 }
 
@@ -189,7 +199,7 @@ fn roll_depth(
     ensures { ((q : Ran) → ended (shown_in (plan_in plan.now.sheet) (state tables.new)) result ≡ through (rolled (plan_in plan.now.sheet) q) (summaries_at (plan_in plan.now.sheet) q d plan.now.sheet.contents.activities) (shown_in (plan_in plan.now.sheet) (state tables.old))) × Frame 20 30 0 0 (state tables.old) (state tables.new) × SameSlice tables.old tables.new }
 {
     let mut k = tables.act(d - 1, memory::fields::FIRST_DEEP) as usize;
-    // As in `sum_children`, the next comes from the memory, which `roll_one` writes to meanwhile.
+    // A `while`: `roll_one` writes the tables that the next summary is read from, so no iterator may hold them.
     while k < plan.sheet.contents.activities {
         roll_one(plan, project, tables, k)?;
         k = tables.act(k, memory::fields::NEXT_DEEP) as usize;
@@ -222,7 +232,7 @@ fn roll_up(plan: &PlanSheet, tables: &mut Tables) -> Result<(), ClockError>
     requires { ToShow plan.now tables.old × ToRoll (plan_in plan.now.sheet) (state tables.old) }
     ensures { ((q : Ran) → ended (shown_in (plan_in plan.now.sheet) (state tables.new)) result ≡ through (rolled (plan_in plan.now.sheet) q) (deepest_first (plan_in plan.now.sheet) q plan.now.sheet.contents.activities) (shown_in (plan_in plan.now.sheet) (state tables.old))) × Frame 20 35 0 0 (state tables.old) (state tables.new) × SameSlice tables.old tables.new }
 {
-    let project = project::records::read_project(plan.sheet.bytes, 0);
+    let project = plan.sheet.project();
     prepare(tables);
     roll_all(plan, project, tables)
 }

@@ -30,7 +30,7 @@ stored_from xs at k (z ∷ zs) = stored_from (set xs (at + k) z) at (suc k) zs
 
 -- ---- the parts of a row
 abbrev pub day_fields : Shown → List ℤ
-day_fields x = signed_day_of x.es ∷ signed_day_of x.ef ∷ signed_day_of x.ls ∷ signed_day_of x.lf ∷ []
+day_fields x = signed_day_of x.days.es ∷ signed_day_of x.days.ef ∷ signed_day_of x.days.ls ∷ signed_day_of x.days.lf ∷ []
 
 abbrev pub float_fields : ℕ → Shown → List ℤ
 float_fields day_length x =
@@ -59,6 +59,7 @@ rows_in p S zero = []
 rows_in p S (suc n) = rows_in p S n ++ row_in p S n
 
 -- a sheet that was read, day lengths, each activity's calendar among them, and in the memory the summaries' marks and the recorded work
+-- a clause, and no type's field: it relates the tables, which the call writes before and clears after, to the sheet
 pub record ToWrite (sheet : Sheet) (calendars : List PlanCalendar) (tables : Tables) : Type 0 where
   pub activities : tables.activities ≡ sheet.contents.activities
   pub links : tables.links ≡ sheet.contents.links

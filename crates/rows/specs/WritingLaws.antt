@@ -7,6 +7,7 @@ use mathlib.Core.List.{List, [], ◌∷◌, ◌++◌}
 use Prim.Native.Nat.{ℕ, zero, suc, ◌+◌, ◌*◌, ◌/◌, max, ◌≤◌, ◌<◌}
 use native.Mathlib.Omega.{arith}
 use Rattle.std.proofs.Math.ListN.{length, take, drop}
+use Rattle.std.proofs.lemmas.List.{append_assoc}
 use Rattle.std.proofs.lemmas.List.Edits.{sets, sets-eq}
 use Rattle.std.proofs.Math.Seq.{length-sets, take_at, drop-append-add, drop-drop}
 use Rattle.number.specs.Bit.{bit}
@@ -57,8 +58,13 @@ stored_is zs xs at l = let e : at + 0 ≡ at = omega arith in stored_sets zs xs 
 pub stored_length : (zs xs : List ℤ) (at k : ℕ) → length (stored_from xs at k zs) ≡ length xs
 stored_length zs xs at k = ap length (stored_sets zs xs at k) ∙ length-sets xs (at + k) zs
 
+-- numbers copied over as many
+pub copied_is : (zs xs : List ℤ) (at n : ℕ) → n ≡ length zs → at + n ≤ length xs → take at xs ++ (zs ++ drop n (drop at xs)) ≡ stored_from xs at 0 zs
+copied_is zs xs at n e l =
+    sym (append_assoc (take at xs) zs (drop n (drop at xs))) ∙ ap (λ (ys : List ℤ). take at xs ++ zs ++ ys) (drop-drop n at xs ∙ ap (λ (k : ℕ). drop (at + k) xs) e) ∙ sym (stored_is zs xs at (omega (arith, e, l)))
+
 -- ---- the rows
-row_length : (p : Plan) (S : State) (i : ℕ) → length (row_in p S i) ≡ 15
+pub row_length : (p : Plan) (S : State) (i : ℕ) → length (row_in p S i) ≡ 15
 unfolding row_in
 row_length p S i = refl
 
@@ -109,7 +115,7 @@ module _ (p : Plan) (r : Ran) (S : State) where
   unfolding finish_day
   day_none = refl
 
-  pub day_more : (n d : ℕ) → n < p.activities → d ≡ finish_day p r (shown_in p S) n → max d (shown_at S n).ef ≡ finish_day p r (shown_in p S) (n + 1)
+  pub day_more : (n d : ℕ) → n < p.activities → d ≡ finish_day p r (shown_in p S) n → max d (shown_at S n).days.ef ≡ finish_day p r (shown_in p S) (n + 1)
   unfolding finish_day
   day_more n d l e = rw (add-one n, to_at_lem p.activities S n l, e)
 

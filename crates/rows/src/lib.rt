@@ -5,16 +5,15 @@ ghost use Rattle.std.specs.Prelude.{◌≡◌, Bool, ◌++◌, ℕ, ◌+◌, ◌
 ghost use Rattle.memory.specs.Seen.{state};
 ghost use Rattle.order.specs.Plan.{plan_in};
 ghost use Rattle.passes.specs.Run.{Ran};
-ghost use Rattle.results.specs.Results.{status_number, finish_day};
+ghost use Rattle.results.specs.Results.{finish_day};
 ghost use Rattle.results.specs.Rows.{signed_day_of, rows_below};
 ghost use Rattle.results.specs.View.{ran_in, shown_in};
-ghost use Rattle.results.specs.Showing.{Holds};
-ghost use Rattle.rows.specs.Writing.{ToWrite, stored_from, day_fields, float_fields, minute_if, work_fields, row_fields, row_in};
+ghost use Rattle.rows.specs.Writing.{ToWrite, stored_from, minute_if, row_fields, row_in};
 
 use calendars::PlanCalendar;
 use memory::Tables;
 use placing::Actual;
-use results::Shown;
+use results::ShownRow;
 use sheet::Sheet;
 
 // ---- fields
@@ -24,16 +23,6 @@ fn signed_day_of(d: u64) -> i64
     ensures { result ≡ signed_day_of d }
 {
     number::sign::difference(2147483648, d)
-}
-
-fn status_number(actual: Actual) -> u64
-    ensures { (result ≡ status_number (Ok actual)) × (result < 3) }
-{
-    match actual {
-        Actual::Unstarted => 0,
-        Actual::Begun(_) => 1,
-        Actual::Completed(_, _) => 2,
-    }
 }
 
 // A minute as 01 counts it, 0 for a summary.
@@ -47,81 +36,41 @@ fn minute_of(is_summary: bool, t: u64) -> i64
     date::signed_minute(t)
 }
 
-// ---- the parts of a row
-fn write_days(results: &mut [i64], at: usize, x: Shown)
-    requires { (at + 15 ≤ length results.old) × Holds x }
-    ensures { results.new ≡ stored_from results.old at 1 (day_fields x) }
-{
-    let es = signed_day_of(x.es);
-    let ef = signed_day_of(x.ef);
-    let ls = signed_day_of(x.ls);
-    let lf = signed_day_of(x.lf);
-    results[at + 1] = es;
-    results[at + 2] = ef;
-    results[at + 3] = ls;
-    results[at + 4] = lf;
-}
-
-fn write_floats(results: &mut [i64], at: usize, day_length: u64, x: Shown)
-    requires { (at + 15 ≤ length results.old) × (day_length ≤ 1440) × Holds x }
-    ensures { results.new ≡ stored_from results.old at 5 (float_fields day_length x) }
-{
-    let total = x.total;
-    let free = x.free as i64;
-    let total_days = number::sign::whole_days(total, day_length);
-    let free_days = number::sign::whole_days(free, day_length);
-    let critical = i64::from(x.critical);
-    let path = i64::from(x.path);
-    results[at + 5] = total_days;
-    results[at + 6] = free_days;
-    results[at + 7] = total;
-    results[at + 8] = free;
-    results[at + 9] = critical;
-    results[at + 10] = path;
-}
-
-fn write_work(
-    results: &mut [i64],
-    at: usize,
-    is_summary: bool,
-    actual: Actual,
-    left: u64,
-    es: u64,
-    ef: u64,
-)
-    requires { (at + 15 ≤ length results.old) × (left < 2 ^ 63) × (es < 2 ^ 63) × (ef < 2 ^ 63) }
-    ensures { results.new ≡ stored_from results.old at 11 (work_fields is_summary (Ok actual) left es ef) }
-{
-    let status = status_number(actual) as i64;
-    let remaining = left as i64;
-    let start = minute_of(is_summary, es);
-    let finish = minute_of(is_summary, ef);
-    results[at + 11] = status;
-    results[at + 12] = remaining;
-    results[at + 13] = start;
-    results[at + 14] = finish;
-}
-
-// Writes a row from its values, `left`, `es` and `ef` among them as the passes leave them.
-fn write_fields(
-    results: &mut [i64],
-    at: usize,
+// ---- rows
+// A row by its values, `left`, `es` and `ef` among them as the passes leave them: `results::times_at` would read four fields more at each activity.
+fn row_of(
     id: u64,
     day_length: u64,
-    x: Shown,
+    x: &ShownRow,
     is_summary: bool,
     actual: Actual,
     left: u64,
     es: u64,
     ef: u64,
-)
-    requires { (at + 15 ≤ length results.old) × (id < 2 ^ 63) × (day_length ≤ 1440) × Holds x × (left < 2 ^ 63) × (es < 2 ^ 63) × (ef < 2 ^ 63) }
-    ensures { results.new ≡ stored_from results.old at 0 (row_fields id day_length x is_summary (Ok actual) left es ef) }
+) -> [i64; 15]
+    requires { (id < 2 ^ 63) × (day_length ≤ 1440) × (left < 2 ^ 63) × (es < 2 ^ 63) × (ef < 2 ^ 63) }
+    ensures { result ≡ row_fields id day_length x.now.shown is_summary (Ok actual) left es ef }
 {
-    results[at] = id as i64;
-    write_days(results, at, x);
-    write_floats(results, at, day_length, x);
-    write_work(results, at, is_summary, actual, left, es, ef);
+    let days = x.shown.days;
+    let total = x.shown.total;
+    let free = x.shown.free as i64;
+    [
+        id as i64,
+        signed_day_of(days.es),
+        signed_day_of(days.ef),
+        signed_day_of(days.ls),
+        signed_day_of(days.lf),
+        number::sign::whole_days(total, day_length),
+        number::sign::whole_days(free, day_length),
+        total,
+        free,
+        i64::from(x.shown.critical),
+        i64::from(x.shown.path),
+        actual.status() as i64,
+        left as i64,
+        minute_of(is_summary, es),
+        minute_of(is_summary, ef),
+    ]
 }
 
 // Writes the row of activity `i`.
@@ -144,21 +93,13 @@ fn write_row(
     let left = tables.act(i, memory::fields::WORK_LEFT);
     let es = tables.act(i, memory::fields::EARLY_START);
     let ef = tables.act(i, memory::fields::EARLY_FINISH);
-    write_fields(
-        results,
-        15 * i,
-        id,
-        calendars[k].day_length,
-        x,
-        is_summary,
-        actual,
-        left,
-        es,
-        ef,
-    );
+    let day_length = calendars[k].day_length;
+    let row = row_of(id, day_length, &x, is_summary, actual, left, es, ef);
+    results[15 * i..15 * i + 15].copy_from_slice(&row);
 }
 
-// Writes the rows of all activities at the front of the results.
+// Writes the rows of all activities at the front of the results, each at its own place.
+// Not over std's chunks: the contracts of `chunks_exact_mut` and `as_chunks_mut` say nothing of what the slice holds after the loop, so the equation for `results.new` could not be had.
 pub fn write_rows(sheet: &Sheet, calendars: &[PlanCalendar], tables: &Tables, results: &mut [i64])
     requires { ToWrite sheet.now calendars.now tables.now × (15 * sheet.now.contents.activities ≤ length results.old) }
     ensures { (e : ℕ) (other : ℕ → Bool) → results.new ≡ rows_below (plan_in sheet.now) (ran_in (plan_in sheet.now) (state tables.now) e other) (shown_in (plan_in sheet.now) (state tables.now)) sheet.now.contents.activities ++ drop (15 * sheet.now.contents.activities) results.old }

@@ -1,11 +1,11 @@
 -- The outcome by the ways of the code: what is left at each of its ends is what the definition says.
 use Rattle.std.specs.Prelude.{◌≡◌, Bool, true, false, ◌&&◌, Result, Ok, Err, List, [], ◌++◌, ◌≢◌, ℕ, ◌+◌, ◌-◌, ◌*◌, ◌≤◌, ◌<◌, max, eqb, leb, ℤ, pos, drop, replicate}
 use Rattle.std.proofs.Math.Path.{refl, sym, ap}
-use Rattle.std.proofs.Common.{◌∙◌, eq-eqb, ne_eqb, le-leb, leb-true, length-append}
+use Rattle.std.proofs.Common.{◌∙◌, eq-eqb, ne_eqb, leb-true, length-append}
 use native.Mathlib.Omega.{arith}
-use Rattle.std.proofs.lemmas.Bool.{lt-leb}
 use Rattle.std.proofs.Math.ListN.{length}
 use Rattle.std.proofs.lemmas.List.{length-replicate}
+use Rattle.number.specs.Tests.{and_both}
 use Rattle.worktime.specs.Reads.{on_true, on_false}
 use Rattle.sheet.specs.declared.Contents.{Contents}
 use Rattle.judges.specs.declared.SheetError.{SheetError}
@@ -24,6 +24,8 @@ use Rattle.passes.specs.Run.{Ran, run}
 use Rattle.results.specs.declared.Shown.{Shown}
 use Rattle.results.specs.Results.{results, finish_day}
 use Rattle.results.specs.Rows.{signed_day_of, rows_below}
+use Rattle.checks.specs.declared.PlanCounts.{PlanCounts}
+use Rattle.checks.specs.Stages.{Counted}
 use Rattle.checks.specs.Names.{then_zeros}
 use Rattle.sched.specs.declared.Accepted as declared
 use Rattle.sched.specs.declared.Refusal.{Refusal}
@@ -33,25 +35,6 @@ use Rattle.sched.specs.Outcome.{Lent, refused_with, untouched, accepted, shown_w
 use Rattle.sched.specs.CallLaws.{left_with, ended_with, zeros, LentAs, AcceptedAs}
 
 -- ---- room
-abbrev tag : Bool → ℕ
-tag true = 1
-tag false = 0
-
-clash : ◌≡◌ {A = Bool} false true → ⊥
-clash e = let z = ap tag e in omega (arith, z)
-
-both : (x y : Bool) → x ≡ true → y ≡ true → x && y ≡ true
-both true y e f = f
-both false y e f = e
-
-no_first : (x y : Bool) → x ≡ false → x && y ≡ false
-no_first true y e = absurd (clash (sym e))
-no_first false y e = refl
-
-no_second : (x y : Bool) → y ≡ false → x && y ≡ false
-no_second true y e = e
-no_second false y e = refl
-
 module _ (a l results names work : ℕ) where
   abbrev enough : Bool
   enough = leb (15 * a) results
@@ -65,34 +48,11 @@ module _ (a l results names work : ℕ) where
   abbrev pub room : Bool
   room = leb (15 * a) results && leb (max (a + 1) l) names && leb (64 * a + 16 * l) work
 
-  pub room_results : results < 15 * a → false ≡ room
-  room_results h = sym (no_first (enough && named) fits (no_first enough named (lt-leb (15 * a) results h)))
-
-  pub room_names : names < max (a + 1) l → false ≡ room
-  room_names h = sym (no_first (enough && named) fits (no_second enough named (lt-leb (max (a + 1) l) names h)))
-
-  pub room_work : work < 64 * a + 16 * l → false ≡ room
-  room_work h = sym (no_second (enough && named) fits (lt-leb (64 * a + 16 * l) work h))
-
-  pub room_all : 15 * a ≤ results → max (a + 1) l ≤ names → 64 * a + 16 * l ≤ work → true ≡ room
-  room_all h k m =
-      sym (both (enough && named) fits (both enough named (le-leb (15 * a) results h) (le-leb (max (a + 1) l) names k)) (le-leb (64 * a + 16 * l) work m))
-
-  -- and back
   pub room_has : room ≡ true → (15 * a ≤ results) × (max (a + 1) l ≤ names) × (64 * a + 16 * l ≤ work)
-  room_has e = (
-    leb-true (15 * a) results (first enough named (first (enough && named) fits e)),
-    leb-true (max (a + 1) l) names (second enough named (first (enough && named) fits e)),
-    leb-true (64 * a + 16 * l) work (second (enough && named) fits e),
-  )
-    where
-      first : (x y : Bool) → x && y ≡ true → x ≡ true
-      first true y e = refl
-      first false y e = e
-
-      second : (x y : Bool) → x && y ≡ true → y ≡ true
-      second true y e = e
-      second false y e = absurd (clash e)
+  room_has e =
+      let h = and_both (enough && named) fits e in
+      let k = and_both enough named h.0 in
+      (leb-true (15 * a) results k.0, leb-true (max (a + 1) l) names k.1, leb-true (64 * a + 16 * l) work h.1)
 
 -- ---- names
 pub zeros_alone : (names : List ℕ) → then_zeros [] names ≡ replicate (length names) 0
@@ -194,17 +154,17 @@ module _ (m : Lent) (p : Plan) {results₀ : List ℤ} {names₀ : List ℕ} {wo
         answered_as r (Err (Clock k)) names work e ∙ planned_results m p fine ran runs k names work q (cleared_names names f) (cleared_work work₁ work g h)
 
     -- nothing is refused
-    pub show_accepts : (f : ℕ → Shown) → results p ran ≡ leaves f → {n o : ℕ} {rows : List ℤ} {a : declared.Accepted} → AcceptedAs p ran f n o results₀ rows a → n ≡ length (ignored_links p) → o ≡ open_ends p
+    pub show_accepts : (f : ℕ → Shown) → results p ran ≡ leaves f → {c : PlanCounts} {rows : List ℤ} {a : declared.Accepted} → AcceptedAs p ran f c results₀ rows a → Counted p c
         → (work₁ work : List ℤ) → length work₁ ≡ length work₀ → work ≡ zeros work₁ → ended_with (Ok a) rows names₀ work ≡ planned m p
-    show_accepts f q {rows = rows} {a = a} A e3 e4 work₁ work g h =
-        planned_accepted m p fine ran runs f q a.finish_day a.activities a.ignored a.open_ends rows names₀ work A.day_is A.activities_is (A.ignored_is ∙ e3) (A.ends_is ∙ e4)
+    show_accepts f q {rows = rows} {a = a} A C work₁ work g h =
+        planned_accepted m p fine ran runs f q a.finish_day a.activities a.ignored a.open_ends rows names₀ work A.day_is A.activities_is (A.ignored_is ∙ C.ignored) (A.ends_is ∙ C.ends)
         (A.rows_is ∙ ap (λ (xs : List ℤ). rows_below p ran f p.activities ++ drop (15 * p.activities) xs) L.results_is) L.names_is (cleared_work work₁ work g h)
 
 -- ---- a plan of the sheet: its counts are the contents'
 module _ (s : List ℕ) (c : Contents) where
-  pub accepted_as : {ran : Ran} {f : ℕ → Shown} {n o : ℕ} {results rows : List ℤ} (day : ℤ) → day ≡ signed_day_of (finish_day (plan_of s c) ran f c.activities)
+  pub accepted_as : {ran : Ran} {f : ℕ → Shown} {k : PlanCounts} {results rows : List ℤ} (day : ℤ) → day ≡ signed_day_of (finish_day (plan_of s c) ran f c.activities)
       → rows ≡ rows_below (plan_of s c) ran f c.activities ++ drop (15 * c.activities) results
-      → AcceptedAs (plan_of s c) ran f n o results rows (record { finish_day = day; activities = c.activities; ignored = n; open_ends = o })
+      → AcceptedAs (plan_of s c) ran f k results rows (record { finish_day = day; activities = c.activities; ignored = k.ignored; open_ends = k.open_ends })
   unfolding plan_of
   accepted_as day e h = record { day_is = e; activities_is = refl; ignored_is = refl; ends_is = refl; rows_is = h }
 

@@ -7,6 +7,7 @@ use Rattle.passes.specs.Run.{Ran}
 use Rattle.results.specs.declared.Shown.{Shown}
 use Rattle.results.specs.Results.{results, finish_day}
 use Rattle.results.specs.Rows.{signed_day_of, rows_below}
+use Rattle.checks.specs.declared.PlanCounts.{PlanCounts}
 use Rattle.checks.specs.Names.{then_zeros}
 use Rattle.sched.specs.declared.Accepted.{Accepted}
 use Rattle.sched.specs.declared.Refusal.{Refusal}
@@ -32,9 +33,9 @@ pub record LentAs (m : Lent) (p : Plan) (results : List ℤ) (names : List ℕ) 
   pub work_length : length work ≡ length m.work
 
 -- the answer of an accepted plan and the rows that are written
-pub record AcceptedAs (p : Plan) (ran : Ran) (f : ℕ → Shown) (n o : ℕ) (results rows : List ℤ) (a : Accepted) : Type 0 where
+pub record AcceptedAs (p : Plan) (ran : Ran) (f : ℕ → Shown) (c : PlanCounts) (results rows : List ℤ) (a : Accepted) : Type 0 where
   pub day_is : a.finish_day ≡ signed_day_of (finish_day p ran f p.activities)
   pub activities_is : a.activities ≡ p.activities
-  pub ignored_is : a.ignored ≡ n
-  pub ends_is : a.open_ends ≡ o
+  pub ignored_is : a.ignored ≡ c.ignored
+  pub ends_is : a.open_ends ≡ c.open_ends
   pub rows_is : rows ≡ rows_below p ran f p.activities ++ drop (15 * p.activities) results

@@ -1,5 +1,5 @@
 // The scheduling call as C has it: the answer five numbers in a slice. The crate `sched_c` exports it.
-ghost use Rattle.std.specs.Prelude.{◌≡◌, [], ◌∷◌, ◌++◌, ◌≤◌, length, drop};
+ghost use Rattle.std.specs.Prelude.{◌≡◌};
 ghost use Rattle.sched.specs.Answers.{answer_of};
 ghost use Rattle.sched.specs.InC.{held_as, numbers_of, called};
 
@@ -9,43 +9,23 @@ use crate::{Accepted, Refusal};
 fn held(n: u64) -> i64
     ensures { result ≡ held_as n }
 {
-    if n > 9223372036854775807 {
-        return 9223372036854775807;
-    }
-    n as i64
-}
-
-// Puts five numbers at the front.
-fn put_five(answer: &mut [i64], a: i64, b: i64, c: i64, d: i64, e: i64)
-    requires { 5 ≤ length answer.old }
-    ensures { answer.new ≡ (a ∷ b ∷ c ∷ d ∷ e ∷ []) ++ drop 5 answer.old }
-{
-    cells::put_signed(answer, 0, a);
-    cells::put_signed(answer, 1, b);
-    cells::put_signed(answer, 2, c);
-    cells::put_signed(answer, 3, d);
-    cells::put_signed(answer, 4, e);
+    i64::try_from(n).unwrap_or(i64::MAX)
 }
 
 // The answer's numbers.
-fn put_answer(answer: &mut [i64], r: Result<Accepted, Refusal>)
-    requires { 5 ≤ length answer.old }
-    ensures { answer.new ≡ numbers_of (answer_of r) ++ drop 5 answer.old }
+#[tactic(auto, unfolding(crate::specs::InC::numbers_of))]
+fn numbers_of(r: Result<Accepted, Refusal>) -> [i64; 5]
+    ensures { result ≡ numbers_of (answer_of r) }
 {
     match r {
-        Ok(a) => {
-            put_five(
-                answer,
-                0,
-                a.finish_day,
-                held(a.activities),
-                held(a.ignored),
-                held(a.open_ends),
-            );
-        }
-        Err(refusal) => {
-            put_five(answer, 1, held(refusal.number()), held(refusal.id()), 0, 0);
-        }
+        Ok(a) => [
+            0,
+            a.finish_day,
+            held(a.activities),
+            held(a.ignored),
+            held(a.open_ends),
+        ],
+        Err(refusal) => [1, held(refusal.number()), held(refusal.id()), 0, 0],
     }
 }
 
@@ -63,5 +43,5 @@ pub fn neakspuoy_schedule(
         return;
     }
     let r = crate::schedule(sheet, results, names, work);
-    put_answer(answer, r);
+    answer[..5].copy_from_slice(&numbers_of(r));
 }

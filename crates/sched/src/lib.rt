@@ -1,23 +1,23 @@
 // The scheduling call: a plan sheet in; dates, floats and flags out; all memory lent; every byte string answered.
 #![tactic(auto)]
 
-ghost use Rattle.std.specs.Prelude.{◌≡◌, Bool, ◌&&◌, Result, Ok, Err, List, ℕ, ◌+◌, ◌*◌, ◌^◌, ◌≤◌, ◌<◌, max, leb, length, replicate};
+ghost use Rattle.std.specs.Prelude.{◌≡◌, Bool, ◌&&◌, Result, Ok, List, ℕ, ◌+◌, ◌*◌, ◌^◌, ◌≤◌, ◌<◌, max, leb, length};
 ghost use Rattle.memory.specs.State.{Room};
 ghost use Rattle.memory.specs.Seen.{state, SameSlice};
 ghost use Rattle.order.specs.Plan.{plan_in};
-ghost use Rattle.order.specs.Ties.{ignored_links, open_ends};
 ghost use Rattle.calendars.specs.Calendars.{Lengths};
 ghost use Rattle.dates.specs.Standing.{Ready, Recorded};
 ghost use Rattle.run.specs.Stages.{RanTo};
 ghost use Rattle.results.specs.View.{ran_in, shown_in};
 ghost use Rattle.rows.specs.Writing.{ToWrite};
-ghost use Rattle.checks.specs.Names.{then_zeros};
+ghost use Rattle.checks.specs.Stages.{Counted};
 ghost use Rattle.sched.specs.declared.Refusal.TheVariants.{Sheet, Plan, Clock};
 ghost use Rattle.sched.specs.Answers.{refusal_number, refusal_id};
 ghost use Rattle.sched.specs.Outcome.{Lent, planned, outcome};
 ghost use Rattle.sched.specs.CallLaws.{ended_with, zeros, LentAs, AcceptedAs};
 
 use calendars::{PlanCalendar, PlanSheet};
+use checks::PlanCounts;
 use judges::SheetError;
 use memory::Tables;
 use order::PlanError;
@@ -103,28 +103,7 @@ fn has_room(contents: Contents, results: usize, names: usize, work: usize) -> bo
 {
     let a = contents.activities;
     let l = contents.links;
-    if results < 15 * a {
-        return false;
-    }
-    if names < a + 1 {
-        return false;
-    }
-    if names < l {
-        return false;
-    }
-    if work < 64 * a + 16 * l {
-        return false;
-    }
-    true
-}
-
-// Refuses without names: names and memory are cleared.
-fn refuse(names: &mut [u32], tables: &mut Tables, error: ClockError) -> Result<Accepted, Refusal>
-    ensures { (result ≡ Err (Clock error)) × (names.new ≡ replicate (length names.old) 0) × (tables.new.cells.now ≡ zeros tables.old.cells.now) × SameSlice tables.old tables.new }
-{
-    cells::clear_u32(names);
-    tables.clear();
-    Err(Refusal::from(error))
+    results >= 15 * a && names >= (a + 1).max(l) && work >= 64 * a + 16 * l
 }
 
 // Nothing can refuse any more: the rows are written and the memory is cleared.
@@ -133,11 +112,10 @@ fn accept(
     calendars: &[PlanCalendar],
     results: &mut [i64],
     tables: &mut Tables,
-    ignored: usize,
-    ends: u64,
+    counts: PlanCounts,
 ) -> Accepted
     requires { ToWrite sheet.now calendars.now tables.old × (15 * sheet.now.contents.activities ≤ length results.old) }
-    ensures { ((e : ℕ) (other : ℕ → Bool) → AcceptedAs (plan_in sheet.now) (ran_in (plan_in sheet.now) (state tables.old) e other) (shown_in (plan_in sheet.now) (state tables.old)) ignored ends results.old results.new result) × (tables.new.cells.now ≡ zeros tables.old.cells.now) × SameSlice tables.old tables.new }
+    ensures { ((e : ℕ) (other : ℕ → Bool) → AcceptedAs (plan_in sheet.now) (ran_in (plan_in sheet.now) (state tables.old) e other) (shown_in (plan_in sheet.now) (state tables.old)) counts results.old results.new result) × (tables.new.cells.now ≡ zeros tables.old.cells.now) × SameSlice tables.old tables.new }
 {
     let day = rows::finish_day(sheet, tables);
     rows::write_rows(sheet, calendars, tables, results);
@@ -145,8 +123,8 @@ fn accept(
     Accepted {
         finish_day: day,
         activities: sheet.contents.activities as u64,
-        ignored: ignored as u64,
-        open_ends: ends,
+        ignored: counts.ignored as u64,
+        open_ends: counts.open_ends,
     }
 }
 
@@ -154,38 +132,36 @@ fn accept(
 fn show_plan(
     plan: &PlanSheet,
     last: u64,
-    ignored: usize,
-    ends: u64,
+    counts: PlanCounts,
     results: &mut [i64],
     names: &mut [u32],
     tables: &mut Tables,
 ) -> Result<Accepted, Refusal>
-    requires { Ready plan.now tables.old × Recorded (plan_in plan.now.sheet) (state tables.old) × Lengths (plan_in plan.now.sheet) plan.now.calendars.now × (15 * plan.now.sheet.contents.activities ≤ length results.old) × (ignored ≡ length (ignored_links (plan_in plan.now.sheet))) × (ends ≡ open_ends (plan_in plan.now.sheet)) × RanTo (plan_in plan.now.sheet) (state tables.old) last }
+    requires { Ready plan.now tables.old × Recorded (plan_in plan.now.sheet) (state tables.old) × Lengths (plan_in plan.now.sheet) plan.now.calendars.now × (15 * plan.now.sheet.contents.activities ≤ length results.old) × Counted (plan_in plan.now.sheet) counts × RanTo (plan_in plan.now.sheet) (state tables.old) last }
     ensures { ((m : Lent) → LentAs m (plan_in plan.now.sheet) results.old names.old tables.old.cells.now → ended_with result results.new names.new tables.new.cells.now ≡ planned m (plan_in plan.now.sheet)) × SameSlice tables.old tables.new }
 {
     // No `?`: names and memory are cleared before the refusal goes on.
     match rollup::results(plan, tables) {
-        Ok(()) => Ok(accept(&plan.sheet, plan.calendars, results, tables, ignored, ends)),
-        Err(e) => refuse(names, tables, e),
+        Ok(()) => Ok(accept(&plan.sheet, plan.calendars, results, tables, counts)),
+        Err(e) => checks::refuse(names, tables, Refusal::from(e)),
     }
 }
 
 // The passes and the results of a plan that the checks accept; the names hold its ignored links.
 fn run_plan(
     plan: &PlanSheet,
-    ignored: usize,
-    ends: u64,
+    counts: PlanCounts,
     results: &mut [i64],
     names: &mut [u32],
     tables: &mut Tables,
 ) -> Result<Accepted, Refusal>
-    requires { Ready plan.now tables.old × Lengths (plan_in plan.now.sheet) plan.now.calendars.now × (15 * plan.now.sheet.contents.activities ≤ length results.old) × (ignored ≡ length (ignored_links (plan_in plan.now.sheet))) × (ends ≡ open_ends (plan_in plan.now.sheet)) }
+    requires { Ready plan.now tables.old × Lengths (plan_in plan.now.sheet) plan.now.calendars.now × (15 * plan.now.sheet.contents.activities ≤ length results.old) × Counted (plan_in plan.now.sheet) counts }
     ensures { ((m : Lent) → LentAs m (plan_in plan.now.sheet) results.old names.old tables.old.cells.now → ended_with result results.new names.new tables.new.cells.now ≡ planned m (plan_in plan.now.sheet)) × SameSlice tables.old tables.new }
 {
     // No `?`: names and memory are cleared before the refusal goes on.
     match run::run(plan, tables) {
-        Ok(last) => show_plan(plan, last, ignored, ends, results, names, tables),
-        Err(error) => refuse(names, tables, error),
+        Ok(last) => show_plan(plan, last, counts, results, names, tables),
+        Err(error) => checks::refuse(names, tables, Refusal::from(error)),
     }
 }
 
@@ -205,14 +181,7 @@ fn plan_at(
         plan.sheet.contents.links,
     );
     let counts = checks::check_plan(plan, names, &mut tables)?;
-    run_plan(
-        plan,
-        counts.ignored,
-        counts.open_ends,
-        results,
-        names,
-        &mut tables,
-    )
+    run_plan(plan, counts, results, names, &mut tables)
 }
 
 // A plan that was read and has room: where its calendars stand is found first.

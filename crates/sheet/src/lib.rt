@@ -107,6 +107,7 @@ pub fn read(sheet: &[u8]) -> Result<Contents, SheetError>
 }
 
 // The calendar whose C stands at a place of a sheet that was read.
+// It goes as `read_calendar` does, but nothing can refuse any more: it only counts.
 #[tactic(auto, using(crate::specs::PlaceLaws::count_weeks, crate::specs::PlaceLaws::run_weeks, crate::specs::PlaceLaws::weeks_end_lem, crate::specs::PlaceLaws::count_exceptions, crate::specs::PlaceLaws::run_exceptions, crate::specs::PlaceLaws::exceptions_end_lem, crate::specs::PlaceLaws::place_is))]
 pub fn calendar(sheet: &[u8], at: usize) -> Place
     requires { CalendarRead sheet.now at }

@@ -5,6 +5,8 @@ ghost use Rattle.sheet.specs.Known.{SheetRead};
 ghost use Rattle.sheet.specs.Props.{props};
 
 use super::Contents;
+use date::Date;
+use project::{ActivityRecord, LagCalendar, LinkRecord, Project};
 
 // The bytes of a plan sheet that was read, and what it holds.
 #[derive(Clone, Copy)]
@@ -15,7 +17,9 @@ pub struct Sheet<'a> {
 }
 
 impl<'a> Sheet<'a> {
-    ghost use Rattle.std.specs.Prelude.{◌≡◌};
+    ghost use Rattle.std.specs.Prelude.{◌≡◌, ◌<◌};
+    ghost use Rattle.project.specs.Records.{project_at};
+    ghost use Rattle.sheet.specs.Places.{activity_at, link_at};
 
     // The sheet of bytes that were read.
     pub fn new(bytes: &'a [u8], contents: Contents) -> Sheet<'a>
@@ -23,5 +27,61 @@ impl<'a> Sheet<'a> {
         ensures { (result.bytes.now ≡ bytes.now) × (result.contents ≡ contents) }
     {
         Sheet { bytes, contents }
+    }
+
+    // The project.
+    pub fn project(&self) -> Project
+        ensures { result ≡ project_at self.now.bytes.now 0 }
+    {
+        project::records::read_project(self.bytes, 0)
+    }
+
+    // The day that the project starts. This getter and the three after it read one field where no more of the project is asked.
+    #[tactic(auto, unfolding(project::specs::Records::project_at))]
+    pub fn start(&self) -> Date
+        ensures { result ≡ (project_at self.now.bytes.now 0).start }
+    {
+        project::fields::read_date(self.bytes, 1)
+    }
+
+    // The day up to which work is recorded, if any.
+    #[tactic(auto, unfolding(project::specs::Records::project_at))]
+    pub fn data_date(&self) -> Option<Date>
+        ensures { result ≡ (project_at self.now.bytes.now 0).data_date }
+    {
+        project::fields::read_optional_date(self.bytes, 5)
+    }
+
+    // The day that the project must finish by, if any.
+    #[tactic(auto, unfolding(project::specs::Records::project_at))]
+    pub fn must_finish_by(&self) -> Option<Date>
+        ensures { result ≡ (project_at self.now.bytes.now 0).must_finish_by }
+    {
+        project::fields::read_optional_date(self.bytes, 9)
+    }
+
+    // The calendar that the project's working lags count on.
+    #[tactic(auto, unfolding(project::specs::Records::project_at))]
+    pub fn lag_calendar(&self) -> LagCalendar
+        ensures { result ≡ (project_at self.now.bytes.now 0).lag_calendar }
+    {
+        LagCalendar::from(number::byte(self.bytes, 13))
+    }
+
+    // The record of activity `i`.
+    pub fn activity(&self, i: usize) -> ActivityRecord<'a>
+        requires { i < self.now.contents.activities }
+        ensures { (result.sheet.now ≡ self.now.bytes.now) × (result.at ≡ activity_at self.now.contents i) }
+    {
+        ActivityRecord::new(self.bytes, self.contents.at + 45 * i)
+    }
+
+    // The record of link `k`.
+    pub fn link(&self, k: usize) -> LinkRecord<'a>
+        requires { k < self.now.contents.links }
+        ensures { (result.sheet.now ≡ self.now.bytes.now) × (result.at ≡ link_at self.now.contents k) }
+    {
+        let links = self.contents.at + 45 * self.contents.activities;
+        LinkRecord::new(self.bytes, links + 16 * k)
     }
 }

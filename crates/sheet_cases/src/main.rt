@@ -5,7 +5,7 @@ ghost use Rattle.std.specs.Prelude.{◌+◌, ◌≤◌, length};
 
 use std::{fs, io};
 
-// Copies `part` `times` times in a row to `at`, while there is room, and answers where that ends.
+// Copies `part` `times` times in a row to `at`, while there is room, and answers where that ends. A part may be empty, where `chunks_exact_mut` panics.
 fn repeat(part: &[u8], times: usize, sheet: &mut [u8], at: usize) -> usize
     requires { at ≤ length sheet.old }
     ensures { result ≤ length sheet.new }
@@ -72,6 +72,7 @@ fn answer_all(rt: &impl Print, file: &[u8], sheet: &mut [u8]) -> io::Result<()> 
     Ok(())
 }
 
+// The three programs of cases begin alike: each opens its file and reads it whole, into memory of its own size, which a function for all would have to be handed.
 fn main(rt: HostRuntime) -> io::Result<()> {
     let mut source = match fs::open(&rt, "sheets") {
         Ok(source) => source,

@@ -1,26 +1,16 @@
--- The ties of a slice as links, and what it is that the first of them are counted.
-use Rattle.std.specs.Prelude.{◌≡◌, List, map, ℕ, ◌+◌, ◌<◌, length, get_or, set, take}
-use Rattle.network.specs.Links.{Link}
+-- Counting the links of a slice one after another: the counts with one more, and what it is that the first links are counted.
+use Rattle.std.specs.Prelude.{◌≡◌, List, ℕ, ◌+◌, ◌<◌, length, get_or, set, take}
+use Rattle.network.specs.Links.{Link, no_link}
 use Rattle.network.specs.Kahn.{into}
-use Rattle.tie_list.specs.declared.Tie.{Tie}
 
-abbrev pub no_tie : Tie
-no_tie = record { from = 0; to = 0 }
-
--- where tie k leads
-abbrev pub leads_to : List Tie → ℕ → ℕ
-leads_to ts k = (get_or ts k no_tie).to
-
-abbrev pub link_of : Tie → Link
-link_of t = record { from = t.from; to = t.to }
-
-abbrev pub links_of : List Tie → List Link
-links_of ts = map link_of ts
+-- where link k leads
+abbrev pub leads_to : List Link → ℕ → ℕ
+leads_to ls k = (get_or ls k no_link).to
 
 -- the counts with one more at `to`: as they were where it has none
 abbrev pub one_more : List ℕ → ℕ → List ℕ
 one_more cs to = set cs to (get_or cs to 0 + 1)
 
--- the first k ties are counted
-abbrev pub Counted : List Tie → ℕ → List ℕ → Type 0
-Counted ts k cs = (i : ℕ) → i < length cs → get_or cs i 0 ≡ into (take k (links_of ts)) i
+-- the first k links are counted
+abbrev pub Counted : List Link → ℕ → List ℕ → Type 0
+Counted ls k cs = (i : ℕ) → i < length cs → get_or cs i 0 ≡ into (take k ls) i

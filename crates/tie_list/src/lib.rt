@@ -3,14 +3,9 @@
 
 ghost use Rattle.std.specs.Prelude.{◌≡◌, ℕ, ◌+◌, ◌<◌, ◌^◌, length, get_or};
 ghost use Rattle.network.specs.Kahn.{into};
-ghost use Rattle.tie_list.specs.Tied.{links_of, one_more};
+ghost use Rattle.tie_list.specs.Tied.{one_more};
 
-// A link from one activity to another, each by its number.
-#[derive(Clone, Copy)]
-pub struct Tie {
-    pub from: usize,
-    pub to: usize,
-}
+use network::Link;
 
 // Counts one more for `to`, where it has a count.
 pub fn count_one(counts: &mut [u64], to: usize)
@@ -22,12 +17,12 @@ pub fn count_one(counts: &mut [u64], to: usize)
     }
 }
 
-// How many of the ties lead to each activity that has a count. A tie that leads elsewhere is passed over.
-pub fn count_incoming(ties: &[Tie], counts: &mut [u64])
-    ensures { (length counts.new ≡ length counts.old) × ((i : ℕ) → i < length counts.old → get_or counts.new i 0 ≡ into (links_of ties.now) i) }
+// How many of the links lead to each activity that has a count. A link that leads elsewhere is passed over.
+pub fn count_incoming(links: &[Link], counts: &mut [u64])
+    ensures { (length counts.new ≡ length counts.old) × ((i : ℕ) → i < length counts.old → get_or counts.new i 0 ≡ into links.now i) }
 {
     counts.fill(0);
-    for tie in ties {
-        count_one(counts, tie.to);
+    for link in links {
+        count_one(counts, link.to);
     }
 }

@@ -8,12 +8,12 @@ use Rattle.order.specs.Ties.{ignored, tie_too_long}
 use Rattle.order.specs.declared.PlanError.TheVariants.{TooLong}
 use Rattle.order.proofs.CheckLaws.{link_ignored, link_long, link_kept}
 use Rattle.ids.specs.Parented.{Parented}
-use Rattle.ties.specs.declared.Ends.{Ends}
+use Rattle.network.specs.Links.{Link}
 use Rattle.ties.specs.Ends.{Between}
 use Rattle.ties.specs.Checked.{LinkAnswered}
 use Rattle.ties.specs.TieSteps.{marked_ignored}
 
-module _ (p : Plan) (S : State) (P : Parented p S p.activities) (k : ℕ) (ends : Ends) (E : Between p k ends.from ends.to) (marked : Bool)
+module _ (p : Plan) (S : State) (P : Parented p S p.activities) (k : ℕ) (ends : Link) (E : Between p k ends.from ends.to) (marked : Bool)
     (m : marked ≡ (ltb 0 (S.act is_summary ends.from) || ltb 0 (S.act is_summary ends.to))) where
   is_ignored : ignored p k ≡ marked
   is_ignored = sym (m ∙ marked_ignored p k ends.from ends.to E S P)

@@ -14,11 +14,12 @@ pub fn is_beyond(limit: u64, z: i64) -> bool
 }
 
 // Whether a lag is too long before it is converted.
+#[tactic(auto, unfolding(order::specs::Lags::lag_before))]
 pub fn lag_before(lag: LagKind) -> bool
     ensures { result ≡ lag_before lag }
 {
     match lag {
-        // Four arms: an or-pattern that binds an i32 was tried, and gets no proof.
+        // Four arms: an or-pattern that binds an i32 was tried, and the check stops at it with a fault of its own.
         LagKind::WorkingDays(n) => is_beyond(100_000, n as i64),
         LagKind::WorkingMinutes(n) => is_beyond(144_000_000, n as i64),
         LagKind::ElapsedDays(n) => is_beyond(100_000, n as i64),
@@ -28,6 +29,7 @@ pub fn lag_before(lag: LagKind) -> bool
 }
 
 // The calendar that a working lag counts on; `last` is the number of the round-the-clock one.
+#[tactic(auto, unfolding(order::specs::Lags::working_calendar))]
 pub fn working_calendar(by: LagCalendar, pred: u64, succ: u64, last: u64) -> u64
     ensures { result ≡ working_calendar by pred succ last }
 {
@@ -40,6 +42,7 @@ pub fn working_calendar(by: LagCalendar, pred: u64, succ: u64, last: u64) -> u64
 }
 
 // The calendar that a lag counts on.
+#[tactic(auto, unfolding(order::specs::Lags::lag_calendar, order::specs::Lags::working_calendar))]
 pub fn lag_calendar(lag: LagKind, by: LagCalendar, pred: u64, succ: u64, last: u64) -> u64
     requires { (pred ≤ last) × (succ ≤ last) }
     ensures { (result ≡ lag_calendar lag by pred succ last) × (result ≤ last) }

@@ -17,74 +17,62 @@ ghost use Rattle.ties.specs.Checked.{LinkAnswered};
 
 use calendars::PlanCalendar;
 use memory::Tables;
+use network::Link;
 use order::PlanError;
 use sheet::Sheet;
 
 pub mod lags;
-pub mod link_fields;
 
-// The ends of a link by the activities' numbers.
-#[derive(Clone, Copy)]
-pub struct Ends {
-    pub from: usize,
-    pub to: usize,
-}
-
-// Rows 13 and 14 for link `k`.
-pub fn link_ends(sheet: &Sheet, tables: &Tables, k: usize) -> Result<Ends, PlanError>
+// Rows 13 and 14 for link `k`: its ends by the activities' numbers.
+pub fn link_ends(sheet: &Sheet, tables: &Tables, k: usize) -> Result<Link, PlanError>
     requires { Lent sheet.now tables.now × (k < sheet.now.contents.links) × DistinctIds (plan_in sheet.now) × Indexed (plan_in sheet.now) (state tables.now) sheet.now.contents.activities }
     ensures { EndsOf (plan_in sheet.now) k result }
 {
     let a = sheet.contents.activities;
-    let pred = link_fields::predecessor_of(sheet, k);
+    let link = sheet.link(k);
+    let pred = link.predecessor();
     let Some(from) = ids::find(sheet, tables, a, pred) else {
         return Err(PlanError::UnknownActivity(pred));
     };
-    let succ = link_fields::successor_of(sheet, k);
+    let succ = link.successor();
     let Some(to) = ids::find(sheet, tables, a, succ) else {
         return Err(PlanError::UnknownActivity(succ));
     };
     if pred == succ {
         return Err(PlanError::SelfLink(pred));
     }
-    Ok(Ends { from, to })
+    Ok(Link { from, to })
 }
 
 // Whether one of two activities is marked as a summary.
-pub fn is_either_marked(tables: &Tables, from: usize, to: usize) -> bool
-    requires { (from < tables.now.activities) × (to < tables.now.activities) }
-    ensures { result ≡ (ltb 0 ((state tables.now).act is_summary from) || ltb 0 ((state tables.now).act is_summary to)) }
+pub fn is_either_marked(tables: &Tables, ends: Link) -> bool
+    requires { (ends.from < tables.now.activities) × (ends.to < tables.now.activities) }
+    ensures { result ≡ (ltb 0 ((state tables.now).act is_summary ends.from) || ltb 0 ((state tables.now).act is_summary ends.to)) }
 {
-    tables.act(from, memory::fields::IS_SUMMARY) > 0
-        || tables.act(to, memory::fields::IS_SUMMARY) > 0
+    tables.act(ends.from, memory::fields::IS_SUMMARY) > 0
+        || tables.act(ends.to, memory::fields::IS_SUMMARY) > 0
 }
 
 // The calendar that the lag of link `k` counts on.
-pub fn tie_calendar(sheet: &Sheet, k: usize, from: usize, to: usize) -> u64
-    requires { (k < sheet.now.contents.links) × ActivitiesFine (plan_in sheet.now) × Between (plan_in sheet.now) k from to }
+pub fn tie_calendar(sheet: &Sheet, k: usize, ends: Link) -> u64
+    requires { (k < sheet.now.contents.links) × ActivitiesFine (plan_in sheet.now) × Between (plan_in sheet.now) k ends.from ends.to }
     ensures { (result ≡ tie_calendar (plan_in sheet.now) k) × (result ≤ sheet.now.contents.calendars) }
 {
-    let by = link_fields::lag_calendar_of(sheet);
-    let pred = ids::activity_fields::calendar_of(sheet, from);
-    let succ = ids::activity_fields::calendar_of(sheet, to);
-    let lag = link_fields::lag_of(sheet, k);
+    let by = sheet.lag_calendar();
+    let pred = sheet.activity(ends.from).calendar();
+    let succ = sheet.activity(ends.to).calendar();
+    let lag = sheet.link(k).lag();
     lags::lag_calendar(lag, by, pred, succ, sheet.contents.calendars as u64)
 }
 
 // Row 8 for the lag of link `k`; `calendars` has the day length of each calendar, and of the round-the-clock one.
-pub fn is_tie_too_long(
-    sheet: &Sheet,
-    calendars: &[PlanCalendar],
-    k: usize,
-    from: usize,
-    to: usize,
-) -> bool
-    requires { (k < sheet.now.contents.links) × ActivitiesFine (plan_in sheet.now) × Between (plan_in sheet.now) k from to × Lengths (plan_in sheet.now) calendars.now }
+pub fn is_tie_too_long(sheet: &Sheet, calendars: &[PlanCalendar], k: usize, ends: Link) -> bool
+    requires { (k < sheet.now.contents.links) × ActivitiesFine (plan_in sheet.now) × Between (plan_in sheet.now) k ends.from ends.to × Lengths (plan_in sheet.now) calendars.now }
     ensures { result ≡ tie_too_long (plan_in sheet.now) k }
 {
-    let calendar = tie_calendar(sheet, k, from, to);
-    let lag = link_fields::lag_of(sheet, k);
-    let minutes = ids::activity_fields::minutes_of(sheet, from);
+    let calendar = tie_calendar(sheet, k, ends);
+    let lag = sheet.link(k).lag();
+    let minutes = sheet.activity(ends.from).minutes();
     lags::is_lag_too_long(lag, calendars[calendar as usize].day_length, minutes as i64)
 }
 
@@ -94,15 +82,15 @@ pub fn link_check(
     tables: &Tables,
     calendars: &[PlanCalendar],
     k: usize,
-) -> Result<Option<Ends>, PlanError>
+) -> Result<Option<Link>, PlanError>
     requires { Lent sheet.now tables.now × (k < sheet.now.contents.links) × DistinctIds (plan_in sheet.now) × Indexed (plan_in sheet.now) (state tables.now) sheet.now.contents.activities × Parented (plan_in sheet.now) (state tables.now) sheet.now.contents.activities × ActivitiesFine (plan_in sheet.now) × Lengths (plan_in sheet.now) calendars.now }
     ensures { LinkAnswered (plan_in sheet.now) k result }
 {
     let ends = link_ends(sheet, tables, k)?;
-    if is_either_marked(tables, ends.from, ends.to) {
+    if is_either_marked(tables, ends) {
         return Ok(None);
     }
-    if is_tie_too_long(sheet, calendars, k, ends.from, ends.to) {
+    if is_tie_too_long(sheet, calendars, k, ends) {
         return Err(PlanError::TooLong);
     }
     Ok(Some(ends))

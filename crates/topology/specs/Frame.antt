@@ -7,6 +7,7 @@ abbrev pub outside : ℕ → ℕ → ℕ → Bool
 outside lo hi f = ltb f lo || not (ltb f hi)
 
 -- T is S but for the fields from lo up to hi of activities and from low up to high of links
+-- a clause, and no type's field: it relates what a function found to what it leaves
 pub record Frame (lo hi low high : ℕ) (S T : State) : Type 0 where
   pub acts : (f : ℕ) → outside lo hi f ≡ true → T.act f ≡ S.act f
   pub links : (f : ℕ) → outside low high f ≡ true → T.link f ≡ S.link f

@@ -1,31 +1,21 @@
 -- Frames: one after another, a wider one, and those of puts, of a filled field and of chains.
-use Rattle.std.specs.Prelude.{◌≡◌, refl, Bool, true, false, not, ◌||◌, ◌≢◌, ◌⊎◌, ℕ, ◌≤◌, ◌<◌, ltb, ℤ}
-use Rattle.std.proofs.Common.{sym, ◌∙◌, inl, inr, ⊎_elim, arith, ltb-true, ltb-false, lt-ltb, le-ltb}
+use Rattle.std.specs.Prelude.{◌≡◌, refl, true, not, ◌≢◌, ◌⊎◌, ℕ, ◌≤◌, ◌<◌, ltb, ℤ}
+use Rattle.std.proofs.Common.{◌∙◌, inl, inr, ⊎_elim, arith, ltb-true, ltb-false, lt-ltb, le-ltb}
+use Rattle.std.proofs.Math.Bool.{or-true}
+use Rattle.std.proofs.lemmas.Bool.{or_cases, not-true}
 use Rattle.memory.specs.State.{State, put_act_z, fill_act}
 use Rattle.memory.specs.StateLaws.{act_field, act_z_field, fill_act_field, fill_act_z_field}
 use Rattle.memory.specs.Chains.{Kept}
 use Rattle.topology.specs.Frame.{outside, Frame}
 
-or_cases : (b c : Bool) → b || c ≡ true → (b ≡ true) ⊎ (c ≡ true)
-or_cases true c e = inl refl
-or_cases false c e = inr e
-
-not_true : (b : Bool) → not b ≡ true → b ≡ false
-not_true true e = sym e
-not_true false e = refl
-
 outside_cases : (lo hi f : ℕ) → outside lo hi f ≡ true → (f < lo) ⊎ (hi ≤ f)
-outside_cases lo hi f e = ⊎_elim (λ h. inl (ltb-true f lo h)) (λ h. inr (ltb-false f hi (not_true (ltb f hi) h))) (or_cases (ltb f lo) (not (ltb f hi)) e)
+outside_cases lo hi f e = ⊎_elim (λ h. inl (ltb-true f lo h)) (λ h. inr (ltb-false f hi (not-true (ltb f hi) h))) (or_cases (ltb f lo) (not (ltb f hi)) e)
 
 pub outside_below : (lo hi f : ℕ) → f < lo → outside lo hi f ≡ true
 outside_below lo hi f h = simp (lt-ltb _ _ h)
 
-or_true : (b : Bool) → b || true ≡ true
-or_true true = refl
-or_true false = refl
-
 pub outside_above : (lo hi f : ℕ) → hi ≤ f → outside lo hi f ≡ true
-outside_above lo hi f h = simp (le-ltb _ _ h) (or_true (ltb f lo))
+outside_above lo hi f h = simp (le-ltb _ _ h) (or-true (ltb f lo))
 
 -- what lies outside a wider stretch lies outside a narrower one
 outside_wider : (lo hi low high f : ℕ) → low ≤ lo → hi ≤ high → outside low high f ≡ true → outside lo hi f ≡ true

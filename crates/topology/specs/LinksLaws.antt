@@ -1,5 +1,5 @@
 -- The links of the link table: how many, each of them, and what is left of an activity's chain.
-use Rattle.std.specs.Prelude.{◌≡◌, true, false, ◌≢◌, eqb, length, get_or}
+use Rattle.std.specs.Prelude.{◌≡◌, ◌≢◌, length, get_or}
 use Rattle.std.proofs.Math.Path.{refl, sym, ap, ap₂}
 use Rattle.std.proofs.Common.{◌∙◌, add-one}
 use Rattle.std.proofs.Math.Logic.{⊎_elim}
@@ -9,7 +9,9 @@ use native.Mathlib.Omega.{arith}
 use Rattle.std.proofs.Math.ListN.{length-append, get_or-append}
 use Rattle.std.proofs.Math.Seq.{get_or_at}
 use Rattle.number.specs.Order.{eq_or_ne}
+use Rattle.std.specs.List.{AllByRecursion}
 use Rattle.cells.specs.Chain.{keyed, after, Stands}
+use Rattle.cells.specs.ChainLaws.{keyed_same, after_all}
 use Rattle.memory.specs.State.{State}
 use Rattle.memory.specs.Fields.{from_field, to_field}
 use Rattle.network.specs.Links.{Link, no_link}
@@ -64,26 +66,28 @@ module _ (S T : State) (f : T.link from_field ≡ S.link from_field) (g : T.link
 
 -- ---- an activity's chain, as the network has it
 
-keyed_ext : (key key' : ℕ → ℕ) (v m k : ℕ) → ((p : ℕ) → p < k + m → key p ≡ key' p) → keyed key v m k ≡ keyed key' v m k
-unfolding keyed
-keyed_ext key key' v zero k h = refl
-keyed_ext key key' v (suc m) k h =
-    let e : key k ≡ key' k = h k (omega arith) in
-    let r : keyed key v m (k + 1) ≡ keyed key' v m (k + 1) = keyed_ext key key' v m (k + 1) (λ p b. h p (omega arith)) in
-    ap₂ (λ (x : ℕ) (ks : List ℕ). elim (eqb x v) [ true ↦ k ∷ ks | false ↦ ks ]) e r
-
 module _ (S : State) (t v : ℕ) where
   targets_after : (k : ℕ) → k ≤ t → targets_from (links_of S t) v k ≡ map (to_at (links_of S t)) (after (S.link from_field) t v k)
   unfolding targets_from
   targets_after k h =
       ap (λ (n : ℕ). map (to_at (links_of S t)) (keyed (from_at (links_of S t)) v (n - k) k)) (links_length S t)
-      ∙ ap (map (to_at (links_of S t))) (keyed_ext (from_at (links_of S t)) (S.link from_field) v (t - k) k (λ p b. from_at_lem S t p (omega arith)))
+      ∙ ap (map (to_at (links_of S t))) (keyed_same (from_at (links_of S t)) (S.link from_field) v (t - k) k (λ p b. from_at_lem S t p (omega arith)))
 
   sources_after : (k : ℕ) → k ≤ t → sources_from (links_of S t) v k ≡ map (from_at (links_of S t)) (after (S.link to_field) t v k)
   unfolding sources_from
   sources_after k h =
       ap (λ (n : ℕ). map (from_at (links_of S t)) (keyed (to_at (links_of S t)) v (n - k) k)) (links_length S t)
-      ∙ ap (map (from_at (links_of S t))) (keyed_ext (to_at (links_of S t)) (S.link to_field) v (t - k) k (λ p b. to_at_lem S t p (omega arith)))
+      ∙ ap (map (from_at (links_of S t))) (keyed_same (to_at (links_of S t)) (S.link to_field) v (t - k) k (λ p b. to_at_lem S t p (omega arith)))
+
+  -- the links into v lead from its sources
+  pub sources_are : sources (links_of S t) v ≡ map (S.link from_field) (after (S.link to_field) t v 0)
+  sources_are =
+      sym (sources_start (links_of S t) v) ∙ sources_after 0 (omega arith)
+      ∙ map_ext (from_at (links_of S t)) (S.link from_field) (after (S.link to_field) t v 0) (λ k b. from_at_lem S t k b) (after_all (S.link to_field) t v 0 (omega arith))
+    where
+      map_ext : (f g : ℕ → ℕ) (ks : List ℕ) → ((k : ℕ) → k < t → f k ≡ g k) → AllByRecursion (λ k. (k < t) × (S.link to_field k ≡ v)) ks → map f ks ≡ map g ks
+      map_ext f g [] h a = refl
+      map_ext f g (k ∷ ks) h a = ap₂ (λ (x : ℕ) (xs : List ℕ). x ∷ xs) (h k a.0.0) (map_ext f g ks h a.1)
 
   -- between two links of a chain nothing is met
   pub targets_stands : (k k' : ℕ) → Stands (S.link from_field) t v k k' → targets_from (links_of S t) v k' ≡ targets_from (links_of S t) v k

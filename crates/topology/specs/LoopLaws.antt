@@ -3,17 +3,19 @@ use Rattle.std.specs.Prelude.{◌≡◌, ◌≢◌, pos, length}
 use Rattle.std.proofs.Math.Path.{refl, sym, ap, subst}
 use Rattle.std.proofs.Common.{ap₂, ◌∙◌, ⊎_elim, arith, add-one, lt-ltb, ltb, unwrap_or, IfSome, Option, Some, None, option_map}
 use Rattle.std.specs.List.{find, range_with_len}
-use mathlib.Core.List.{List, [], ◌∷◌}
+use mathlib.Core.List.{List, [], ◌∷◌, map}
+use Rattle.std.specs.List.{AllByRecursion}
 use Prim.Native.Nat.{ℕ, zero, suc, ◌+◌, ◌-◌, ◌≤◌, ◌<◌}
 use Rattle.std.proofs.Math.ListN.{get_or}
 use Rattle.number.specs.Order.{eq_or_ne, zero_or_pos}
-use Rattle.cells.specs.Chain.{Stands}
+use Rattle.cells.specs.Chain.{after}
+use Rattle.cells.specs.ChainLaws.{after_all}
 use Rattle.memory.specs.State.{State, put_act}
 use Rattle.memory.specs.StateLaws.{act_same, act_row}
 use Rattle.memory.specs.Fields.{first_in, waiting, seen, path_at, from_field, to_field, next_into}
 use Rattle.network.specs.Links.{Link}
 use Rattle.network.specs.Kahn.{drained, first_waiting, waiting_before, go_back, again, named_loop}
-use Rattle.network.specs.Outgoing.{sources_from, waiting_in}
+use Rattle.network.specs.Outgoing.{waiting_in}
 use Rattle.network.specs.Pending.{Ranged}
 use Rattle.network.proofs.Draining.{drained_kept, waits_below}
 use Rattle.network.proofs.GoingBack.{first_waiting_skip, first_waiting_here}
@@ -22,7 +24,7 @@ use Rattle.network.proofs.KahnLaws.{kahn_length, named_loop_le, named_loop_below
 use Rattle.network.proofs.BackSteps.{waiting_in_skip, waiting_in_here, waiting_in_none, waiting_before_sources}
 use Rattle.network.proofs.BackWalk.{Back, back_start, back_le, back_room, back_on, back_length, back_at}
 use Rattle.topology.specs.Links.{links_of, Ends}
-use Rattle.topology.specs.LinksLaws.{links_ranged, links_same, ends_same, sources_stands, sources_first, sources_hit, sources_none}
+use Rattle.topology.specs.LinksLaws.{links_ranged, links_same, ends_same, sources_are}
 use Rattle.topology.specs.Frame.{Frame}
 use Rattle.topology.specs.FrameLaws.{frame_refl, frame_then, frame_acts, frame_put}
 use Rattle.topology.specs.StepLaws.{put_column}
@@ -73,46 +75,34 @@ module _ (c : ℕ → ℕ) where
 
 -- ---- the first waiting predecessor, along the links into x
 
--- link k into x is next to be looked at
-pub record Looking (t : ℕ) (S : State) (x k : ℕ) : Type 0 where
-  pub top : k ≤ t
-  pub hits : k < t → S.link to_field k ≡ x
-  pub left : waiting_in (S.act waiting) (sources_from (links_of S t) x k) x ≡ waiting_before (links_of S t) (S.act waiting) (links_of S t) x
+-- the links into x that are left to be looked at are ks
+pub record Looking (t : ℕ) (S : State) (x : ℕ) (ks : List ℕ) : Type 0 where
+  pub each : AllByRecursion (λ k. (k < t) × (S.link to_field k ≡ x)) ks
+  pub left : waiting_in (S.act waiting) (map (S.link from_field) ks) x ≡ waiting_before (links_of S t) (S.act waiting) (links_of S t) x
 
-module _ {a t : ℕ} {S : State} (C : ChainsIn a t S) where
-  pub looking_start : (x k : ℕ) → x < a → k ≡ S.act first_in x → Looking t S x k
-  looking_start x k b e =
-      let s : Stands (S.link to_field) t x 0 k = rw e (C.heads x b) in record {
-        top = s.top;
-        hits = s.hits;
-        left =
-            ap (λ (ys : List ℕ). waiting_in (S.act waiting) ys x) (sources_first S t x k s)
-            ∙ sym (waiting_before_sources (S.act waiting) x (links_of S t) (links_of S t));
+module _ {t : ℕ} {S : State} where
+  pub looking_start : (x : ℕ) → Looking t S x (after (S.link to_field) t x 0)
+  looking_start x = record {
+    each = after_all (S.link to_field) t x 0 (omega arith);
+    left = ap (λ (ys : List ℕ). waiting_in (S.act waiting) ys x) (sym (sources_are S t x)) ∙ sym (waiting_before_sources (S.act waiting) x (links_of S t) (links_of S t));
+  }
+
+  module _ {x : ℕ} where
+    pub looking_end : Looking t S x [] → x ≡ waiting_before (links_of S t) (S.act waiting) (links_of S t) x
+    looking_end L = sym (waiting_in_none (S.act waiting) x) ∙ L.left
+
+    module _ {k : ℕ} {ks : List ℕ} (L : Looking t S x (k ∷ ks)) where
+      pub looking_found : 0 < S.act waiting (S.link from_field k) → S.link from_field k ≡ waiting_before (links_of S t) (S.act waiting) (links_of S t) x
+      looking_found p = sym (waiting_in_here (S.act waiting) x (S.link from_field k) (map (S.link from_field) ks) p) ∙ L.left
+
+      pub looking_step : S.act waiting (S.link from_field k) ≡ 0 → Looking t S x ks
+      looking_step z = record {
+        each = L.each.1;
+        left = sym (waiting_in_skip (S.act waiting) x (S.link from_field k) (map (S.link from_field) ks) z) ∙ L.left;
       }
 
-  module _ {x k : ℕ} (L : Looking t S x k) where
-    front : k < t → waiting_in (S.act waiting) (S.link from_field k ∷ sources_from (links_of S t) x (k + 1)) x ≡ waiting_before (links_of S t) (S.act waiting) (links_of S t) x
-    front b = ap (λ (ys : List ℕ). waiting_in (S.act waiting) ys x) (sym (sources_hit S t x k b (L.hits b))) ∙ L.left
-
-    pub looking_found : k < t → 0 < S.act waiting (S.link from_field k) → S.link from_field k ≡ waiting_before (links_of S t) (S.act waiting) (links_of S t) x
-    looking_found b p = sym (waiting_in_here (S.act waiting) x (S.link from_field k) (sources_from (links_of S t) x (k + 1)) p) ∙ front b
-
-    pub looking_step : (k' : ℕ) → k < t → S.act waiting (S.link from_field k) ≡ 0 → k' ≡ S.link next_into k → Looking t S x k'
-    looking_step k' b z e =
-        let s : Stands (S.link to_field) t x (k + 1) k' = rw (e, sym (L.hits b)) (C.nexts k (omega arith) b) in record {
-          top = s.top;
-          hits = s.hits;
-          left =
-              ap (λ (ys : List ℕ). waiting_in (S.act waiting) ys x) (sources_stands S t x (k + 1) k' s)
-              ∙ sym (waiting_in_skip (S.act waiting) x (S.link from_field k) (sources_from (links_of S t) x (k + 1)) z) ∙ front b;
-        }
-
-    pub looking_later : k < t → k < S.link next_into k
-    looking_later b = omega (arith, (C.nexts k (omega arith) b).low)
-
-    pub looking_end : t ≤ k → x ≡ waiting_before (links_of S t) (S.act waiting) (links_of S t) x
-    looking_end b =
-        sym (waiting_in_none (S.act waiting) x) ∙ ap (λ (ys : List ℕ). waiting_in (S.act waiting) ys x) (sym (sources_none S t x k b)) ∙ L.left
+pub looking_later : (a t : ℕ) (S : State) → ChainsIn a t S → (k : ℕ) → k < t → k < S.link next_into k
+looking_later a t S C k b = omega (arith, (C.nexts k (omega arith) b).low)
 
 -- ---- the state of an order that stopped early
 

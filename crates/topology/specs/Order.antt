@@ -1,19 +1,12 @@
 -- What the order of the activities leaves in the state: the order, the counts, and the chains of the links.
 use Rattle.std.specs.Prelude.{◌≡◌, [], ℕ, ◌≤◌, ◌<◌, length, get_or}
-use Rattle.cells.specs.Chain.{Chained}
 use Rattle.memory.specs.State.{State}
-use Rattle.memory.specs.Fields.{first_in, first_out, waiting, order_at, seen, from_field, to_field, next_into, next_out}
+pub use Rattle.memory.specs.Chains.{ChainsIn, ChainsOut}
+use Rattle.memory.specs.Fields.{first_in, waiting, order_at, seen, next_into}
 use Rattle.network.specs.Kahn.{drained, kahn}
 use Rattle.network.specs.Array.{Progress}
 use Rattle.topology.specs.Links.{links_of}
 use Rattle.topology.specs.Frame.{Frame}
-
--- the first t links into each activity, and those out of it, as chains
-abbrev pub ChainsIn : ℕ → ℕ → State → Type 0
-ChainsIn a t S = Chained (S.link to_field) (S.act first_in) (S.link next_into) a t 0
-
-abbrev pub ChainsOut : ℕ → ℕ → State → Type 0
-ChainsOut a t S = Chained (S.link from_field) (S.act first_out) (S.link next_out) a t 0
 
 -- from S to T the fields `waiting` and `order_at` have changed: h activities are out and the queue reaches up to `end`
 pub record Draining (a t : ℕ) (S T : State) (h end : ℕ) : Type 0 where

@@ -14,6 +14,7 @@ ghost use Rattle.topology.specs.Order.{ChainsIn, ChainsOut, Draining, Topologica
 ghost use Rattle.topology.specs.Loop.{Stuck, loop_at, NamedLoop, passed, WalkedBack};
 
 use memory::{Tables, fields};
+use std::ops::Range;
 
 // Counts link `k` for the activity that it leads to.
 fn count_link(tables: &mut Tables, k: usize)
@@ -86,7 +87,7 @@ fn release(tables: &mut Tables, h: usize, end: usize) -> usize
     let v = tables.act(h, fields::ORDER_AT) as usize;
     let mut k = tables.act(v, fields::FIRST_OUT) as usize;
     let mut r = end;
-    // A `for` knows no chain: each link names the next.
+    // A `while`: the body writes the tables that the next link is read from, so no iterator may hold them.
     while k < tables.kept {
         r = meet_link(tables, k, r);
         k = tables.link(k, fields::NEXT_OUT) as usize;
@@ -149,14 +150,11 @@ fn waiting_before(tables: &Tables, x: usize) -> Option<usize>
     requires { (x < tables.now.activities) × Ends tables.now.activities tables.now.kept (state tables.now) × ChainsIn tables.now.activities tables.now.kept (state tables.now) }
     ensures { unwrap_or result x ≡ waiting_before (links_of (state tables.now) tables.now.kept) ((state tables.now).act waiting) (links_of (state tables.now) tables.now.kept) x }
 {
-    let mut k = tables.act(x, fields::FIRST_IN) as usize;
-    // A `for` knows no chain: each link names the next.
-    while k < tables.kept {
+    for k in tables.links_into(x) {
         let y = tables.link(k, fields::FROM) as usize;
         if tables.act(y, fields::WAITING) > 0 {
             return Some(y);
         }
-        k = tables.link(k, fields::NEXT_INTO) as usize;
     }
     None
 }
@@ -171,17 +169,10 @@ fn step_back(tables: &mut Tables, m: usize, x: usize) -> usize
     waiting_before(tables, x).unwrap_or(x)
 }
 
-// Where the loop stands in the path.
-#[derive(Clone, Copy)]
-struct Way {
-    from: usize,
-    end: usize,
-}
-
-// Goes back from activity `start` along each one's first waiting predecessor until one repeats.
-fn walk_back(tables: &mut Tables, start: usize) -> Way
+// Goes back from activity `start` along each one's first waiting predecessor until one repeats; answers where the loop stands in the path.
+fn walk_back(tables: &mut Tables, start: usize) -> Range<usize>
     requires { Stuck tables.old.activities tables.old.kept (state tables.old) × ((i : ℕ) → (state tables.old).act seen i ≡ 0) × (start ≡ first_waiting (links_of (state tables.old) tables.old.kept) ((state tables.old).act waiting) tables.old.activities 0) }
-    ensures { WalkedBack tables.old.activities tables.old.kept (state tables.old) (state tables.new) start result.from result.end × SameSlice tables.old tables.new }
+    ensures { WalkedBack tables.old.activities tables.old.kept (state tables.old) (state tables.new) start result.start result.end × SameSlice tables.old tables.new }
 {
     let mut x = start;
     let mut m: usize = 0;
@@ -189,24 +180,21 @@ fn walk_back(tables: &mut Tables, start: usize) -> Way
     loop {
         let mark = tables.act(x, fields::SEEN) as usize;
         if mark > 0 {
-            return Way {
-                from: mark - 1,
-                end: m,
-            };
+            return mark - 1..m;
         }
         x = step_back(tables, m, x);
         m += 1;
     }
 }
 
-// Puts the path's places from `end` down to `from` where the marks stood; answers how many they are.
-fn copy_loop(tables: &mut Tables, from: usize, end: usize) -> usize
-    requires { (from < end) × (end ≤ tables.old.activities) }
-    ensures { (result ≡ end - from) × ((k : ℕ) → k < result → (state tables.new).act loop_at k ≡ (state tables.old).act path_at (end - 1 - k)) × Frame seen path_at 0 0 (state tables.old) (state tables.new) × SameSlice tables.old tables.new }
+// Puts what stands in the path at `places`, from the last to the first, where the marks stood; answers how many they are.
+fn copy_loop(tables: &mut Tables, places: Range<usize>) -> usize
+    requires { (places.start < places.end) × (places.end ≤ tables.old.activities) }
+    ensures { (result ≡ places.end - places.start) × ((k : ℕ) → k < result → (state tables.new).act loop_at k ≡ (state tables.old).act path_at (places.end - 1 - k)) × Frame seen path_at 0 0 (state tables.old) (state tables.new) × SameSlice tables.old tables.new }
 {
-    let n = end - from;
+    let n = places.len();
     for k in 0..n {
-        let x = tables.act(end - 1 - k, fields::PATH_AT);
+        let x = tables.act(places.end - 1 - k, fields::PATH_AT);
         tables.put_act(k, fields::SEEN, x);
     }
     n
@@ -220,6 +208,6 @@ pub fn name_loop(tables: &mut Tables) -> usize
 {
     tables.fill_act(fields::SEEN, 0);
     let start = first_waiting(tables).unwrap();
-    let w = walk_back(tables, start);
-    copy_loop(tables, w.from, w.end)
+    let way = walk_back(tables, start);
+    copy_loop(tables, way)
 }

@@ -6,7 +6,7 @@ use Rattle.std.proofs.Math.Path.{sym}
 use Rattle.std.proofs.Common.{ap, ◌∙◌, inl, inr, arith}
 use Rattle.std.proofs.Math.Logic.{⊎_elim}
 use Rattle.date.specs.Years.{in_years}
-use Rattle.number.specs.Order.{cases, lt_or_le}
+use Rattle.std.proofs.lemmas.Bool.{cases_Bool, cases_lt}
 use Rattle.worktime.specs.Worked.{count, closing, IsNextStart, IsPreviousFinish, IsNextFinish}
 use Rattle.worktime.specs.Walks.{first_minute, end_minute, least, greatest, next_start, previous_finish, next_finish, working_at, previous_start, start_by, minute_before}
 use Rattle.worktime.specs.Count.{count_mono, count_worked, count_idle, closing_suc, start_le, close_le, start_unique, gap, reach}
@@ -30,11 +30,11 @@ module _ (w : ℕ → Bool) where
 
   pub working_at_sound : (t : ℕ) (b : Bool) → working_at w t ≡ Ok b → (b ≡ w t) × (in_years (t / 1440) ≡ true)
   working_at_sound t b e =
-      ⊎_elim (λ x. let f = working_at_in t x in (cc, x)) (λ x. absurd (is_or_refused e (working_at_out t x))) (cases (in_years (t / 1440)))
+      ⊎_elim (λ x. let f = working_at_in t x in (cc, x)) (λ x. absurd (is_or_refused e (working_at_out t x))) (cases_Bool (in_years (t / 1440)))
 
   pub working_at_why : (t : ℕ) (k : ClockError) → working_at w t ≡ Err k → (k ≡ TooLong) × (in_years (t / 1440) ≡ false)
   working_at_why t k e =
-      ⊎_elim (λ x. absurd (is_or_refused (working_at_in t x) e)) (λ x. let f = working_at_out t x in (cc, x)) (cases (in_years (t / 1440)))
+      ⊎_elim (λ x. absurd (is_or_refused (working_at_in t x) e)) (λ x. let f = working_at_out t x in (cc, x)) (cases_Bool (in_years (t / 1440)))
 
   pub working_at_refused : (t : ℕ) (k : ClockError) → working_at w t ≡ Err k → k ≡ TooLong
   working_at_refused t k e = (working_at_why t k e).0
@@ -66,7 +66,7 @@ module _ (w : ℕ → Bool) where
           next_start_in t p.0 p.1 ∙ least_none w (end_minute - t) t (omega (arith, ap (count w) e))
 
   pub next_start_none_idle : (t : ℕ) → ((v : ℕ) → t ≤ v → v < end_minute → w v ≡ false) → next_start w t ≡ Err TooLong
-  next_start_none_idle t h = next_start_none t (⊎_elim (λ l. count_mono w (omega arith)) (λ l. omega (arith, gap w l h)) (lt_or_le end_minute t))
+  next_start_none_idle t h = next_start_none t (⊎_elim (λ l. count_mono w (omega arith)) (λ l. omega (arith, gap w l h)) (cases_lt end_minute t))
 
   pub next_start_ways : (t : ℕ) → Ways (next_start w t) (λ u. IsNextStart w t u × (first_minute ≤ t) × (u < end_minute))
       ((in_years (t / 1440) ≡ false) ⊎ (count w end_minute ≤ count w t))
@@ -78,7 +78,7 @@ module _ (w : ℕ → Bool) where
       let r = reach w end_minute (count w t) l in
       let s = next_start_of w r.2 r.3 in
       answers r.0 (next_start_at_is s p.0 r.1) (s, p.0, r.1)) (λ l. refuses (next_start_none t l) (inr l))
-      (lt_or_le (count w t) (count w end_minute))) (λ e. refuses (next_start_out t e) (inl e)) (minute_cases t)
+      (cases_lt (count w t) (count w end_minute))) (λ e. refuses (next_start_out t e) (inl e)) (minute_cases t)
 
   pub next_start_sound : {t u : ℕ} → next_start w t ≡ Ok u → IsNextStart w t u × (first_minute ≤ t) × (u < end_minute)
   next_start_sound {t} e = ways_sound (next_start_ways t) e
@@ -121,7 +121,7 @@ module _ (w : ℕ → Bool) where
 
   pub previous_finish_none_idle : (t : ℕ) → ((v : ℕ) → first_minute ≤ v → v < t → w v ≡ false) → previous_finish w t ≡ Err TooLong
   previous_finish_none_idle t h =
-      previous_finish_none t (⊎_elim (λ l. count_mono w (omega arith)) (λ l. omega (arith, gap w l h)) (lt_or_le t first_minute))
+      previous_finish_none t (⊎_elim (λ l. count_mono w (omega arith)) (λ l. omega (arith, gap w l h)) (cases_lt t first_minute))
 
   pub previous_finish_ways : (t : ℕ) → Ways (previous_finish w t) (λ u. IsPreviousFinish w t u × (first_minute < u) × (t < end_minute))
       ((in_years (t / 1440) ≡ false) ⊎ (count w t ≤ count w first_minute))
@@ -135,7 +135,7 @@ module _ (w : ℕ → Bool) where
       previous_finish_of w (closing_suc w r.0 ∙ r.2) (omega (arith, count_worked w r.0 r.2)) in
       let a : first_minute ≤ r.0 = (start_le w r.2).1 (omega arith) in
       answers (suc r.0) (previous_finish_at_is s (omega arith) p.1) (s, omega arith, p.1))
-      (λ l. refuses (previous_finish_none t l) (inr l)) (lt_or_le (count w first_minute) (count w t)))
+      (λ l. refuses (previous_finish_none t l) (inr l)) (cases_lt (count w first_minute) (count w t)))
       (λ e. refuses (previous_finish_out t e) (inl e)) (minute_cases t)
 
   pub previous_finish_sound : {t u : ℕ} → previous_finish w t ≡ Ok u → IsPreviousFinish w t u × (first_minute < u) × (t < end_minute)
@@ -182,7 +182,7 @@ module _ (w : ℕ → Bool) where
   next_finish_at_is {t} {u} f a b =
       let l = next_finish_after w f in
       ⊎_elim (λ h. next_finish_closing t a (omega arith) h ∙ ap Ok (sym (f.here h)))
-      (λ h. next_finish_else t a (omega arith) h ∙ next_start_at_is (f.later h) (omega arith) b) (cases (closing w t))
+      (λ h. next_finish_else t a (omega arith) h ∙ next_start_at_is (f.later h) (omega arith) b) (cases_Bool (closing w t))
 
   pub next_finish_at : {t u : ℕ} → first_minute < t → u < end_minute → closing w t ≡ false → w u ≡ true
       → count w u ≡ count w t → next_finish w t ≡ Ok u
@@ -190,8 +190,8 @@ module _ (w : ℕ → Bool) where
 
   pub next_finish_none : (t : ℕ) → closing w t ≡ false → count w end_minute ≤ count w t → next_finish w t ≡ Err TooLong
   next_finish_none t h c =
-      ⊎_elim (λ l. ⊎_elim (λ r. next_finish_else t l r h ∙ next_start_none t c) (λ r. next_finish_out_range t (inr r)) (lt_or_le t end_minute))
-      (λ l. next_finish_out_range t (inl l)) (lt_or_le first_minute t)
+      ⊎_elim (λ l. ⊎_elim (λ r. next_finish_else t l r h ∙ next_start_none t c) (λ r. next_finish_out_range t (inr r)) (cases_lt t end_minute))
+      (λ l. next_finish_out_range t (inl l)) (cases_lt first_minute t)
 
   pub next_finish_ways : (t : ℕ) → Ways (next_finish w t) (λ u. IsNextFinish w t u × (first_minute < t) × (u < end_minute))
       ((t ≤ first_minute) ⊎ (end_minute ≤ t) ⊎ ((closing w t ≡ false) × (count w end_minute ≤ count w t)))
@@ -207,9 +207,9 @@ module _ (w : ℕ → Bool) where
       let x = reach w end_minute (count w t) c in
       let f = next_finish_later w h (next_start_of w x.2 x.3) in
       answers x.0 (next_finish_at_is f l x.1) (f, l, x.1)) (λ c. refuses (next_finish_none t h c) (inr (inr (h, c))))
-      (lt_or_le (count w t) (count w end_minute))) (cases (closing w t)))
-      (λ r. refuses (next_finish_out_range t (inr r)) (inr (inl r))) (lt_or_le t end_minute))
-      (λ l. refuses (next_finish_out_range t (inl l)) (inl l)) (lt_or_le first_minute t)
+      (cases_lt (count w t) (count w end_minute))) (cases_Bool (closing w t)))
+      (λ r. refuses (next_finish_out_range t (inr r)) (inr (inl r))) (cases_lt t end_minute))
+      (λ l. refuses (next_finish_out_range t (inl l)) (inl l)) (cases_lt first_minute t)
 
   pub next_finish_sound : {t u : ℕ} → next_finish w t ≡ Ok u → IsNextFinish w t u × (first_minute < t) × (u < end_minute)
   next_finish_sound {t} e = ways_sound (next_finish_ways t) e
@@ -234,7 +234,7 @@ module _ (w : ℕ → Bool) where
       (λ p.
       reads_in Err _ _ (minute_in t p.0 p.1)
       ∙ ⊎_elim (λ h. on_true (w t) (Ok t) (next_start w t) h ∙ sym (next_start_worked t h p.0 p.1))
-      (λ h. on_false (w t) (Ok t) (next_start w t) h) (cases (w t)))
+      (λ h. on_false (w t) (Ok t) (next_start w t) h) (cases_Bool (w t)))
       (λ o. reads_out Err _ _ o ∙ sym (next_start_out t o)) (minute_cases t)
 
   -- ---- start by: the greatest worked minute at or before t
@@ -255,7 +255,7 @@ module _ (w : ℕ → Bool) where
       (λ o. reads_out Err _ _ o ∙ sym (ap minute_before (previous_finish_out t o))) (minute_cases t)
 
   pub start_by_at : {t u : ℕ} → first_minute ≤ u → t < end_minute → w u ≡ true → count w (suc u) ≡ count w (suc t) → start_by w t ≡ Ok u
-  start_by_at {t} {u} a b h c = ⊎_elim here before (cases (w t))
+  start_by_at {t} {u} a b h c = ⊎_elim here before (cases_Bool (w t))
     where
       here : w t ≡ true → start_by w t ≡ Ok u
       here e =
@@ -274,8 +274,8 @@ module _ (w : ℕ → Bool) where
       ⊎_elim
       (λ h.
       ⊎_elim (λ l. start_by_out t (minute_before_lem t l))
-      (λ l. absurd (let m = count_mono w l in omega (arith, count_worked w t h))) (lt_or_le t first_minute))
-      (λ h. start_by_else t h ∙ ap minute_before (previous_finish_none t (omega (arith, count_idle w t h)))) (cases (w t))
+      (λ l. absurd (let m = count_mono w l in omega (arith, count_worked w t h))) (cases_lt t first_minute))
+      (λ h. start_by_else t h ∙ ap minute_before (previous_finish_none t (omega (arith, count_idle w t h)))) (cases_Bool (w t))
 
   pub start_by_ways : (t : ℕ) → Ways (start_by w t)
       (λ u. (w u ≡ true) × (u ≤ t) × ((v : ℕ) → v ≤ t → w v ≡ true → v ≤ u) × (first_minute ≤ u) × (t < end_minute))
@@ -293,7 +293,7 @@ module _ (w : ℕ → Bool) where
         λ v b h. (start_le w r.2).1 (omega (arith, r.3, count_worked w v h, count_mono w {s = suc v} {t = suc t} (omega arith))),
         a,
         p.1,
-      )) (λ l. refuses (start_by_none t l) (inr l)) (lt_or_le (count w first_minute) (count w (suc t))))
+      )) (λ l. refuses (start_by_none t l) (inr l)) (cases_lt (count w first_minute) (count w (suc t))))
       (λ e. refuses (start_by_out t e) (inl e)) (minute_cases t)
 
   pub start_by_sound : (t u : ℕ) → start_by w t ≡ Ok u

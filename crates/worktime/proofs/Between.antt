@@ -7,7 +7,7 @@ use Rattle.std.proofs.Math.Logic.{⊎_elim}
 use Rattle.std.proofs.lemmas.Bool.{lt-leb}
 use Rattle.std.proofs.Math.IntN.{neg_ℤ-neg_ℤ, +ℤ_comm, +ℤ_assoc, -ℤ-+ℤ_cancel}
 use Rattle.date.specs.Years.{in_years}
-use Rattle.number.specs.Order.{cases, lt_or_le}
+use Rattle.std.proofs.lemmas.Bool.{cases_Bool, cases_lt}
 use Rattle.worktime.specs.Worked.{count, IsAdvance, IsRetreat}
 use Rattle.worktime.specs.Walks.{first_minute, end_minute, spanned, work_from, between, day_work, worked_before}
 use Rattle.worktime.specs.Count.{count_mono, count_spanned, spanned_to}
@@ -48,7 +48,7 @@ module _ (w : ℕ → Bool) where
       let e : spanned w b (a - b) ≡ 0 = omega (arith, spanned_to w {t = b} {u = a} (omega arith), count_mono w {s = b} {t = a} (omega arith)) in
       let z : 0 ≡ n = omega (arith, count_mono w {s = b} {t = a} (omega arith)) in
       work_from_lt a b l ∙ ap (λ x. neg_ℤ (pos x)) e ∙ ap pos z)
-      (λ l. let e : spanned w a (b - a) ≡ n = omega (arith, spanned_to w l) in work_from_le a b l ∙ ap pos e) (lt_or_le b a)
+      (λ l. let e : spanned w a (b - a) ≡ n = omega (arith, spanned_to w l) in work_from_le a b l ∙ ap pos e) (cases_lt b a)
 
   pub work_from_down : (a b n : ℕ) → count w b + n ≡ count w a → work_from w a b ≡ neg_ℤ (pos n)
   work_from_down a b n c =
@@ -59,7 +59,7 @@ module _ (w : ℕ → Bool) where
       (λ l.
       let e : spanned w a (b - a) ≡ 0 = omega (arith, spanned_to w l, count_mono w l) in
       let z : 0 ≡ n = omega (arith, count_mono w l) in
-      work_from_le a b l ∙ ap pos e ∙ ap (λ x. neg_ℤ (pos x)) z) (lt_or_le b a)
+      work_from_le a b l ∙ ap pos e ∙ ap (λ x. neg_ℤ (pos x)) z) (cases_lt b a)
 
   pub work_from_forward : (a b : ℕ) → a ≤ b → work_from w a b ≡ pos (count w b - count w a)
   work_from_forward a b l = work_from_up a b (count w b - count w a) (omega (arith, count_mono w l))
@@ -76,7 +76,7 @@ module _ (w : ℕ → Bool) where
       work_from_down a b _ c ∙ sym (less_down _ _ _ c))
       (λ l.
       let c : count w a + (count w b - count w a) ≡ count w b = omega (arith, count_mono w l) in
-      work_from_up a b _ c ∙ sym (less_up _ _ _ c)) (lt_or_le b a)
+      work_from_up a b _ c ∙ sym (less_up _ _ _ c)) (cases_lt b a)
 
   -- by way of another time it is the sum
   pub work_from_add : (a b c : ℕ) → work_from w a b +ℤ work_from w b c ≡ work_from w a c
@@ -92,7 +92,7 @@ module _ (w : ℕ → Bool) where
       work_from_up b a _ c ∙ sym (ap neg_ℤ (work_from_down a b _ c) ∙ neg_ℤ-neg_ℤ _))
       (λ l.
       let c : count w a + (count w b - count w a) ≡ count w b = omega (arith, count_mono w l) in
-      work_from_down b a _ c ∙ sym (ap neg_ℤ (work_from_up a b _ c))) (lt_or_le b a)
+      work_from_down b a _ c ∙ sym (ap neg_ℤ (work_from_up a b _ c))) (cases_lt b a)
 
   -- what the relations say in worked minutes
   pub work_from_advance : {t n u : ℕ} → IsAdvance w t n u → work_from w t u ≡ pos n
@@ -110,7 +110,7 @@ module _ (w : ℕ → Bool) where
   pub between_out_second : (a b : ℕ) → in_years (b / 1440) ≡ false → between w a b ≡ Err TooLong
   unfolding between
   between_out_second a b e =
-      ⊎_elim (λ h. reads_in Err _ _ h ∙ reads_out Err _ _ e) (λ h. between_out_first a b h) (cases (in_years (a / 1440)))
+      ⊎_elim (λ h. reads_in Err _ _ h ∙ reads_out Err _ _ e) (λ h. between_out_first a b h) (cases_Bool (in_years (a / 1440)))
 
   pub between_in : (a b : ℕ) → in_years (a / 1440) ≡ true → in_years (b / 1440) ≡ true → between w a b ≡ Ok (work_from w a b)
   unfolding between
@@ -139,8 +139,8 @@ module _ (w : ℕ → Bool) where
       ⊎_elim
       (λ x.
       ⊎_elim (λ y. let f = between_in a b x y in (cc, x, y))
-      (λ y. absurd (minutes_or_refused e (between_out_second a b y))) (cases (in_years (b / 1440))))
-      (λ x. absurd (minutes_or_refused e (between_out_first a b x))) (cases (in_years (a / 1440)))
+      (λ y. absurd (minutes_or_refused e (between_out_second a b y))) (cases_Bool (in_years (b / 1440))))
+      (λ x. absurd (minutes_or_refused e (between_out_first a b x))) (cases_Bool (in_years (a / 1440)))
 
   pub between_why : (a b : ℕ) (k : ClockError) → between w a b ≡ Err k
       → (k ≡ TooLong) × ((in_years (a / 1440) ≡ false) ⊎ (in_years (b / 1440) ≡ false))
@@ -148,7 +148,7 @@ module _ (w : ℕ → Bool) where
       ⊎_elim
       (λ x.
       ⊎_elim (λ y. absurd (minutes_or_refused (between_in a b x y) e)) (λ y. let f = between_out_second a b y in (cc, inr y))
-      (cases (in_years (b / 1440)))) (λ x. let f = between_out_first a b x in (cc, inl x)) (cases (in_years (a / 1440)))
+      (cases_Bool (in_years (b / 1440)))) (λ x. let f = between_out_first a b x in (cc, inl x)) (cases_Bool (in_years (a / 1440)))
 
   pub between_refused : (a b : ℕ) (k : ClockError) → between w a b ≡ Err k → k ≡ TooLong
   between_refused a b k e = (between_why a b k e).0
@@ -174,11 +174,11 @@ module _ (w : ℕ → Bool) where
       let c : count w (d * 1440) + (count w (d * 1440 + 1440) - count w (d * 1440)) ≡ count w (d * 1440 + 1440) =
       omega (arith, count_mono w {s = d * 1440} {t = d * 1440 + 1440} (omega arith)) in
       ⊎_elim (λ x. let f = day_work_at d (count w (d * 1440 + 1440) - count w (d * 1440)) x c in (cc, x))
-      (λ x. absurd (minutes_or_refused e (day_work_out d x))) (cases (in_years d))
+      (λ x. absurd (minutes_or_refused e (day_work_out d x))) (cases_Bool (in_years d))
 
   pub day_work_why : (d : ℕ) (k : ClockError) → day_work w d ≡ Err k → (k ≡ TooLong) × (in_years d ≡ false)
   day_work_why d k e =
-      ⊎_elim (λ x. absurd (minutes_or_refused (day_work_in d x) e)) (λ x. let f = day_work_out d x in (cc, x)) (cases (in_years d))
+      ⊎_elim (λ x. absurd (minutes_or_refused (day_work_in d x) e)) (λ x. let f = day_work_out d x in (cc, x)) (cases_Bool (in_years d))
 
   pub day_work_refused : (d : ℕ) (k : ClockError) → day_work w d ≡ Err k → k ≡ TooLong
   day_work_refused d k e = (day_work_why d k e).0
@@ -206,12 +206,12 @@ module _ (w : ℕ → Bool) where
       let c : count w (t / 1440 * 1440) + (count w t - count w (t / 1440 * 1440)) ≡ count w t =
       omega (arith, count_mono w {s = t / 1440 * 1440} {t = t} (omega arith)) in
       ⊎_elim (λ x. let f = worked_before_at t (count w t - count w (t / 1440 * 1440)) x c in (cc, x))
-      (λ x. absurd (minutes_or_refused e (worked_before_out t x))) (cases (in_years (t / 1440)))
+      (λ x. absurd (minutes_or_refused e (worked_before_out t x))) (cases_Bool (in_years (t / 1440)))
 
   pub worked_before_why : (t : ℕ) (k : ClockError) → worked_before w t ≡ Err k → (k ≡ TooLong) × (in_years (t / 1440) ≡ false)
   worked_before_why t k e =
       ⊎_elim (λ x. absurd (minutes_or_refused (worked_before_in t x) e)) (λ x. let f = worked_before_out t x in (cc, x))
-      (cases (in_years (t / 1440)))
+      (cases_Bool (in_years (t / 1440)))
 
   pub worked_before_refused : (t : ℕ) (k : ClockError) → worked_before w t ≡ Err k → k ≡ TooLong
   worked_before_refused t k e = (worked_before_why t k e).0

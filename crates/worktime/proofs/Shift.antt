@@ -5,7 +5,7 @@ use Rattle.worktime.specs.declared.ClockError.TheVariants.{TooLong}
 use Rattle.std.proofs.Math.Path.{refl}
 use Rattle.std.proofs.Common.{sym, ap, ◌∙◌, inl, inr, ⊎_elim, arith, eq-eqb, ne_eqb}
 use Rattle.date.specs.Years.{in_years}
-use Rattle.number.specs.Order.{lt_or_le}
+use Rattle.std.proofs.lemmas.Bool.{cases_lt}
 use Rattle.worktime.specs.Worked.{count, closing, IsAdvance, IsRetreat}
 use Rattle.worktime.specs.Walks.{first_minute, end_minute, reads, forward, backward, advance, retreat, shift}
 use Rattle.worktime.specs.Count.{count_worked, count_lt_lt, closing_suc, start_le, reach}
@@ -58,7 +58,7 @@ module _ (w : ℕ → Bool) where
       let r = reach w end_minute (count w t + n - 1) (omega arith) in
       let s : IsAdvance w t n (suc r.0) =
       advance_of w p (closing_suc w r.0 ∙ r.2) (omega (arith, count_worked w r.0 r.2)) in
-      answers (suc r.0) (advance_at_is s p q.0 r.1) (s, q.0, r.1)) (lt_or_le (count w end_minute) (count w t + n)))
+      answers (suc r.0) (advance_at_is s p q.0 r.1) (s, q.0, r.1)) (cases_lt (count w end_minute) (count w t + n)))
       (λ e. refuses (advance_out t n p e) (inl e)) (minute_cases t)
 
   pub advance_sound : {t n u : ℕ} → advance w t n ≡ Ok u → IsAdvance w t n u × (0 < n → (first_minute ≤ t) × (u ≤ end_minute))
@@ -119,7 +119,7 @@ module _ (w : ℕ → Bool) where
       let r = reach w t (count w t - n) (omega arith) in
       let s : IsRetreat w t n r.0 = retreat_of w p r.2 (omega arith) in
       let a : first_minute ≤ r.0 = (start_le w r.2).1 (omega arith) in
-      answers r.0 (retreat_at_is s p a q.1) (s, a, q.1)) (lt_or_le (count w t) (count w first_minute + n)))
+      answers r.0 (retreat_at_is s p a q.1) (s, a, q.1)) (cases_lt (count w t) (count w first_minute + n)))
       (λ e. refuses (retreat_out t n p e) (inl e)) (minute_cases t)
 
   pub retreat_sound : {t n u : ℕ} → retreat w t n ≡ Ok u → IsRetreat w t n u × (0 < n → (first_minute ≤ u) × (t < end_minute))

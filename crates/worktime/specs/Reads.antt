@@ -2,7 +2,8 @@
 use Rattle.std.specs.Prelude.{◌≡◌, Bool, true, false, ◌⊎◌, ℕ, ◌/◌, ◌≤◌, ◌<◌, Result, Ok, Err}
 use Rattle.worktime.specs.declared.ClockError.{ClockError}
 use Rattle.worktime.specs.declared.ClockError.TheVariants.{TooLong}
-use Rattle.std.proofs.Common.{inl, inr, ⊎_elim, arith}
+use Rattle.std.proofs.Common.{◌∙◌, inl, inr, ⊎_elim, arith}
+use Rattle.std.proofs.lemmas.Bool.{cases_Bool}
 use Rattle.date.specs.Years.{in_years, years_before, years_after, years_within, years_in}
 use Rattle.number.specs.Order.{lt_or_le}
 use Rattle.worktime.specs.Walks.{first_minute, end_minute, reads}
@@ -64,3 +65,11 @@ module _ {x : Result ℕ ClockError} {P : ℕ → Type 0} {R : Type 0} where
   pub ways_refused : {k : ClockError} → Ways x P R → x ≡ Err k → R
   ways_refused (answers v e p) f = absurd (at_or_refused e f)
   ways_refused (refuses e r) f = r
+
+-- ---- whether a day is read, by the answer
+module _ (d : ℕ) (r : Result ℕ ClockError) (e : r ≡ reads Err d (Ok d)) where
+  pub day_read : {u : ℕ} → r ≡ Ok u → in_years d ≡ true
+  day_read f = ⊎_elim (λ y. y) (λ n. absurd (at_or_refused f (e ∙ reads_out Err d (Ok d) n))) (cases_Bool (in_years d))
+
+  pub day_refused : {k : ClockError} → r ≡ Err k → (k ≡ TooLong) × (in_years d ≡ false)
+  day_refused f = ⊎_elim (λ y. absurd (at_or_refused (e ∙ reads_in Err d (Ok d) y) f)) (λ n. let g : r ≡ Err TooLong = e ∙ reads_out Err d (Ok d) n in (cc, n)) (cases_Bool (in_years d))

@@ -1,8 +1,10 @@
-// Why the clock does not answer: its walks, counts and tests end in a time, a number or a bool, or in one of these.
+// Why the clock does not answer where its walks, counts and tests end in no time, number or bool, and which days they may read.
 #![tactic(auto)]
 
-ghost use Rattle.std.specs.Prelude.{◌≡◌, ◌<◌};
+ghost use Rattle.std.specs.Prelude.{◌≡◌, ◌≤◌, ◌<◌, Ok, Err, IfOk};
+ghost use Rattle.date.specs.Years.{first_day, end_day};
 ghost use Rattle.worktime.specs.Number.{clock_number};
+ghost use Rattle.worktime.specs.Walks.{reads};
 
 // The walk leads out of the years that may be read, or a time out of the plan's span.
 #[derive(Clone, Copy, Debug, PartialEq, Eq)]
@@ -19,4 +21,14 @@ impl ClockError {
             ClockError::TooLong => 8,
         }
     }
+}
+
+// Day `d`, where a walk may read it.
+pub fn read_day(d: u64) -> Result<u64, ClockError>
+    ensures { (result ≡ reads Err d (Ok d)) × IfOk result (λ e. (e ≡ d) × (first_day ≤ e) × (e < end_day)) }
+{
+    if date::in_years(d) {
+        return Ok(d);
+    }
+    Err(ClockError::TooLong)
 }

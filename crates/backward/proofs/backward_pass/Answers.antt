@@ -2,7 +2,6 @@
 use mathlib.Core.List.{reverse}
 use mathlib.Core.Path.{◌≡◌, refl, sym, ap, ◌∙◌}
 use Prim.Native.Nat.{ℕ}
-use native.Mathlib.Omega.{arith}
 use Rattle.memory.specs.SeenLaws.{same_then}
 use Rattle.memory.specs.State.{State, fill_act}
 use Rattle.memory.specs.Seen.{state}
@@ -14,23 +13,11 @@ use Rattle.order.specs.Checks.{order}
 use Rattle.passes.specs.Dates.{through}
 use Rattle.passes.specs.Backward.{backward}
 use Rattle.dates.specs.Columns.{late_in}
-use Rattle.dates.specs.KeptLaws.{ready_kept, recorded_kept, early_kept}
+use Rattle.dates.specs.KeptLaws.{early_kept}
 use Rattle.bounds.specs.ReadyLaws.{activities_are}
 use Rattle.backward.specs.Stored.{filled}
 use Rattle.backward.specs.BackLaws.{filled_late, filled_frame}
 use Rattle.backward.proofs.backward_pass.Goals as goal
-
-pub back-requires-clause-ready : goal.back-requires-clause-ready
-back-requires-clause-ready c =
-    let C = c.args.plan.now.sheet.contents in
-    let p = plan_of c.args.plan.now.sheet.bytes.now C in
-    let S = state c.args.tables.now in
-    let last = c.args.last in
-    let T = state c.fill_act-2.new.self in
-    let A : c.args.tables.now.activities ≡ C.activities = c.requires.0.activities in
-    let E : T ≡ filled S C.activities last = c.fill_act-2.ensures.0 ∙ (λ z. fill_act (c.fill_act.ensures.0 z) late_finish ((c.fill_act.ensures.1.activities ∙ A) z) last) ∙ ap (λ (n : ℕ). fill_act (fill_act S late_start n last) late_finish C.activities last) A in
-    let F : Frame 10 12 0 0 S T = rw E (filled_frame p S last C.activities) in
-    (ready_kept c.requires.0 F (same_then c.fill_act.ensures.1 c.fill_act-2.ensures.1) (omega arith), recorded_kept F p refl refl refl c.requires.1)
 
 pub returns : goal.returns
 returns c =
@@ -39,7 +26,7 @@ returns c =
     let S = state c.args.tables.now in
     let last = c.args.last in
     let T = state c.fill_act-2.new.self in
-    let A : c.args.tables.now.activities ≡ C.activities = c.requires.0.activities in
+    let A : c.args.tables.now.activities ≡ C.activities = c.requires.0.ready.activities in
     let E : T ≡ filled S C.activities last = c.fill_act-2.ensures.0 ∙ (λ z. fill_act (c.fill_act.ensures.0 z) late_finish ((c.fill_act.ensures.1.activities ∙ A) z) last) ∙ ap (λ (n : ℕ). fill_act (fill_act S late_start n last) late_finish C.activities last) A in
     let F : Frame 10 12 0 0 S T = rw E (filled_frame p S last C.activities) in
     let b = c.back.ensures in

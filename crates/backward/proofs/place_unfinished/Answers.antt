@@ -7,12 +7,9 @@ use Rattle.bounds.specs.ReadyLaws.{activities_are}
 use Rattle.dates.specs.Columns.{early_in, late_in}
 use Rattle.passes.specs.Dates.{leaves}
 use Rattle.order.specs.Plan.{plan_of}
-use Rattle.topology.specs.FrameLaws.{frame_refl}
 use Rattle.topology.specs.Frame.{Frame}
-use Rattle.memory.specs.SeenLaws.{same_refl}
 use Rattle.memory.specs.State.{State}
 use Rattle.memory.specs.Seen.{state}
-use Rattle.number.specs.Exits.{handed_on}
 use Rattle.backward.specs.BackLaws.{stored_late, stored_frame}
 use Rattle.backward.proofs.place_unfinished.Goals as goal
 
@@ -37,11 +34,3 @@ returns c =
       F,
       c.store_late.ensures.1,
     )
-
-pub returns-in_err-dates : goal.returns-in_err-dates
-returns-in_err-dates c = rw (handed_on _ _ c.from_residual.ensures.1) (let C = c.args.plan.now.sheet.contents in
-    let p = plan_of c.args.plan.now.sheet.bytes.now C in
-    let S = state c.args.tables.now in
-    let d = early_in p S in
-    let m = late_in p S c.args.last in
-    (ap (dated p d m c.args.i) (sym c.in_err-dates.was) ∙ c.late_of.ensures.0, frame_refl 10 12 0 0 S, same_refl _))

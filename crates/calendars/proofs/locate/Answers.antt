@@ -14,31 +14,12 @@ loop-k-init c =
     let e = r.ensures in
     (omega arith, calendar_first x.bytes.now, refl, located_none x.bytes.now x.contents _, λ k l. absurd (omega arith), clocks_first 16 r.result e.0 e.1 e.2 e.3)
 
-pub calendar-place-requires : goal.calendar-place-requires
-calendar-place-requires c =
-    rw c.loop-k.invariant.1 (c.args.sheet.now.read.calendar c.loop-k.k c.loop-k-test.true)
-
-pub overflow_add-at : goal.overflow_add-at
-overflow_add-at c =
-    let l = c.loop-k-test.true in
-    let C = c.args.sheet.now.read.calendar c.loop-k.k l in
-    omega (arith, c.loop-k.invariant.1, C.within)
-
 pub read_week-requires : goal.read_week-requires
 read_week-requires c =
     let l = c.loop-k-test.true in
     let C = c.args.sheet.now.read.calendar c.loop-k.k l in
     let e = place_weeks c.args.sheet.now.bytes.now c.loop-k.at c.calendar-place.result c.calendar-place.ensures in
     rw (e, c.loop-k.invariant.1) (C.weeks_within, λ d m. C.weeks_few d)
-
-pub read_day_length-requires : goal.read_day_length-requires
-read_day_length-requires c =
-    let l = c.loop-k-test.true in
-    let C = c.args.sheet.now.read.calendar c.loop-k.k l in
-    omega (arith, c.loop-k.invariant.1, C.within)
-
-pub bounds-calendars-k : goal.bounds-calendars-k
-bounds-calendars-k c = omega (arith, c.args.sheet.now.read.calendars_few, c.loop-k.invariant.2, c.loop-k-test.true)
 
 pub loop-k-preserved : goal.loop-k-preserved
 loop-k-preserved c =

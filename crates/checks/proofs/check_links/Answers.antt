@@ -5,12 +5,12 @@ use Prim.Native.Nat.{ℕ}
 use native.Mathlib.Omega.{arith}
 use lib.IntN.{pos}
 use lib.ListN.{length, replicate, length-replicate}
-use Rattle.memory.specs.SeenLaws.{same_then, same_lent, lent_then}
+use Rattle.memory.specs.SeenLaws.{same_lent, lent_then}
 use Rattle.order.specs.Plan.{plan_of, plan_in}
 use Rattle.order.specs.Checks.{Verdict, judge_order}
 use Rattle.order.specs.CheckLaws.{links_first}
 use Rattle.order.proofs.FineLaws.{links_fine_lem}
-use Rattle.ids.specs.LentLaws.{still_lent}
+use Rattle.ids.specs.LentLaws.{lent_left}
 use Rattle.checks.specs.Stages.{links_verdict, Judged}
 use Rattle.checks.specs.StageLaws.{then_judged, first_refused, plain_refused, judged_sizes}
 use Rattle.checks.specs.LinksSteps.{links_stored, ignored_named}
@@ -24,7 +24,7 @@ pub link_all-requires : goal.link_all-requires
 unfolding plan_of
 link_all-requires c =
     let P = c.requires.1 in
-    (c.requires.0, P.distinct, P.indexed, P.parented, P.activities, c.requires.2, omega (arith, cleared _ _ c.clear_u32.ensures, c.requires.4))
+    (c.requires.0, P.distinct, P.indexed, P.parented, P.activities, c.requires.2, omega (arith, cleared _ _ (c.fill.ensures.after (λ y e. e)), c.requires.4))
 
 pub returns-in-Err : goal.returns-in-Err
 unfolding plan_of
@@ -38,8 +38,8 @@ returns-in-Err c =
       subst (Judged p (links_verdict p) size room _ _) (sym r.0)
           (first_refused p (links_first p) (judge_order p) size room _ _
           (plain_refused p (links_first p) size room _ _ c.in-Err.error a.0
-          (r.1 ∙ ap (λ (k : ℕ). replicate k 0) (a.3 ∙ cleared _ _ c.clear_u32.ensures)) (r.2 ∙ ap (λ (k : ℕ). replicate k (pos 0)) a.2.cells))),
-      same_lent (same_then a.2 r.3),
+          (r.1 ∙ ap (λ (k : ℕ). replicate k 0) (a.3 ∙ cleared _ _ (c.fill.ensures.after (λ y e. e)))) (r.2 ∙ ap (λ (k : ℕ). replicate k (pos 0)) a.2.cells))),
+      lent_then a.2 (same_lent r.3),
     )
 
 pub check_order-requires : goal.check_order-requires
@@ -49,12 +49,12 @@ check_order-requires c =
     let p = plan_in x.sheet.now in
     let a = c.in-Ok.ensures in
     let l = a.0.1 in
-    let n = a.3 ∙ cleared _ _ c.clear_u32.ensures in (
-      still_lent c.requires.0 a.2,
+    let n = a.3 ∙ cleared _ _ (c.fill.ensures.after (λ y e. e)) in (
+      lent_left c.requires.0 a.2,
       links_stored p l c.requires.1 a.1,
       (links_fine_lem p).0 (ap (λ (v : Verdict). v.number) a.0.0),
       l.ignored_count,
-      ignored_named p l (length x.names.now) c.clear_u32.ensures n,
+      ignored_named p l (length x.names.now) (c.fill.ensures.after (λ y e. e)) n,
       omega (arith, n, c.requires.3),
     )
 
@@ -68,6 +68,6 @@ returns-in-Ok c =
     let names = o.new.names in
     let tables = o.new.tables in (
       then_judged p (links_first p) (judge_order p) (length x.names.now) (length x.tables.now.cells.now) names tables (ap (λ (v : Verdict). v.number) a.0.0) o.result
-          (judged_sizes p (judge_order p) names tables o.result (a.3 ∙ cleared _ _ c.clear_u32.ensures) a.2.cells o.ensures.0),
-      lent_then (same_lent a.2) o.ensures.1,
+          (judged_sizes p (judge_order p) names tables o.result (a.3 ∙ cleared _ _ (c.fill.ensures.after (λ y e. e))) a.2.cells o.ensures.0),
+      lent_then a.2 o.ensures.1,
     )

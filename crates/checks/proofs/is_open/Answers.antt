@@ -1,33 +1,30 @@
 -- `checks::is_open` meets its contract.
 use native.Mathlib.Omega.{arith}
+use Rattle.std.proofs.Common.{◌∙◌, eq-eqb, ne_eqb, ⊎_elim}
+use Rattle.std.proofs.lemmas.Bool.{cases_eq}
 use Rattle.order.specs.Plan.{plan_of, plan_in}
 use Rattle.checks.specs.OpenSteps.{summary_closed, nothing_in, nothing_out, both_ways}
 use Rattle.checks.proofs.is_open.Goals as goal
-
-pub returns-then-act-gt0 : goal.returns-then-act-gt0
-unfolding plan_of
-returns-then-act-gt0 c =
-    let x = c.args in
-    let p = plan_in x.sheet.now in
-    summary_closed p c.requires.1 x.i c.requires.2 (λ z. omega (arith, c.act.ensures.0))
 
 pub returns-then-act-tables : goal.returns-then-act-tables
 unfolding plan_of
 returns-then-act-tables c =
     let x = c.args in
     let p = plan_in x.sheet.now in
-    nothing_in p c.requires.1 x.i c.requires.2 (omega (arith, c.act.ensures.0)) (omega (arith, c.act-2.ensures.0))
+    eq-eqb _ _ c.if-act-tables.true ∙ nothing_in p c.requires.1 x.i c.requires.2 (omega (arith, c.act.ensures.0, c.if-act-eq0.true)) (omega (arith, c.act-then-act-eq0.ensures.0, c.if-act-tables.true))
 
-pub returns-then-act-tables-2 : goal.returns-then-act-tables-2
+pub returns-else-act-tables : goal.returns-else-act-tables
 unfolding plan_of
-returns-then-act-tables-2 c =
+returns-else-act-tables c =
     let x = c.args in
     let p = plan_in x.sheet.now in
-    nothing_out p c.requires.1 x.i c.requires.2 (omega (arith, c.act.ensures.0)) (λ z. c.if-act-tables.false (omega (arith, c.act-2.ensures.0))) (omega (arith, c.act-3.ensures.0))
+    ⊎_elim (λ e. eq-eqb _ _ e ∙ nothing_out p c.requires.1 x.i c.requires.2 (omega (arith, c.act.ensures.0, c.if-act-eq0.true)) (λ z. c.if-act-tables.false (omega (arith, c.act-then-act-eq0.ensures.0, z))) (omega (arith, c.act-else-act-tables.ensures.0, e)))
+    (λ n. ne_eqb _ _ n ∙ both_ways p c.requires.1 x.i c.requires.2 (omega (arith, c.act.ensures.0, c.if-act-eq0.true)) (λ z. c.if-act-tables.false (omega (arith, c.act-then-act-eq0.ensures.0, z))) (λ z. n (omega (arith, c.act-else-act-tables.ensures.0, z))))
+    (cases_eq c.act-else-act-tables.result x.tables.now.kept)
 
-pub returns : goal.returns
+pub returns-else-act-eq0 : goal.returns-else-act-eq0
 unfolding plan_of
-returns c =
+returns-else-act-eq0 c =
     let x = c.args in
     let p = plan_in x.sheet.now in
-    both_ways p c.requires.1 x.i c.requires.2 (omega (arith, c.act.ensures.0)) (λ z. c.if-act-tables.false (omega (arith, c.act-2.ensures.0))) (λ z. c.if-act-tables-2.false (omega (arith, c.act-3.ensures.0)))
+    ne_eqb _ _ c.if-act-eq0.false ∙ summary_closed p c.requires.1 x.i c.requires.2 (λ z. c.if-act-eq0.false (omega (arith, c.act.ensures.0, z)))

@@ -35,14 +35,14 @@ module _ (p : Plan) (K : ParentsKnown p) (first steps : ℕ) (F : LoopFrom p fir
 pub name_one-requires : goal.name_one-requires
 unfolding plan_of
 name_one-requires c =
-    (c.requires.3.below, omega (arith, ap length c.clear_u32.ensures, length-replicate {A = ℕ} (length c.args.names.now) 0, c.requires.4))
+    (c.requires.3.below, omega (arith, ap length (c.fill.ensures.after (λ y e. e)), length-replicate {A = ℕ} (length c.args.names.now) 0, c.requires.4))
 
 pub loop-k-init : goal.loop-k-init
 unfolding plan_of
 loop-k-init c =
     let x = c.args in
     let p = plan_in x.sheet.now in
-    let N = begun p c.requires.1 x.first x.steps c.requires.3 (length x.names.now) (omega (arith, c.requires.4)) _ _ c.clear_u32.ensures c.name_one.ensures in (
+    let N = begun p c.requires.1 x.first x.steps c.requires.3 (length x.names.now) (omega (arith, c.requires.4)) _ _ (c.fill.ensures.after (λ y e. e)) c.name_one.ensures in (
       omega (arith, N.kept, c.requires.3.within, c.requires.4),
       up_first p c.requires.1 x.first x.steps c.requires.3,
       naming_here (named (id_of p) (upward (parent_of p) x.steps x.first)) (length x.names.now) _ 1 N,
@@ -94,4 +94,4 @@ returns c =
     let xs = named (id_of p) (upward (parent_of p) x.steps x.first) in
     let L = c.loop-k in
     naming_end xs _ _ (L.k + 1) L.invariant.2 (names_length p c.requires.1 x.first x.steps c.requires.3 ∙ omega arith)
-    ∙ ap (λ (n : ℕ). xs ++ replicate (n - length xs) 0) (begun p c.requires.1 x.first x.steps c.requires.3 (length x.names.now) (omega (arith, c.requires.4)) _ _ c.clear_u32.ensures c.name_one.ensures).kept
+    ∙ ap (λ (n : ℕ). xs ++ replicate (n - length xs) 0) (begun p c.requires.1 x.first x.steps c.requires.3 (length x.names.now) (omega (arith, c.requires.4)) _ _ (c.fill.ensures.after (λ y e. e)) c.name_one.ensures).kept

@@ -14,7 +14,7 @@ use Rattle.worktime.specs.Worked.{count}
 use Rattle.clock.specs.On.{worked_on}
 use Rattle.clock.specs.Weeks.{row_ordered}
 use Rattle.clock.specs.Regular.{Sums, days_work}
-use Rattle.clock.specs.RegularLaws.{days_regular}
+use Rattle.clock.specs.RegularLaws.{days_regular, regular_step}
 use Rattle.clock.specs.OwnDayLaws.{days_small, days_end, none_first, first_own, further_own, some_own, part_small}
 use Rattle.clock.proofs.days_work.Goals as goal
 use Rattle.clock.proofs.days_work.Goals.{then-next-day, else-next-day}
@@ -44,9 +44,6 @@ loop-j-init c =
       inl refl,
     )
 
-pub day-day-requires : goal.day-day-requires
-day-day-requires c = omega (arith, c.args.calendar.now.valid.long)
-
 -- the records before record j are those of the days before e
 ended : (week : List (List Period)) (s : List ℕ) (at n d e j sum next : ℕ) → Valid week s at n → d ≤ e → e < 4294967296 → j ≤ n → next ≤ e
     → ((i : ℕ) → i < j → exception_day s at i < next)
@@ -63,26 +60,16 @@ returns-then-e-day c =
     let i = c.loop-j.invariant in
     ended _ _ _ _ _ _ _ _ _ c.args.calendar.now.valid p.0 p.1 i.1 i.3 i.5 (λ k h l. omega (arith, c.if-e-day.true, c.day-day.ensures.0, c.args.calendar.now.valid.sorted c.loop-j.j k h l)) (i.4 c.args.calendar.now.week.now c.of-sums.ensures)
 
-pub overflow_sub-regular : goal.overflow_sub-regular
-overflow_sub-regular c = let k = weekday c.day-day.result in c.of-sums.ensures.rising.0 k (k + 1) (omega arith) (omega arith)
-
-pub work-requires : goal.work-requires
-work-requires c = omega (arith, c.args.calendar.now.valid.long)
-
 -- record j comes from day d on, before day e
 within : (c : goal.After-row_known-1) → (c.args.d ≤ c.day-day.result) × (c.day-day.result < c.args.e)
 within c = (omega (arith, c.requires.2.above c.loop-j.j c.loop-j.invariant.0 (omega arith), c.day-day.ensures.0), omega (arith, c.if-e-day.false))
-
--- what day x has by its weekday
-abbrev regularOf : List ℕ → ℕ → ℕ
-regularOf ss x = get_or ss (weekday x + 1) 0 - get_or ss (weekday x) 0
 
 -- one record more: its day's minutes by the weekday are taken out with the first of its records
 stepped : (c : goal.After-row_known-1) →
     let a = c.args in
     let x = c.day-day.result in
     (week : List (List Period)) → Sums week c.of-sums.result.entries
-    → days_work (hours_on week a.calendar.now.exceptions.sheet.now a.calendar.now.exceptions.at (c.loop-j.j + 1)) a.d (a.e - a.d) + regularOf c.of-sums.result.entries x ≡ c.loop-j.sum + c.work.result + c.if-next-day.out
+    → days_work (hours_on week a.calendar.now.exceptions.sheet.now a.calendar.now.exceptions.at (c.loop-j.j + 1)) a.d (a.e - a.d) + c.minutes_on-regular.result ≡ c.loop-j.sum + c.work.result + c.if-next-day.out
 stepped c week sums =
     let a = c.args in
     let i = c.loop-j.invariant in
@@ -95,11 +82,12 @@ stepped c week sums =
     elim c.if-next-day.branch [
       | then-next-day w ↦
           let none = none_first week a.calendar.now.exceptions.sheet.now a.calendar.now.exceptions.at x j (λ y h z. omega (arith, i.5 y h, w.if-next-day.true)) in
-          let rise = c.of-sums.ensures.rising.0 (weekday x) (weekday x + 1) (omega arith) (omega arith) in
+          let own : get_or c.of-sums.result.entries (weekday x) 0 + c.minutes_on-regular.result ≡ get_or c.of-sums.result.entries (weekday x + 1) 0 =
+          omega (arith, c.minutes_on-regular.ensures.0, regular_step c.of-sums.ensures x, c.of-sums.ensures.each (weekday x) (omega arith)) in
           omega (
             arith,
             i.4 week sums,
-            first_own week a.calendar.now.exceptions.sheet.now a.calendar.now.exceptions.at j x is _ c.work.ensures.0 a.d (a.e - a.d) r.0 k sums none (regularOf c.of-sums.result.entries x) (omega (arith, rise)),
+            first_own week a.calendar.now.exceptions.sheet.now a.calendar.now.exceptions.at j x is _ c.work.ensures.0 a.d (a.e - a.d) r.0 k sums none c.minutes_on-regular.result own,
             w.out-is,
           )
       | else-next-day w ↦
@@ -122,19 +110,14 @@ pub overflow_add-sum-in-loop-j : goal.overflow_add-sum-in-loop-j
 overflow_add-sum-in-loop-j c =
     let p = c.requires in
     let i = c.loop-j.invariant in
-    let x = c.day-day.result in
-    let u = c.of-sums.ensures.rising in
     let f = small _ _ _ _ _ _ _ _ _ c.args.calendar.now.valid p.0 p.1 i.1 (i.4 c.args.calendar.now.week.now c.of-sums.ensures) c.work.ensures.1 in
     elim c.if-next-day.branch [
       | then-next-day w ↦ omega (arith, w.out-is, f)
-      | else-next-day w ↦ omega (arith, w.out-is, f, u.0 (weekday x + 1) 7 (omega arith) (omega arith), u.1)
+      | else-next-day w ↦ omega (arith, w.out-is, f, c.minutes_on-regular.ensures.1)
     ]
 
 pub overflow_sub-sum : goal.overflow_sub-sum
 overflow_sub-sum c = omega (arith, stepped c c.args.calendar.now.week.now c.of-sums.ensures)
-
-pub overflow_add-next : goal.overflow_add-next
-overflow_add-next c = omega (arith, c.day-day.ensures.1)
 
 pub loop-j-preserved : goal.loop-j-preserved
 loop-j-preserved c =

@@ -1,40 +1,25 @@
 -- `clock::previous_finish` meets its contract. The loop has passed no worked minute: as many stand before its day and minute as before `t`.
-use mathlib.Core.Path.{◌≡◌, refl, sym}
+use mathlib.Core.Path.{◌≡◌, sym}
 use Prim.Native.Nat.{◌+◌, ◌*◌, ◌-◌}
 use native.Mathlib.Omega.{arith}
 use Rattle.calendar.specs.Hours.{worked}
 use Rattle.calendar.specs.HoursLaws.{rank_mono}
 use Rattle.calendar.specs.Records.{periods_of}
-use Rattle.calendar.specs.ValidLaws.{hand_ordered}
 use Rattle.date.specs.Years.{years_after}
 use Rattle.worktime.specs.Count.{count_mono}
 use Rattle.worktime.specs.Walks.{first_minute}
 use Rattle.worktime.proofs.Answers.{previous_finish_out, previous_finish_at, previous_finish_none}
 use Rattle.clock.specs.On.{worked_by}
-use Rattle.clock.specs.Days.{hand_rank, hand_select, count_time, count_day_before}
+use Rattle.clock.specs.Days.{hand_rank, hand_select, count_day_before}
 use Rattle.calendar.specs.Value.{hours_of}
 use Rattle.clock.proofs.previous_finish.Goals as goal
 
 pub returns-then-last-gt-LAST_DAY : goal.returns-then-last-gt-LAST_DAY
 returns-then-last-gt-LAST_DAY c = sym (previous_finish_out _ _ (years_after _ (omega arith)))
 
-pub loop-d-init : goal.loop-d-init
-loop-d-init c = let a = c.args in (omega arith, omega arith, omega arith, count_time _ a.t, c.first_from-to.ensures)
-
-pub hours_to-hours-requires : goal.hours_to-hours-requires
-hours_to-hours-requires c = c.loop-d.invariant.4
-
-pub day_rank-done-requires : goal.day_rank-done-requires
-day_rank-done-requires c =
-    let f = c.hours_to-hours.ensures.0 in
-    (f.within, hand_ordered c.args.calendar.now.valid _ _ (f.is _ refl))
-
-pub day_select-requires : goal.day_select-requires
-day_select-requires c =
-    let a = c.args in
-    let ps = periods_of c.hours_to-hours.result a.calendar.now.exceptions.sheet.now in
-    let f = c.hours_to-hours.ensures.0 in
-    (f.within, hand_ordered c.args.calendar.now.valid _ _ (f.is _ refl), c.if-done-gt0.true, omega (arith, c.day_rank-done.ensures.0, rank_mono ps c.loop-d.m 1440 (omega arith)))
+pub select-requires : goal.select-requires
+select-requires c =
+    (c.hours_to-hours.ensures.1, c.if-done-gt0.true, omega (arith, c.rank-done.ensures.0, rank_mono (periods_of c.hours_to-hours.result) c.loop-d.m 1440 (omega arith)))
 
 pub returns-then-done-gt0 : goal.returns-then-done-gt0
 returns-then-done-gt0 c =
@@ -42,16 +27,13 @@ returns-then-done-gt0 c =
     let h = hours_of a.calendar.now in
     let d = c.loop-d.d in
     let o = c.args.calendar.now.valid.ordered d in
-    let p = c.hours_to-hours.ensures.0.is a.calendar.now.week.now refl in
-    let ps = periods_of c.hours_to-hours.result a.calendar.now.exceptions.sheet.now in
-    let r = c.day_rank-done.ensures.0 in
-    let f = hand_select h d o ps p _ _ c.if-done-gt0.true (omega (arith, r, rank_mono ps c.loop-d.m 1440 (omega arith))) c.day_select.ensures.0 in
+    let p = c.hours_to-hours.ensures.0 in
+    let ps = periods_of c.hours_to-hours.result in
+    let r = c.rank-done.ensures.0 in
+    let f = hand_select h d o ps p _ _ c.if-done-gt0.true (omega (arith, r, rank_mono ps c.loop-d.m 1440 (omega arith))) c.select.ensures.0 in
     sym
     (previous_finish_at _ (omega (arith, f.low)) (omega arith) f.closes
     (omega (arith, f.full, hand_rank h d o ps p c.loop-d.m _ (omega arith) r, c.loop-d.invariant.3)))
-
-pub overflow_sub-to : goal.overflow_sub-to
-overflow_sub-to c = c.hours_to-hours.ensures.1
 
 pub loop-d-preserved : goal.loop-d-preserved
 loop-d-preserved c =
@@ -60,9 +42,9 @@ loop-d-preserved c =
     let d = c.loop-d.d in
     let o = c.args.calendar.now.valid.ordered d in
     let f = c.hours_to-hours.ensures in
-    let r = hand_rank h d o _ (f.0.is a.calendar.now.week.now refl) c.loop-d.m _ (omega arith) c.day_rank-done.ensures.0 in
+    let r = hand_rank h d o _ f.0 c.loop-d.m _ (omega arith) c.rank-done.ensures.0 in
     let e : d - 1 + 1 ≡ d = omega arith in
-    (omega arith, omega arith, omega arith, omega (arith, r, count_day_before (worked h) d (omega arith), c.loop-d.invariant.3), rw e f.2)
+    (omega arith, omega arith, omega arith, omega (arith, r, count_day_before (worked h) d (omega arith), c.loop-d.invariant.3), rw e f.3)
 
 pub returns : goal.returns
 returns c =

@@ -1,32 +1,29 @@
 -- `clock::worked_before` meets its contract. The rank of `t`'s minute in its day.
-use Rattle.std.specs.Prelude.{Ok}
-use mathlib.Core.Path.{refl, sym, ap, ◌∙◌}
+use Rattle.std.specs.Prelude.{Ok, Err}
+use mathlib.Core.Path.{sym, ap, ◌∙◌}
 use native.Mathlib.Omega.{arith}
 use Prim.Native.Nat.{◌/◌}
 use Rattle.calendar.specs.Hours.{worked}
-use Rattle.calendar.specs.ValidLaws.{hand_ordered}
 use mir.Syntax.{w64}
 use mir.Facts.{to_z_pos}
-use Rattle.date.specs.Years.{years_before, years_after, years_within}
+use Rattle.number.specs.Exits.{handed_on}
+use Rattle.std.proofs.lemmas.Result.{IfOk-at_ok}
+use Rattle.worktime.specs.Reads.{day_read, day_refused}
 use Rattle.worktime.proofs.Between.{worked_before_out, worked_before_at}
 use Rattle.clock.specs.Days.{hand_time}
 use Rattle.calendar.specs.Value.{hours_of}
 use Rattle.clock.proofs.worked_before.Goals as goal
 
-pub returns-then-d-lt-FIRST_DAY : goal.returns-then-d-lt-FIRST_DAY
-returns-then-d-lt-FIRST_DAY c = sym (worked_before_out _ _ (years_before _ (omega arith)))
-
-pub returns-then-d-gt-LAST_DAY : goal.returns-then-d-gt-LAST_DAY
-returns-then-d-gt-LAST_DAY c = sym (worked_before_out _ _ (years_after _ (omega arith)))
-
-pub day_rank-requires : goal.day_rank-requires
-day_rank-requires c = let f = c.hours_on-hours.ensures in (f.within, hand_ordered c.args.calendar.now.valid _ _ (f.is _ refl))
+pub returns-in_err-d : goal.returns-in_err-d
+returns-in_err-d c =
+    let r = day_refused _ _ c.read_day.ensures.0 c.in_err-d.was in
+    rw (handed_on _ _ c.from_residual.ensures.1) (ap Err r.0 ∙ sym (worked_before_out _ _ r.1))
 
 pub returns : goal.returns
 returns c =
-    let s = c.before.before.before.before.before.before in
-    let a = s.args in
+    let a = c.args in
     let h = hours_of a.calendar.now in
-    let r = hand_time h a.t (s.args.calendar.now.valid.ordered (a.t / 1440)) _ (c.hours_on-hours.ensures.is a.calendar.now.week.now refl) _ c.day_rank.ensures.0 in
-    ap Ok (to_z_pos w64 {n = c.day_rank.result} (omega (arith, c.day_rank.ensures.1)))
-    ∙ sym (worked_before_at (worked h) a.t _ (years_within _ (omega arith) (omega arith)) (omega (arith, r)))
+    let y = IfOk-at_ok _ c.in_ok-d.was c.read_day.ensures.1 in
+    let r = hand_time h a.t (a.calendar.now.valid.ordered (a.t / 1440)) _ (c.hours_on-hours.ensures.0 ∙ ap h y.0) _ c.rank.ensures.0 in
+    ap Ok (to_z_pos w64 {n = c.rank.result} (omega (arith, c.rank.ensures.1)))
+    ∙ sym (worked_before_at (worked h) a.t _ (day_read _ _ c.read_day.ensures.0 c.in_ok-d.was) (omega (arith, r)))

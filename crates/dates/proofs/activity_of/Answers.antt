@@ -1,7 +1,7 @@
 -- `dates::activity_of` meets its contract.
 use mathlib.Core.Path.{◌∙◌}
-use Rattle.dates.specs.ReadLaws.{plan_activity}
+use Rattle.order.specs.InSheet.{activity_is}
 use Rattle.dates.proofs.activity_of.Goals as goal
 
 pub returns : goal.returns
-returns c = c.read_activity.ensures ∙ plan_activity _ _ _
+returns c = c.read.ensures ∙ activity_is c.args.sheet.now c.args.i c.activity.ensures

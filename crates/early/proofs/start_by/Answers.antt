@@ -5,10 +5,10 @@ use Rattle.early.specs.EarlyLaws.{start_unstarted, start_begun, start_completed}
 use Rattle.early.proofs.start_by.Goals as goal
 
 pub returns-in-Unstarted : goal.returns-in-Unstarted
-returns-in-Unstarted c = λ p d i H T q. c.held.ensures p d i H T q ∙ sym (start_unstarted H _ _ c.in-Unstarted.is)
+returns-in-Unstarted c = λ p d i U. c.held.ensures p d i U ∙ sym (start_unstarted U.hand _ _ c.in-Unstarted.is)
 
 pub returns-in-Begun : goal.returns-in-Begun
-returns-in-Begun c = λ p d i H T q. ap Ok (c.resumed.ensures p d T) ∙ sym (start_begun H _ _ _ c.in-Begun.is)
+returns-in-Begun c = λ p d i U. ap Ok (c.resumed.ensures p d U.times_are) ∙ sym (start_begun U.hand _ _ _ c.in-Begun.is)
 
 pub returns-in-Completed : goal.returns-in-Completed
-returns-in-Completed c = λ p d i H T q. sym (start_completed H _ _ _ _ c.in-Completed.is)
+returns-in-Completed c = λ p d i U. sym (start_completed U.hand _ _ _ _ c.in-Completed.is)

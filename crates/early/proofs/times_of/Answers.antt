@@ -4,9 +4,6 @@ use Rattle.order.specs.Plan.{plan_of}
 use Rattle.project.specs.declared.Project.{Project}
 use Rattle.early.proofs.times_of.Goals as goal
 
-pub read_project-project-requires : goal.read_project-project-requires
-read_project-project-requires c = c.args.sheet.now.read.header.within
-
 pub returns : goal.returns
 unfolding plan_of
-returns c = (record { origin_is = c.origin_of.ensures.0; floor_is = c.floor_of.ensures.0; data_is = ap (λ (x : Project). x.data_date) c.read_project-project.ensures; mode_is = ap (λ (x : Project). x.progress_mode) c.read_project-project.ensures }, c.origin_of.ensures.1, c.floor_of.ensures.1)
+returns c = (record { origin_is = c.origin_of.ensures.0; floor_is = c.floor_of.ensures.0; data_is = ap (λ (x : Project). x.data_date) c.project-project.ensures; mode_is = ap (λ (x : Project). x.progress_mode) c.project-project.ensures }, c.floor_of.ensures.1)

@@ -28,13 +28,13 @@ returns c =
     let S = state x.tables.now in
     let d = early_in p S in
     let w = worked_by x.calendar.now in
-    let i : x.i < p.activities = omega (arith, activities_are x.plan.now.sheet.bytes.now x.plan.now.sheet.contents, q.2) in
+    let i : x.i < p.activities = omega (arith, activities_are x.plan.now.sheet.bytes.now x.plan.now.sheet.contents, q.1) in
     let f =
     rw (to_z-of_z {w = w64} {z = c.in_ok-slack.slack} (record { sfits = search rules }), to_z-of_z {w = w64} {z = c.in_ok-total.total} (record { sfits = search rules }))
     at (c.free_by.ensures.0 p d)
     in (
-      free_of_found q.0 x.i x.finish _ c.slack_of.ensures _ _ c.in_ok-slack.was _ w (in_plan_worked q.3) (c.act-ef.ensures.0 ∙ sym (ef_at p S x.i i)) _
-          (sym c.between.ensures ∙ c.in_ok-total.was) _ (ap Ok c.recorded_at-recorded.ensures ∙ q.1 x.i i) _ f
+      free_of_found q.0.ready x.i x.finish _ c.slack_of.ensures _ _ c.in_ok-slack.was _ w (in_plan_worked q.2) (c.act-ef.ensures.0 ∙ sym (ef_at p S x.i i)) _
+          (sym c.between.ensures ∙ c.in_ok-total.was) _ (ap Ok c.recorded_at-recorded.ensures ∙ q.0.recorded x.i i) _ f
           ∙ ap (λ (u : ℕ). free_of p d x.finish u x.i) c.act-lf.ensures.0,
       λ m e. let k = same_time refl e in omega (arith, c.free_by.ensures.1),
     )
@@ -46,8 +46,8 @@ returns-in_err-total c = rw (handed_on _ _ c.from_residual-in_err-total.ensures.
     let S = state x.tables.now in
     let d = early_in p S in
     let w = worked_by x.calendar.now in
-    let i : x.i < p.activities = omega (arith, activities_are x.plan.now.sheet.bytes.now x.plan.now.sheet.contents, q.2) in (
-      free_of_late q.0 x.i x.finish _ c.slack_of.ensures _ _ c.in_ok-slack.was _ w (in_plan_worked q.3) (c.act-ef.ensures.0 ∙ sym (ef_at p S x.i i)) _
+    let i : x.i < p.activities = omega (arith, activities_are x.plan.now.sheet.bytes.now x.plan.now.sheet.contents, q.1) in (
+      free_of_late q.0.ready x.i x.finish _ c.slack_of.ensures _ _ c.in_ok-slack.was _ w (in_plan_worked q.2) (c.act-ef.ensures.0 ∙ sym (ef_at p S x.i i)) _
           (sym c.between.ensures ∙ c.in_err-total.was)
           ∙ ap (λ (u : ℕ). free_of p d x.finish u x.i) c.act-lf.ensures.0,
       λ m e. absurd (at_or_refused e refl),
@@ -59,4 +59,4 @@ returns-in_err-slack c = rw (handed_on _ _ c.from_residual.ensures.1) (let x = c
     let p = plan_in x.plan.now.sheet in
     let S = state x.tables.now in
     let d = early_in p S in
-    (free_of_refused q.0 x.i x.finish _ c.slack_of.ensures _ _ c.in_err-slack.was, λ m e. absurd (at_or_refused e refl)))
+    (free_of_refused q.0.ready x.i x.finish _ c.slack_of.ensures _ _ c.in_err-slack.was, λ m e. absurd (at_or_refused e refl)))

@@ -21,9 +21,9 @@ back-requires-clause-ready c =
     let S = state x.tables.now in
     let T = state c.fill_act.new.self in
     let h = c.fill_act.ensures in
-    let g = h.0 ∙ ap (λ (m : ℕ). fill_act S free_float m 0) c.requires.0.activities in
+    let g = h.0 ∙ ap (λ (m : ℕ). fill_act S free_float m 0) c.requires.ready.activities in
     let F : Frame 12 16 0 0 S T = rw g (frame_fill 12 16 0 0 free_float (omega arith) (omega arith) S x.plan.now.sheet.contents.activities 0) in
-    (ready_kept c.requires.0 F h.1 (omega arith), recorded_kept F (plan_in x.plan.now.sheet) refl refl refl c.requires.1)
+    record { ready = ready_kept c.requires.ready F h.1 (omega arith); recorded = recorded_kept F (plan_in x.plan.now.sheet) refl refl refl c.requires.recorded }
 
 pub returns : goal.returns
 returns c =
@@ -31,7 +31,7 @@ returns c =
     let S = state x.tables.now in
     let T = state c.fill_act.new.self in
     let h = c.fill_act.ensures in
-    let g = h.0 ∙ ap (λ (m : ℕ). fill_act S free_float m 0) c.requires.0.activities in
+    let g = h.0 ∙ ap (λ (m : ℕ). fill_act S free_float m 0) c.requires.ready.activities in
     let F : Frame 12 16 0 0 S T = rw g (frame_fill 12 16 0 0 free_float (omega arith) (omega arith) S x.plan.now.sheet.contents.activities 0) in
     let r = c.back.ensures in
     (λ e. r.0 e ∙ pass_cleared x.plan.now.sheet.bytes.now x.plan.now.sheet.contents F g x.finish (reverse (order (plan_in x.plan.now.sheet))) e, frame_then 12 16 0 0 F r.1, same_then h.1 r.2)

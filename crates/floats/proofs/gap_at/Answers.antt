@@ -17,17 +17,17 @@ forward_bound-requires c = let q = c.requires in lead_fits q.0 _ q.1 _ c.tie_at-
 
 pub act-target-requires : goal.act-target-requires
 act-target-requires c =
-    let q = c.requires in (omega (arith, q.0.activities, to_in q.0 _ q.1 _ c.tie_at-tie.ensures), c.target_field-field.ensures.1)
+    let q = c.requires in (omega (arith, q.0.activities, to_in q.0 _ q.1 _ c.tie_at-tie.ensures), c.target_field.ensures.1)
 
 pub returns : goal.returns
 returns c =
     let x = c.args in
     let w = worked_by x.calendar.now in
     c.between.ensures
-    ∙ gap_between c.requires.0 x.k c.requires.1 _ c.tie_at-tie.ensures w x.start x.finish _ c.forward_bound.ensures _ _ _ c.in_ok-b.was
-    (c.target_field-field.ensures.0 (plan_in x.plan.now.sheet)) c.act-target.ensures.0
+    ∙ gap_between c.requires.0 x.k c.requires.1 _ c.tie_at-tie.ensures w x.from.start x.from.finish _ c.forward_bound.ensures _ _ _ c.in_ok-b.was
+    (c.target_field.ensures.0 (plan_in x.plan.now.sheet)) c.act-target.ensures.0
 
 pub returns-in_err-b : goal.returns-in_err-b
 returns-in_err-b c = rw (handed_on _ _ c.from_residual.ensures.1) (let x = c.args in
     let w = worked_by x.calendar.now in
-    gap_refused c.requires.0 x.k c.requires.1 _ c.tie_at-tie.ensures w x.start x.finish _ c.forward_bound.ensures _ c.in_err-b.was)
+    gap_refused c.requires.0 x.k c.requires.1 _ c.tie_at-tie.ensures w x.from.start x.from.finish _ c.forward_bound.ensures _ c.in_err-b.was)

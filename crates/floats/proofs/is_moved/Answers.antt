@@ -1,7 +1,8 @@
 -- `floats::is_moved` meets its contract. Each way out has its law.
 use Rattle.std.specs.Prelude.{Ok}
+use native.Mathlib.Omega.{arith}
+use Prim.Native.Nat.{◌<◌}
 use mathlib.Core.Path.{ap, ◌∙◌}
-use Rattle.order.specs.Plan.{plan_in}
 use Rattle.memory.specs.Seen.{state}
 use Rattle.dates.specs.Columns.{early_in}
 use Rattle.floats.specs.StoreLaws.{unmoved_none, unmoved_summary, moved_by_mark}
@@ -10,21 +11,18 @@ use Rattle.floats.proofs.is_moved.Goals as goal
 pub returns-then-free-eq0 : goal.returns-then-free-eq0
 returns-then-free-eq0 c =
     let x = c.args in
-    let p = plan_in x.sheet.now in
-    let d = early_in p (state x.tables.now) in
-    unmoved_none p d x.i x.free c.if-free-eq0.true
+    λ p a W R e. unmoved_none p (early_in p (state x.tables.now)) x.i x.free c.if-free-eq0.true
 
 pub returns-then-act-gt0 : goal.returns-then-act-gt0
 returns-then-act-gt0 c =
     let x = c.args in
-    let p = plan_in x.sheet.now in
-    let d = early_in p (state x.tables.now) in
-    unmoved_summary p d x.i x.free _ (c.act.ensures.0 ∙ c.requires.3) c.if-act-gt0.true
+    λ p a W R e. unmoved_summary p (early_in p (state x.tables.now)) x.i x.free _ (c.act.ensures.0 ∙ W.marks x.i (rw a c.requires)) c.if-act-gt0.true
 
 pub returns : goal.returns
 returns c =
     let x = c.args in
-    let p = plan_in x.sheet.now in
+    λ p a W R e.
     let d = early_in p (state x.tables.now) in
+    let l : x.i < p.activities = omega (arith, a, c.requires) in
     c.is_marked_late.ensures p d
-    ∙ moved_by_mark p d x.i x.free _ (c.act.ensures.0 ∙ c.requires.3) c.if-act-gt0.false c.if-free-eq0.false _ (ap Ok c.recorded_at-recorded.ensures ∙ c.requires.4) _ c.requires.2
+    ∙ moved_by_mark p d x.i x.free _ (c.act.ensures.0 ∙ W.marks x.i l) c.if-act-gt0.false c.if-free-eq0.false _ (ap Ok c.recorded_at-recorded.ensures ∙ R x.i l) _ e

@@ -18,7 +18,7 @@ pub least_slack-requires : goal.least_slack-requires
 least_slack-requires c =
     let x = c.args in
     let q = c.requires in
-    (q.0, q.2, q.3, from_is q.0 q.1 x.i q.2 _ _ _ _ c.recorded_at-recorded.ensures c.act-es.ensures.0 c.begun_at-start.ensures c.act-ef.ensures.0)
+    (q.0.ready, q.1, q.2, from_is q.0.ready q.0.recorded x.i q.1 _ _ _ _ c.recorded_at-recorded.ensures c.act-es.ensures.0 c.begun_at-start.ensures c.act-ef.ensures.0)
 
 pub returns : goal.returns
 returns c =
@@ -27,9 +27,9 @@ returns c =
     let p = plan_in x.plan.now.sheet in
     let S = state x.tables.now in
     let w = worked_by x.calendar.now in
-    let l = ef_at p S x.i (omega (arith, activities_are x.plan.now.sheet.bytes.now x.plan.now.sheet.contents, q.2)) in
+    let l = ef_at p S x.i (omega (arith, activities_are x.plan.now.sheet.bytes.now x.plan.now.sheet.contents, q.1)) in
     let e = rw (to_z-of_z {w = w64} {z = c.in_ok-slack.slack} (record { sfits = search rules })) at c.least_slack.ensures in
-    e ∙ slack_found q.0 x.i x.finish _ w (in_plan_worked q.3) (c.act-ef.ensures.0 ∙ sym l) _ (sym c.between.ensures ∙ c.in_ok-slack.was)
+    e ∙ slack_found q.0.ready x.i x.finish _ w (in_plan_worked q.2) (c.act-ef.ensures.0 ∙ sym l) _ (sym c.between.ensures ∙ c.in_ok-slack.was)
 
 pub returns-in_err-slack : goal.returns-in_err-slack
 returns-in_err-slack c = rw (handed_on _ _ c.from_residual.ensures.1) (let x = c.args in
@@ -37,5 +37,5 @@ returns-in_err-slack c = rw (handed_on _ _ c.from_residual.ensures.1) (let x = c
     let p = plan_in x.plan.now.sheet in
     let S = state x.tables.now in
     let w = worked_by x.calendar.now in
-    let l = ef_at p S x.i (omega (arith, activities_are x.plan.now.sheet.bytes.now x.plan.now.sheet.contents, q.2)) in
-    slack_refused q.0 x.i x.finish _ w (in_plan_worked q.3) (c.act-ef.ensures.0 ∙ sym l) _ (sym c.between.ensures ∙ c.in_err-slack.was))
+    let l = ef_at p S x.i (omega (arith, activities_are x.plan.now.sheet.bytes.now x.plan.now.sheet.contents, q.1)) in
+    slack_refused q.0.ready x.i x.finish _ w (in_plan_worked q.2) (c.act-ef.ensures.0 ∙ sym l) _ (sym c.between.ensures ∙ c.in_err-slack.was))

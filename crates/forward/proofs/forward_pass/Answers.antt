@@ -16,9 +16,9 @@ pub onward-requires-clause-ready : goal.onward-requires-clause-ready
 onward-requires-clause-ready c =
     let p = plan_in c.args.plan.now.sheet in
     let frame = filled_frame p _ _ _ _ _ c.fill_act.ensures.0 (c.fill_act-2.ensures.0 ∙ ap (λ (n : ℕ). fill_act (state c.fill_act.new.self) 13 n c.origin_of-origin.result) c.fill_act.ensures.1.activities) in
-    (ready_kept c.requires.0 frame (same_then c.fill_act.ensures.1 c.fill_act-2.ensures.1) (omega arith), recorded_kept frame p refl refl refl c.requires.1)
+    record { ready = ready_kept c.requires.ready frame (same_then c.fill_act.ensures.1 c.fill_act-2.ensures.1) (omega arith); recorded = recorded_kept frame p refl refl refl c.requires.recorded }
 
 pub returns : goal.returns
 returns c =
     let p = plan_in c.args.plan.now.sheet in
-    (c.onward.ensures.0 tt ∙ filled_pass p _ _ _ _ _ c.fill_act.ensures.0 (c.fill_act-2.ensures.0 ∙ ap (λ (n : ℕ). fill_act (state c.fill_act.new.self) 13 n c.origin_of-origin.result) c.fill_act.ensures.1.activities) (c.requires.0.activities ∙ sym (activities_are c.args.plan.now.sheet.bytes.now c.args.plan.now.sheet.contents)) c.origin_of-origin.ensures.0, frame_then 12 15 0 0 (filled_frame p _ _ _ _ _ c.fill_act.ensures.0 (c.fill_act-2.ensures.0 ∙ ap (λ (n : ℕ). fill_act (state c.fill_act.new.self) 13 n c.origin_of-origin.result) c.fill_act.ensures.1.activities)) c.onward.ensures.1, same_then (same_then c.fill_act.ensures.1 c.fill_act-2.ensures.1) c.onward.ensures.2)
+    (c.onward.ensures.0 tt ∙ filled_pass p _ _ _ _ _ c.fill_act.ensures.0 (c.fill_act-2.ensures.0 ∙ ap (λ (n : ℕ). fill_act (state c.fill_act.new.self) 13 n c.origin_of-origin.result) c.fill_act.ensures.1.activities) (c.requires.ready.activities ∙ sym (activities_are c.args.plan.now.sheet.bytes.now c.args.plan.now.sheet.contents)) c.origin_of-origin.ensures.0, frame_then 12 15 0 0 (filled_frame p _ _ _ _ _ c.fill_act.ensures.0 (c.fill_act-2.ensures.0 ∙ ap (λ (n : ℕ). fill_act (state c.fill_act.new.self) 13 n c.origin_of-origin.result) c.fill_act.ensures.1.activities)) c.onward.ensures.1, same_then (same_then c.fill_act.ensures.1 c.fill_act-2.ensures.1) c.onward.ensures.2)

@@ -1,6 +1,7 @@
 -- `ids::parent_one` meets its contract.
 use mathlib.Core.Path.{refl, ap, ◌∙◌}
 use Rattle.order.specs.Plan.{plan_of, plan_in}
+use Rattle.order.specs.InSheet.{activity_is}
 use Rattle.order.specs.Checks.{refuse}
 use Rattle.memory.specs.Seen.{state}
 use Rattle.ids.specs.Answers.{OfParents}
@@ -15,7 +16,7 @@ returns-then-id-eq0 c =
     let p = plan_in x.sheet.now in
     let S = state x.tables.now in
     let P = c.requires.4 in
-    let d = c.parent_of-id.ensures.0 in
+    let d = rw (activity_is x.sheet.now x.i c.activity.ensures) at c.parent-id.ensures.0 in
     let z = c.if-id-eq0.true in
     let e = c.put_act.ensures.0 in (
       record { is = top_fine p S x.i P _ d z },
@@ -30,9 +31,9 @@ returns-in_default c =
     let p = plan_in x.sheet.now in
     let S = state x.tables.now in
     let P = c.requires.4 in
-    let d = c.parent_of-id.ensures.0 in
+    let d = rw (activity_is x.sheet.now x.i c.activity.ensures) at c.parent-id.ensures.0 in
     let z = c.if-id-eq0.false in (
-      record { is = ap (refuse 10) c.id_of.ensures.0 ∙ unknown_refused p S x.i P _ d z _ c.in_default.ensures.0 refl },
+      record { is = ap (refuse 10) (rw (activity_is x.sheet.now x.i c.activity-in_default.ensures) at c.id.ensures.0) ∙ unknown_refused p S x.i P _ d z _ c.in_default.ensures.0 refl },
       record { kept = kept_refl OfParents S; holds = tt },
       same_refl x.tables.now,
     )
@@ -44,7 +45,7 @@ returns c =
     let p = plan_in x.sheet.now in
     let S = state x.tables.now in
     let P = c.requires.4 in
-    let d = c.parent_of-id.ensures.0 in
+    let d = rw (activity_is x.sheet.now x.i c.activity.ensures) at c.parent-id.ensures.0 in
     let z = c.if-id-eq0.false in
     let f = c.in-Some.ensures in
     let D = c.requires.2 in

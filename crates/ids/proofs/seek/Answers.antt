@@ -2,6 +2,7 @@
 use mathlib.Core.Path.{sym, ◌∙◌}
 use native.Mathlib.Omega.{arith}
 use Rattle.order.specs.Plan.{plan_of, plan_in}
+use Rattle.order.specs.InSheet.{activity_is}
 use Rattle.memory.specs.Seen.{state}
 use Rattle.ids.specs.SearchLaws.{child_later, seeking_nowhere, seeking_start, seeking_found, seeking_end, seeking_turn}
 use Rattle.ids.proofs.seek.Goals as goal
@@ -18,11 +19,11 @@ loop-n-init c =
     let x = c.args in
     seeking_start (plan_in x.sheet.now) (state x.tables.now) x.n x.id c.requires.3 _ c.act-first.ensures.0 c.if-first-eq0.false
 
-pub returns-then-id_of-id : goal.returns-then-id_of-id
-returns-then-id_of-id c =
+pub returns-then-id : goal.returns-then-id
+returns-then-id c =
     let x = c.args in
     let L = c.loop-n in (
-      seeking_found (plan_in x.sheet.now) (state x.tables.now) x.n x.id c.requires.3 L.j L.rest L.invariant (sym c.id_of.ensures.0 ∙ c.if-id_of-id.true),
+      seeking_found (plan_in x.sheet.now) (state x.tables.now) x.n x.id c.requires.3 L.j L.rest L.invariant (sym (rw (activity_is x.sheet.now L.j c.activity.ensures) at c.id.ensures.0) ∙ c.if-id.true),
       L.invariant.below,
     )
 
@@ -32,7 +33,7 @@ returns-then-k-eq0 c =
     let x = c.args in
     let L = c.loop-n in
     seeking_end (plan_in x.sheet.now) (state x.tables.now) x.n x.id c.requires.3 L.j L.rest L.invariant _ c.act-k.ensures.0
-    (λ e. c.if-id_of-id.false (c.id_of.ensures.0 ∙ e)) c.if-k-eq0.true
+    (λ e. c.if-id.false (rw (activity_is x.sheet.now L.j c.activity.ensures) at c.id.ensures.0 ∙ e)) c.if-k-eq0.true
 
 pub loop-n-smaller : goal.loop-n-smaller
 loop-n-smaller c =
@@ -45,4 +46,4 @@ loop-n-preserved c =
     let x = c.args in
     let L = c.loop-n in
     seeking_turn (plan_in x.sheet.now) (state x.tables.now) x.n x.id c.requires.3 L.j L.rest L.invariant _ c.act-k.ensures.0
-    (λ e. c.if-id_of-id.false (c.id_of.ensures.0 ∙ e)) c.if-k-eq0.false
+    (λ e. c.if-id.false (rw (activity_is x.sheet.now L.j c.activity.ensures) at c.id.ensures.0 ∙ e)) c.if-k-eq0.false

@@ -5,6 +5,7 @@ use native.Mathlib.Omega.{arith}
 use Rattle.memory.specs.Fields.{parent}
 use Rattle.network.specs.Parents.{loop_steps}
 use Rattle.order.specs.Plan.{plan_of, plan_in}
+use Rattle.order.specs.InSheet.{activity_is}
 use Rattle.memory.specs.Seen.{state}
 use Rattle.ids.specs.SummaryLaws.{parents_within, answered_milestone, answered_loop, answered_free}
 use Rattle.ids.proofs.summary_one.Goals as goal
@@ -13,7 +14,7 @@ pub returns-then-is_milestone_parent : goal.returns-then-is_milestone_parent
 returns-then-is_milestone_parent c =
     let x = c.args in
     let p = plan_in x.sheet.now in
-    answered_milestone p x.i _ c.id_of.ensures.0 _ c.is_milestone_parent.ensures c.if-is_milestone_parent.true
+    answered_milestone p x.i _ (rw (activity_is x.sheet.now x.i c.activity.ensures) at c.id.ensures.0) _ c.is_milestone_parent.ensures c.if-is_milestone_parent.true
 
 pub parent_loop_steps-requires : goal.parent_loop_steps-requires
 unfolding plan_of

@@ -4,4 +4,4 @@ use Rattle.judges.proofs.judge_activity.Goals as goal
 
 pub returns : goal.returns
 unfolding judge_activity
-returns c = rw c.activity_ok.ensures at c.verdict.ensures
+returns c = rw (c.activity_ok.ensures, c.new-activity.ensures.0, c.new-activity.ensures.1) at c.verdict.ensures

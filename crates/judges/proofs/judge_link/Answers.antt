@@ -4,4 +4,4 @@ use Rattle.judges.proofs.judge_link.Goals as goal
 
 pub returns : goal.returns
 unfolding judge_link
-returns c = rw c.link_ok.ensures at c.verdict.ensures
+returns c = rw (c.link_ok.ensures, c.new-link.ensures.0, c.new-link.ensures.1) at c.verdict.ensures

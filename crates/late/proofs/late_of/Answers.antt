@@ -1,24 +1,48 @@
--- `late::late_of` meets its contract.
-use mathlib.Core.Path.{sym, ap, ◌∙◌}
+-- `late::late_of` meets its contract. Each way out has its law.
+use mathlib.Core.Path.{sym, ◌∙◌}
 use Rattle.order.specs.Plan.{plan_in}
-use Rattle.calendar.specs.Hours.{worked}
-use Rattle.project.specs.declared.Activity.{Activity}
-use Rattle.calendars.specs.CalendarLaws.{in_plan_worked}
-use Rattle.late.specs.StandLaws.{left_at}
+use Rattle.memory.specs.Seen.{state}
+use Rattle.dates.specs.Columns.{early_in, late_in}
+use Rattle.number.specs.Exits.{handed_on}
+use Rattle.late.specs.PlaceLaws.{fitting_refused}
+use Rattle.late.specs.StandLaws.{early_at, summary_at, unfinished_placed, unfinished_held, unfinished_lowered}
 use Rattle.late.proofs.late_of.Goals as goal
 
-pub late_from-requires : goal.late_from-requires
-late_from-requires c =
+pub work_of-requires : goal.work_of-requires
+work_of-requires c = (c.requires.0.activities, c.requires.1)
+
+pub lower-requires : goal.lower-requires
+lower-requires c = (c.requires.0, c.requires.1, record { hand = c.work_of.ensures.1; origin_is = c.origin_of.ensures.0 })
+
+pub returns : goal.returns
+returns c =
     let R = c.requires.0 in
-    let p = plan_in c.args.plan.now.sheet in (
-      R,
-      c.requires.1,
-      record {
-        works = in_plan_worked c.calendar-calendar.ensures ∙ ap (λ (y : Activity). worked (p.hours y.calendar)) c.activity_of-activity.ensures;
-        activity_is = c.activity_of-activity.ensures;
-        left_is = c.act-left.ensures.0 ∙ sym (left_at R c.args.i c.requires.1);
-        origin_is = c.origin_of-origin.ensures.0;
-      },
-      c.origin_of-origin.ensures.1,
-      c.requires.2,
+    let p = plan_in c.args.plan.now.sheet in
+    let S = state c.args.tables.now in
+    let d = early_in p S in
+    let m = late_in p S c.args.last in
+    let i = c.args.i in
+    let q = c.act-early.ensures.0 ∙ sym (early_at R i c.requires.1) in
+    let h = c.hold_late.ensures p d m i (record { hand = c.work_of.ensures.1; origin_is = c.origin_of.ensures.0 }) (summary_at R i _ c.requires.1 c.act-mark.ensures.0) c.requires.2 in (
+      c.place_late.ensures.0 p d m i (record { hand = c.work_of.ensures.1; origin_is = c.origin_of.ensures.0 }) q ∙ sym (unfinished_placed p d m i c.args.last _ _ (sym c.lower.ensures ∙ c.in_ok-f.was) (sym h ∙ c.in_ok-g.was)),
+      c.place_late.ensures.1,
     )
+
+pub returns-in_err-g : goal.returns-in_err-g
+returns-in_err-g c = rw (handed_on _ _ c.from_residual-in_err-g.ensures.1) (let R = c.requires.0 in
+    let p = plan_in c.args.plan.now.sheet in
+    let S = state c.args.tables.now in
+    let d = early_in p S in
+    let m = late_in p S c.args.last in
+    let i = c.args.i in
+    let h = c.hold_late.ensures p d m i (record { hand = c.work_of.ensures.1; origin_is = c.origin_of.ensures.0 }) (summary_at R i _ c.requires.1 c.act-mark.ensures.0) c.requires.2 in
+    (sym (unfinished_held p d m i c.args.last _ _ (sym c.lower.ensures ∙ c.in_ok-f.was) (sym h ∙ c.in_err-g.was)), fitting_refused _))
+
+pub returns-in_err-f : goal.returns-in_err-f
+returns-in_err-f c = rw (handed_on _ _ c.from_residual.ensures.1) (let R = c.requires.0 in
+    let p = plan_in c.args.plan.now.sheet in
+    let S = state c.args.tables.now in
+    let d = early_in p S in
+    let m = late_in p S c.args.last in
+    let i = c.args.i in
+    (sym (unfinished_lowered p d m i c.args.last _ (sym c.lower.ensures ∙ c.in_err-f.was)), fitting_refused _))

@@ -6,21 +6,21 @@ use Rattle.late.specs.UnfinishedLaws.{own_bounded, own_finish, own_start}
 use Rattle.late.proofs.place_late.Goals as goal
 
 pub lift-requires : goal.lift-requires
-lift-requires c = (c.requires.1, bounded_fits _ _ _ c.requires.0 (sym c.bounded.ensures ∙ c.in_ok-b.was))
+lift-requires c = (c.requires, bounded_fits _ _ _ c.args.unfinished.now.near (sym c.bounded.ensures ∙ c.in_ok-b.was))
 
 pub returns : goal.returns
 returns c = (
   λ p d l i O q.
       sym
-      (placed_at p d l i c.args.latest _ (own_finish O _ ∙ sym c.place_finish.ensures ∙ c.in_ok-t.was) _ (own_bounded O _ ∙ sym c.bounded.ensures ∙ c.in_ok-b.was) _ (sym (c.lift.ensures.0 p d l i O q) ∙ c.in_ok-f.was) _ (own_start O _ ∙ sym c.start_of.ensures ∙ c.in_ok-u.was) _ (own_bounded O _ ∙ sym c.bounded-2.ensures ∙ c.in_ok-s.was)),
-  fitting_dates _ _ (bounded_fits _ _ _ c.requires.0 (sym c.bounded-2.ensures ∙ c.in_ok-s.was)) (c.lift.ensures.1 _ c.in_ok-f.was),
+      (placed_at p d l i c.args.latest _ (own_finish O.hand _ ∙ sym c.place_finish.ensures ∙ c.in_ok-t.was) _ (own_bounded O _ ∙ sym c.bounded.ensures ∙ c.in_ok-b.was) _ (sym (c.lift.ensures.0 p d l i O.hand q) ∙ c.in_ok-f.was) _ (own_start O.hand _ ∙ sym c.start_of.ensures ∙ c.in_ok-u.was) _ (own_bounded O _ ∙ sym c.bounded-2.ensures ∙ c.in_ok-s.was)),
+  fitting_dates _ _ (bounded_fits _ _ _ c.args.unfinished.now.near (sym c.bounded-2.ensures ∙ c.in_ok-s.was)) (c.lift.ensures.1 _ c.in_ok-f.was),
 )
 
 pub returns-in_err-s : goal.returns-in_err-s
 returns-in_err-s c = rw (handed_on _ _ c.from_residual-in_err-s.ensures.1) ((
   λ p d l i O q.
       sym
-      (placed_start_beyond p d l i c.args.latest _ (own_finish O _ ∙ sym c.place_finish.ensures ∙ c.in_ok-t.was) _ (own_bounded O _ ∙ sym c.bounded.ensures ∙ c.in_ok-b.was) _ (sym (c.lift.ensures.0 p d l i O q) ∙ c.in_ok-f.was) _ (own_start O _ ∙ sym c.start_of.ensures ∙ c.in_ok-u.was) _ (own_bounded O _ ∙ sym c.bounded-2.ensures ∙ c.in_err-s.was)),
+      (placed_start_beyond p d l i c.args.latest _ (own_finish O.hand _ ∙ sym c.place_finish.ensures ∙ c.in_ok-t.was) _ (own_bounded O _ ∙ sym c.bounded.ensures ∙ c.in_ok-b.was) _ (sym (c.lift.ensures.0 p d l i O.hand q) ∙ c.in_ok-f.was) _ (own_start O.hand _ ∙ sym c.start_of.ensures ∙ c.in_ok-u.was) _ (own_bounded O _ ∙ sym c.bounded-2.ensures ∙ c.in_err-s.was)),
   fitting_refused _,
 )
     )
@@ -29,7 +29,7 @@ pub returns-in_err-u : goal.returns-in_err-u
 returns-in_err-u c = rw (handed_on _ _ c.from_residual-in_err-u.ensures.1) ((
   λ p d l i O q.
       sym
-      (placed_start_refused p d l i c.args.latest _ (own_finish O _ ∙ sym c.place_finish.ensures ∙ c.in_ok-t.was) _ (own_bounded O _ ∙ sym c.bounded.ensures ∙ c.in_ok-b.was) _ (sym (c.lift.ensures.0 p d l i O q) ∙ c.in_ok-f.was) _ (own_start O _ ∙ sym c.start_of.ensures ∙ c.in_err-u.was)),
+      (placed_start_refused p d l i c.args.latest _ (own_finish O.hand _ ∙ sym c.place_finish.ensures ∙ c.in_ok-t.was) _ (own_bounded O _ ∙ sym c.bounded.ensures ∙ c.in_ok-b.was) _ (sym (c.lift.ensures.0 p d l i O.hand q) ∙ c.in_ok-f.was) _ (own_start O.hand _ ∙ sym c.start_of.ensures ∙ c.in_err-u.was)),
   fitting_refused _,
 )
     )
@@ -38,7 +38,7 @@ pub returns-in_err-f : goal.returns-in_err-f
 returns-in_err-f c = rw (handed_on _ _ c.from_residual-in_err-f.ensures.1) ((
   λ p d l i O q.
       sym
-      (placed_lift_refused p d l i c.args.latest _ (own_finish O _ ∙ sym c.place_finish.ensures ∙ c.in_ok-t.was) _ (own_bounded O _ ∙ sym c.bounded.ensures ∙ c.in_ok-b.was) _ (sym (c.lift.ensures.0 p d l i O q) ∙ c.in_err-f.was)),
+      (placed_lift_refused p d l i c.args.latest _ (own_finish O.hand _ ∙ sym c.place_finish.ensures ∙ c.in_ok-t.was) _ (own_bounded O _ ∙ sym c.bounded.ensures ∙ c.in_ok-b.was) _ (sym (c.lift.ensures.0 p d l i O.hand q) ∙ c.in_err-f.was)),
   fitting_refused _,
 )
     )
@@ -47,7 +47,7 @@ pub returns-in_err-b : goal.returns-in_err-b
 returns-in_err-b c = rw (handed_on _ _ c.from_residual-in_err-b.ensures.1) ((
   λ p d l i O q.
       sym
-      (placed_finish_beyond p d l i c.args.latest _ (own_finish O _ ∙ sym c.place_finish.ensures ∙ c.in_ok-t.was) _ (own_bounded O _ ∙ sym c.bounded.ensures ∙ c.in_err-b.was)),
+      (placed_finish_beyond p d l i c.args.latest _ (own_finish O.hand _ ∙ sym c.place_finish.ensures ∙ c.in_ok-t.was) _ (own_bounded O _ ∙ sym c.bounded.ensures ∙ c.in_err-b.was)),
   fitting_refused _,
 )
     )
@@ -56,7 +56,7 @@ pub returns-in_err-t : goal.returns-in_err-t
 returns-in_err-t c = rw (handed_on _ _ c.from_residual.ensures.1) ((
   λ p d l i O q.
       sym
-      (placed_finish_refused p d l i c.args.latest _ (own_finish O _ ∙ sym c.place_finish.ensures ∙ c.in_err-t.was)),
+      (placed_finish_refused p d l i c.args.latest _ (own_finish O.hand _ ∙ sym c.place_finish.ensures ∙ c.in_err-t.was)),
   fitting_refused _,
 )
     )

@@ -2,11 +2,11 @@
 use mathlib.Core.Path.{◌≡◌}
 use lib.ListN.{length}
 use Rattle.order.specs.Plan.{plan_in}
-use Rattle.memory.specs.Seen.{state, SameSlice}
+use Rattle.memory.specs.Seen.{state, SameLent}
 use Rattle.links.specs.LinkSteps.{Linking}
 use Rattle.links.proofs.link_all.Given as goal
 
 abbrev pub invariant-loop-k : goal.invariant-loop-k
 invariant-loop-k l =
-    SameSlice l.fn.tables l.tables × (length l.names ≡ length l.fn.names)
-    × Linking (plan_in l.sheet) (state l.fn.tables) l.fn.names l.k l.counts (state l.tables) l.names
+    SameLent l.fn.tables l.tables × (length l.names ≡ length l.fn.names)
+    × Linking (plan_in l.sheet) (state l.fn.tables) l.fn.names l.k l.ignored l.tables l.names

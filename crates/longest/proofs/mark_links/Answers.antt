@@ -7,7 +7,7 @@ use Rattle.topology.specs.FrameLaws.{frame_refl, frame_then}
 use Rattle.order.specs.Plan.{plan_in}
 use Rattle.bounds.specs.ReadyLaws.{activities_are}
 use Rattle.number.specs.Exits.{handed_on}
-use Rattle.longest.specs.KeptLaws.{lent_kept}
+use Rattle.longest.specs.KeptLaws.{lent_kept, hand_kept}
 use Rattle.longest.specs.OwnLaws.{link_in}
 use Rattle.longest.specs.WalkLaws.{marking_start, next_stands, marking_turn, marking_stop, marking_end}
 use Rattle.longest.proofs.mark_links.Goals as goal
@@ -24,7 +24,7 @@ mark_link-requires c =
     let x = c.args in
     let p = plan_in x.plan.now.sheet in
     let v = c.loop-k.invariant in
-    (lent_kept c.requires.0 c.loop-k.tables v.1 v.0, c.requires.1, c.requires.2, c.loop-k-test.true)
+    (lent_kept c.requires.0 c.loop-k.tables v.1 v.0, hand_kept v.1 p x.i x.work.now c.requires.1, c.requires.2, c.loop-k-test.true)
 
 pub returns-in_err-mark_link : goal.returns-in_err-mark_link
 returns-in_err-mark_link c = rw (handed_on _ _ c.from_residual.ensures.1) (let x = c.args in

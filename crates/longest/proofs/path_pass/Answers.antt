@@ -21,7 +21,7 @@ returns c =
     let T = state b.new.tables in
     let other = last_ones p (early_in p S₀) x.finish in (
       pass_is p S₀ S m.ensures.1 x.finish (ended (path_in p T other) b.result)
-          (m.ensures.0 p x.tables.now.kept (activities_are x.plan.now.sheet.bytes.now x.plan.now.sheet.contents ∙ sym c.requires.0.activities) c.requires.0.standing c.requires.1) (b.ensures.0 other),
+          (m.ensures.0 p x.tables.now.kept (activities_are x.plan.now.sheet.bytes.now x.plan.now.sheet.contents ∙ sym c.requires.ready.activities) c.requires.ready.standing c.requires.recorded) (b.ensures.0 other),
       frame_then 16 17 0 0 m.ensures.1 b.ensures.1,
       same_then m.ensures.2 b.ensures.2,
     )

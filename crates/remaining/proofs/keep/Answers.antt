@@ -1,17 +1,7 @@
 -- `remaining::keep` meets its contract: the four puts are `kept`.
-use native.Mathlib.Omega.{arith}
 use Rattle.memory.specs.SeenLaws.{same_then}
-use Rattle.remaining.specs.LeftLaws.{start_below, finish_below}
 use Rattle.remaining.specs.RowLaws.{kept_steps}
 use Rattle.remaining.proofs.keep.Goals as goal
-
-pub put_act-requires-2 : goal.put_act-requires-2
-put_act-requires-2 c =
-    (omega (arith, c.requires.0, c.put_act.ensures.1.activities), omega arith, rw c.start_of.ensures (start_below c.args.actual c.requires.1))
-
-pub put_act-requires-3 : goal.put_act-requires-3
-put_act-requires-3 c =
-    (omega (arith, c.requires.0, c.put_act.ensures.1.activities, c.put_act-2.ensures.1.activities), omega arith, rw c.finish_of.ensures (finish_below c.args.actual c.requires.1))
 
 pub returns : goal.returns
 returns c =
@@ -20,7 +10,7 @@ returns c =
     let p2 = c.put_act-2.ensures in
     let p1 = c.put_act.ensures in
     let x = c.args in (
-      kept_steps _ _ _ _ _ x.i x.actual _ _ _ x.left p1.0 p2.0 p3.0 p4.0 c.how_of.ensures.0 c.start_of.ensures
+      kept_steps _ _ _ _ _ x.i x.actual _ _ _ x.left p1.0 p2.0 p3.0 p4.0 c.status.ensures.0 c.start_of.ensures
           c.finish_of.ensures,
       same_then p1.1 (same_then p2.1 (same_then p3.1 p4.1)),
     )

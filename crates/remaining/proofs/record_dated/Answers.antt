@@ -1,5 +1,5 @@
 -- `remaining::record_dated` meets its contract: what is recorded is the definition's, and so is the work left.
-use mathlib.Core.Path.{◌≡◌, refl, sym, ◌∙◌}
+use mathlib.Core.Path.{◌≡◌, sym, ◌∙◌}
 use mathlib.Core.Bool.{false}
 use Prim.Native.Nat.{ℕ}
 use native.Mathlib.Omega.{arith}
@@ -17,7 +17,7 @@ use Rattle.order.specs.Ids.{summary}
 use Rattle.order.specs.Ties.{calendar_of}
 use Rattle.passes.specs.Plan.{recorded}
 use Rattle.calendars.specs.Calendars.{InPlan}
-use Rattle.calendars.specs.CalendarLaws.{in_plan_worked, in_plan_own}
+use Rattle.calendars.specs.CalendarLaws.{in_plan_worked, own_is}
 use Rattle.number.specs.Exits.{handed_on}
 use Rattle.remaining.specs.LeftLaws.{recorded_else, left_is, left_below, is_below}
 use Rattle.remaining.specs.RowLaws.{row_kept, row_refused}
@@ -30,15 +30,11 @@ module _ (sheet : Sheet) (i : ℕ) {a : Activity} (e : a ≡ (plan_in sheet).act
   recorded-is C f r =
       r ∙ (λ z. actual (in_plan_worked C z) (e z).actual_start (e z).actual_finish) ∙ sym (recorded_else (plan_in sheet) i f)
 
-pub left_of-requires : goal.left_of-requires
-left_of-requires c =
-    let x = c.args in (c.requires.2, in_plan_own c.calendar-calendar.ensures c.args.i c.requires.2 refl, c.requires.4)
-
 pub keep-requires : goal.keep-requires
 keep-requires c =
     let y = c.args in
     let p = plan_in y.plan.now.sheet in
-    let C = in_plan_own c.calendar-calendar.ensures c.args.i c.requires.2 refl in
+    let C = (own_is c.requires.2 c.calendar.ensures).in_plan in
     let x = c.in_ok-actual.actual in (
       omega (arith, c.requires.0, c.requires.1),
       is_below p y.i (Ok x) (sym c.in_ok-actual.was ∙ recorded-is y.plan.now.sheet y.i c.requires.2 C c.requires.3 c.actual.ensures),
@@ -49,7 +45,7 @@ pub returns : goal.returns
 returns c =
     let y = c.args in
     let p = plan_in y.plan.now.sheet in
-    let C = in_plan_own c.calendar-calendar.ensures c.args.i c.requires.2 refl in
+    let C = (own_is c.requires.2 c.calendar.ensures).in_plan in
     let x = c.in_ok-actual.actual in
     let e = sym c.in_ok-actual.was ∙ recorded-is y.plan.now.sheet y.i c.requires.2 C c.requires.3 c.actual.ensures in
     let m = sym c.left_of.ensures ∙ c.in_ok-left.was in
@@ -58,14 +54,14 @@ returns c =
 pub returns-in_err-actual : goal.returns-in_err-actual
 returns-in_err-actual c = rw (handed_on _ _ c.from_residual.ensures.1) (let y = c.args in
     let p = plan_in y.plan.now.sheet in
-    let C = in_plan_own c.calendar-calendar.ensures c.args.i c.requires.2 refl in
+    let C = (own_is c.requires.2 c.calendar.ensures).in_plan in
     let e = sym c.in_err-actual.was ∙ recorded-is y.plan.now.sheet y.i c.requires.2 C c.requires.3 c.actual.ensures in
     (row_refused p y.i _ _ (left_is p y.i (Err c.in_err-actual.field-0.0) e), same_refl _))
 
 pub returns-in_err-left : goal.returns-in_err-left
 returns-in_err-left c = rw (handed_on _ _ c.from_residual-in_err-left.ensures.1) (let y = c.args in
     let p = plan_in y.plan.now.sheet in
-    let C = in_plan_own c.calendar-calendar.ensures c.args.i c.requires.2 refl in
+    let C = (own_is c.requires.2 c.calendar.ensures).in_plan in
     let x = c.in_ok-actual.actual in
     let e = sym c.in_ok-actual.was ∙ recorded-is y.plan.now.sheet y.i c.requires.2 C c.requires.3 c.actual.ensures in
     (row_refused p y.i _ _ (left_is p y.i (Ok x) e ∙ sym c.left_of.ensures ∙ c.in_err-left.was), same_refl _))

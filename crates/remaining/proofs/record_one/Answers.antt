@@ -76,25 +76,25 @@ record_dated-requires c =
     let e = c.activity_of-activity.ensures in
     let n = no-summary c.requires.0 c.requires.1 c.act-mark.ensures.0 c.if-mark-ne0.false in (c.requires.0.activities, c.requires.1, e, n, whole_is (plan_in x.plan.now.sheet) x.i e n (record { sfits = search rules }) c.minutes_of-whole.ensures.0, c.minutes_of-whole.ensures.1)
 
-pub returns-in_default : goal.returns-in_default
-returns-in_default c = c.record_dated.ensures
+pub returns-in-InProgress : goal.returns-in-InProgress
+returns-in-InProgress c = c.record_dated.ensures
 
-pub keep-requires-2 : goal.keep-requires-2
-keep-requires-2 c =
+pub keep-requires-in-NotStarted : goal.keep-requires-in-NotStarted
+keep-requires-in-NotStarted c =
     let x = c.args in
     let p = plan_in x.plan.now.sheet in
     let n = no-summary c.requires.0 c.requires.1 c.act-mark.ensures.0 c.if-mark-ne0.false in
-    let r = none-recorded p x.i c.activity_of-activity.ensures n c.status_of-status.ensures c.in-NotStarted.is in
+    let r = none-recorded p x.i c.activity_of-activity.ensures n c.status_of.ensures c.in-NotStarted.is in
     (omega (arith, c.requires.0.activities, c.requires.1), is_below p x.i (Ok Unstarted) (sym r), c.minutes_of-whole.ensures.1)
 
-pub returns : goal.returns
-returns c =
+pub returns-in-NotStarted : goal.returns-in-NotStarted
+returns-in-NotStarted c =
     let x = c.args in
     let p = plan_in x.plan.now.sheet in
     let e = c.activity_of-activity.ensures in
     let n = no-summary c.requires.0 c.requires.1 c.act-mark.ensures.0 c.if-mark-ne0.false in
-    let r = none-recorded p x.i e n c.status_of-status.ensures c.in-NotStarted.is in
+    let r = none-recorded p x.i e n c.status_of.ensures c.in-NotStarted.is in
     let w = whole_is p x.i e n (record { sfits = search rules }) c.minutes_of-whole.ensures.0 in (
-      row_kept p x.i _ _ Unstarted _ c.keep-2.ensures.0 (sym r) (left_unstarted p x.i r ∙ ap Ok (sym w)),
-      c.keep-2.ensures.1,
+      row_kept p x.i _ _ Unstarted _ c.keep-in-NotStarted.ensures.0 (sym r) (left_unstarted p x.i r ∙ ap Ok (sym w)),
+      c.keep-in-NotStarted.ensures.1,
     )

@@ -6,7 +6,6 @@ use Rattle.memory.specs.SeenLaws.{same_refl, same_then}
 use Rattle.topology.specs.FrameLaws.{frame_refl, frame_then}
 use Rattle.order.specs.Plan.{plan_of, plan_in}
 use Rattle.placing.proofs.PlacingSound.{clash}
-use Rattle.dates.specs.KeptLaws.{ready_kept}
 use Rattle.number.specs.Exits.{handed_on}
 use Rattle.remaining.specs.RowLaws.{passed_start, passed_turn, passed_stop, passed_end}
 use Rattle.remaining.proofs.remaining.Goals as goal
@@ -16,11 +15,6 @@ loop-i-init c =
     let x = c.args in
     let S = state x.tables.now in
     (same_refl _, frame_refl 14 20 0 0 S, passed_start (plan_in x.plan.now.sheet) S)
-
-pub record_one-requires : goal.record_one-requires
-record_one-requires c =
-    let L = c.loop-i in
-    (ready_kept c.requires L.invariant.1 L.invariant.0 (omega arith), omega arith)
 
 pub returns-in_err-record_one : goal.returns-in_err-record_one
 unfolding plan_of

@@ -18,7 +18,7 @@ returns-in-Some c =
     ap Ok (omega (arith, rw (to_z-of_z f) at c.minutes_of.ensures.0, c.min.ensures))
     ∙ sym
     (still_told (plan_in x.sheet.now) x.i x.start _ _
-    (sym (ap (λ (a : Activity). a.remaining) c.requires.0) ∙ c.in-Some.is))
+    (sym (ap (λ (a : Activity). a.remaining) c.requires.0.is) ∙ c.in-Some.is))
 
 pub returns-in-None : goal.returns-in-None
 returns-in-None c =
@@ -26,4 +26,4 @@ returns-in-None c =
     c.since_start.ensures
     ∙ sym
     (still_untold (plan_in x.sheet.now) x.i x.start _
-    (sym (ap (λ (a : Activity). a.remaining) c.requires.0) ∙ c.in-None.is))
+    (sym (ap (λ (a : Activity). a.remaining) c.requires.0.is) ∙ c.in-None.is))

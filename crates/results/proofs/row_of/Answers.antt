@@ -11,9 +11,6 @@ use Rattle.memory.specs.Seen.{state}
 use Rattle.results.proofs.RowLaws.{row_is}
 use Rattle.results.proofs.row_of.Goals as goal
 
-pub activity_of-activity-requires : goal.activity_of-activity-requires
-activity_of-activity-requires c = let h = c.requires in h.1
-
 pub bounds-plan-k : goal.bounds-plan-k
 unfolding plan_of
 bounds-plan-k c =
@@ -43,12 +40,10 @@ returns c =
     let a = c.activity_of-activity.ensures in
     let k = c.activity_of-activity.result.calendar in
     let e : k ≡ (p.activity x.i).calendar = ap (λ (a : Activity). a.calendar) a in
-    let n : k ≤ x.plan.now.sheet.contents.calendars = omega (arith, e, h.0.named x.i h.1) in (
-      c.shown_of.ensures.0 p
-          ∙ row_is p (state x.tables.now) x.i _ _ _ _ _ _ h.2 (ap (λ (a : Activity). a.kind) a)
-          (h.0.days.is k n ∙ ap p.day_length e)
-          (in_plan_worked c.calendar-calendar.ensures
-          ∙ ap (λ (j : ℕ). worked (p.hours j)) e)
-          (ap Ok c.recorded_at-actual.ensures ∙ h.0.recorded x.i h.1) c.times_at-t.ensures.0,
-      c.shown_of.ensures.1,
-    )
+    let n : k ≤ x.plan.now.sheet.contents.calendars = omega (arith, e, h.0.named x.i h.1) in
+    c.shown_of.ensures p
+    ∙ row_is p (state x.tables.now) x.i _ _ _ _ _ _ h.2 (ap (λ (a : Activity). a.kind) a)
+    (h.0.days.is k n ∙ ap p.day_length e)
+    (in_plan_worked c.calendar-calendar.ensures
+    ∙ ap (λ (j : ℕ). worked (p.hours j)) e)
+    (ap Ok c.recorded_at-actual.ensures ∙ h.0.recorded x.i h.1) c.times_at-t.ensures.0

@@ -9,15 +9,12 @@ use Rattle.results.specs.View.{shown_to}
 use Rattle.results.proofs.RowLaws.{to_show_kept, shows_start, shows_turn, shows_stop, shows_end}
 use Rattle.results.proofs.show_all.Goals as goal
 
-pub read_project-project-requires : goal.read_project-project-requires
-read_project-project-requires c = omega (arith, c.args.plan.now.sheet.read.header.within)
-
 pub loop-i-init : goal.loop-i-init
 unfolding plan_of
 loop-i-init c =
     let x = c.args in
     let p = plan_in x.plan.now.sheet in
-    (same_refl _, c.read_project-project.ensures, shows_start p (state x.tables.now))
+    (same_refl _, c.project-project.ensures, shows_start p (state x.tables.now))
 
 pub show_one-requires : goal.show_one-requires
 show_one-requires c =

@@ -20,24 +20,6 @@ returns-then-k-eq0 c =
     let e = c.act-k.ensures.0 in
     (chain_skip x.key x.head x.tables.now.activities h.1 S x.c h.0 (sym e ∙ c.if-k-eq0.true) h.4, frame_refl x.head (x.head + 2) 0 0 S, same_refl _)
 
-pub act-first-requires : goal.act-first-requires
-act-first-requires c =
-    let x = c.args in
-    let h = c.requires in
-    let S = state x.tables.now in
-    let k = c.act-k.result in
-    let e = c.act-k.ensures.0 in
-    (omega (arith, e, h.3 x.c h.0, c.if-k-eq0.false), omega (arith, h.2))
-
-pub put_act-requires-2 : goal.put_act-requires-2
-put_act-requires-2 c =
-    let x = c.args in
-    let h = c.requires in
-    let S = state x.tables.now in
-    let k = c.act-k.result in
-    let e = c.act-k.ensures.0 in
-    (omega (arith, c.put_act.ensures.1.activities, e, h.3 x.c h.0, c.if-k-eq0.false), omega (arith, h.2), omega (arith, h.0, x.tables.now.room))
-
 pub returns : goal.returns
 returns c =
     let x = c.args in

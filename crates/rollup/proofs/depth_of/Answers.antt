@@ -17,9 +17,6 @@ returns-then-y-eq0 c =
     let x = c.args in
     let up = (state x.tables.now).act parent in let L = c.loop-k in (climbs_top up x.tables.now.activities x.i L.y L.k L.invariant c.if-y-eq0.true, L.invariant.steps)
 
-pub overflow_sub-y : goal.overflow_sub-y
-overflow_sub-y c = omega (arith, c.if-y-eq0.false)
-
 pub loop-k-preserved : goal.loop-k-preserved
 loop-k-preserved c =
     let x = c.args in

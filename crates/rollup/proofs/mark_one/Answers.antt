@@ -1,6 +1,5 @@
 -- `rollup::mark_one` meets its contract.
 use mathlib.Core.Path.{sym, ap, ◌∙◌}
-use native.Mathlib.Omega.{arith}
 use Rattle.memory.specs.State.{put_act}
 use Rattle.memory.specs.Seen.{state}
 use Rattle.memory.specs.Fields.{depth_of}
@@ -12,9 +11,6 @@ returns-then-act-eq0 c =
     let x = c.args in
     let S = state x.tables.now in
     (c.put_act.ensures.0 ∙ ap (put_act S depth_of x.i) (key_none S x.tables.now.activities x.i (sym c.act.ensures.0 ∙ c.if-act-eq0.true)), c.put_act.ensures.1)
-
-pub put_act-requires-2 : goal.put_act-requires-2
-put_act-requires-2 c = (c.requires.0, omega arith, omega (arith, c.depth_of-d.ensures.1, c.args.tables.now.room))
 
 pub returns : goal.returns
 returns c =

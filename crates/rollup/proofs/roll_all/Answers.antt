@@ -7,9 +7,8 @@ use Rattle.memory.specs.SeenLaws.{same_refl, same_then}
 use Rattle.topology.specs.FrameLaws.{frame_refl, frame_then}
 use Rattle.order.specs.Plan.{plan_of, plan_in}
 use Rattle.results.specs.View.{shown_in}
-use Rattle.results.proofs.RowLaws.{to_show_kept}
 use Rattle.number.specs.Exits.{handed_on}
-use Rattle.rollup.specs.RollingLaws.{deep_kept, Rising, rising_turn, rising_stop, rising_end}
+use Rattle.rollup.specs.RollingLaws.{Rising, rising_turn, rising_stop, rising_end}
 use Rattle.rollup.proofs.roll_all.Goals as goal
 
 pub loop-d-init : goal.loop-d-init
@@ -17,15 +16,6 @@ unfolding plan_of
 loop-d-init c =
     let x = c.args in
     (same_refl _, record { frame = frame_refl 20 30 0 0 (state x.tables.now); left = λ q. refl })
-
-pub roll_depth-requires : goal.roll_depth-requires
-unfolding plan_of
-roll_depth-requires c =
-    let x = c.args in
-    let h = c.requires in
-    let L = c.loop-d in
-    let F = L.invariant.1.frame in
-    (to_show_kept (omega arith) F L.invariant.0 h.0, deep_kept (plan_in x.plan.now.sheet) (state x.tables.now) (state L.tables) F h.1, omega arith, omega arith, h.2)
 
 pub returns-in_err-roll_depth : goal.returns-in_err-roll_depth
 unfolding plan_of

@@ -12,13 +12,9 @@ use Rattle.order.specs.Plan.{plan_of, plan_in}
 use Rattle.passes.specs.Dates.{through}
 use Rattle.results.specs.Results.{rolled}
 use Rattle.results.specs.View.{shown_in}
-use Rattle.results.proofs.RowLaws.{to_show_kept}
 use Rattle.number.specs.Exits.{handed_on}
-use Rattle.rollup.specs.RollingLaws.{deep_kept, rolls_start, rolls_turn, rolls_stop, rolls_end, depth_is}
+use Rattle.rollup.specs.RollingLaws.{rolls_start, rolls_turn, rolls_stop, rolls_end, depth_is}
 use Rattle.rollup.proofs.roll_depth.Goals as goal
-
-pub overflow_sub-d : goal.overflow_sub-d
-overflow_sub-d c = omega (arith, c.requires.2)
 
 pub loop-k-init : goal.loop-k-init
 unfolding plan_of
@@ -31,16 +27,6 @@ loop-k-init c =
     let T = h.1.deep.heads (x.d - 1) (omega (arith, h.2, h.3)) in
     let U = subst (Stands (S₀.act depth_of) x.plan.now.sheet.contents.activities (suc (x.d - 1)) 0) (sym c.act-k.ensures.0) T in
     (same_refl _, rolls_start p S₀ x.d _ (frame_refl 20 30 0 0 S₀) (subst (λ (i : ℕ). Stands (S₀.act depth_of) x.plan.now.sheet.contents.activities i 0 c.act-k.result) n U))
-
-pub roll_one-requires : goal.roll_one-requires
-unfolding plan_of
-roll_one-requires c =
-    let x = c.args in
-    let h = c.requires in
-    let p = plan_in x.plan.now.sheet in
-    let S₀ = state x.tables.now in
-    let L = c.loop-k in
-    (to_show_kept (omega arith) L.invariant.1.frame L.invariant.0 h.0, deep_kept p S₀ (state L.tables) L.invariant.1.frame h.1, omega (arith, c.loop-k-test.true), h.4)
 
 pub returns-in_err-roll_one : goal.returns-in_err-roll_one
 unfolding plan_of
@@ -57,9 +43,6 @@ returns-in_err-roll_one c = rw (handed_on _ _ c.from_residual.ensures.1) (let x 
       frame_then 20 30 0 0 W.frame e.1,
       same_then L.invariant.0 e.2,
     ))
-
-pub act-k-requires-in-loop-k : goal.act-k-requires-in-loop-k
-act-k-requires-in-loop-k c = (omega (arith, c.roll_one.ensures.2.activities, c.loop-k.invariant.0.activities, c.requires.0.activities, c.loop-k-test.true), omega arith)
 
 -- what is rolled up leaves the chain, so the next stands where the definition says
 next-stands : (c : goal.After-act-k-in-loop-k) → Stands ((state c.args.tables.now).act depth_of) c.args.plan.now.sheet.contents.activities ((state c.args.tables.now).act depth_of c.loop-k.k) (c.loop-k.k + 1) c.act-k-in-loop-k.result

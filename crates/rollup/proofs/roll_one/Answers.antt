@@ -38,23 +38,6 @@ sum_children-x-requires c =
       omega (arith, h.0.activities, c.if-first-plan.false),
     )
 
-pub summed_of-requires : goal.summed_of-requires
-unfolding plan_of
-summed_of-requires c =
-    let x = c.args in
-    let h = c.requires in
-    let p = plan_in x.plan.now.sheet in
-    let S = state x.tables.now in
-    (h.0.days, h.2, h.0.named x.s h.2, h.3, c.sum_children-x.ensures.1)
-
-pub put_shown-requires : goal.put_shown-requires
-put_shown-requires c =
-    let x = c.args in
-    let h = c.requires in
-    let p = plan_in x.plan.now.sheet in
-    let S = state x.tables.now in
-    (omega (arith, h.0.activities, h.2), rw c.in_ok-y.was at c.summed_of.ensures.1)
-
 pub returns : goal.returns
 unfolding plan_of
 returns c =
@@ -65,8 +48,8 @@ returns c =
     let l : S.act first_child x.s < x.plan.now.sheet.contents.activities = omega (arith, c.act-first.ensures.0, c.if-first-plan.false) in
     let y = c.in_ok-y.y in
     let e = c.put_shown.ensures in (
-      (λ q. one_done p S h.1 x.s h.2 l _ _ (c.sum_children-x.ensures.0 ∙ ap (λ (n : ℕ). child_sum S n x.s) h.0.activities) c.summed_of.ensures.0 y _ c.in_ok-y.was e.0 q),
-      subst (Frame 20 30 0 0 S) (sym e.0) (shown_frame S x.s y),
+      (λ q. one_done p S h.1 x.s h.2 l _ _ (c.sum_children-x.ensures ∙ ap (λ (n : ℕ). child_sum S n x.s) h.0.activities) c.summed_of.ensures y _ c.in_ok-y.was e.0 q),
+      subst (Frame 20 30 0 0 S) (sym e.0) (shown_frame S x.s y.shown),
       e.1,
     )
 
@@ -77,7 +60,7 @@ returns-in_err-y c = rw (handed_on _ _ c.from_residual.ensures.1) (let x = c.arg
     let p = plan_in x.plan.now.sheet in
     let S = state x.tables.now in
     let l : S.act first_child x.s < x.plan.now.sheet.contents.activities = omega (arith, c.act-first.ensures.0, c.if-first-plan.false) in (
-      (λ q. one_refused p S h.1 x.s h.2 l _ _ (c.sum_children-x.ensures.0 ∙ ap (λ (n : ℕ). child_sum S n x.s) h.0.activities) c.summed_of.ensures.0 _ (shown_in p S) c.in_err-y.was q),
+      (λ q. one_refused p S h.1 x.s h.2 l _ _ (c.sum_children-x.ensures ∙ ap (λ (n : ℕ). child_sum S n x.s) h.0.activities) c.summed_of.ensures _ (shown_in p S) c.in_err-y.was q),
       frame_refl 20 30 0 0 S,
       same_refl _,
     ))

@@ -16,9 +16,6 @@ use Rattle.rollup.specs.Prepared.{Prepared}
 use Rattle.rollup.specs.PreparedLaws.{deep_from, shown_kept, keys_in}
 use Rattle.rollup.proofs.roll_up.Goals as goal
 
-pub read_project-project-requires : goal.read_project-project-requires
-read_project-project-requires c = omega (arith, c.args.plan.now.sheet.read.header.within)
-
 pub prepare-requires : goal.prepare-requires
 unfolding plan_of
 prepare-requires c =
@@ -37,7 +34,7 @@ roll_all-requires c =
     let S₀ = state x.tables.now in
     let e = c.prepare.ensures in
     let T = state c.prepare.new.tables in
-    (to_show_kept (omega arith) e.0.frame e.1 h.0, deep_from p S₀ T h.1.parents h.1.marks h.1.within (subst (λ (n : ℕ). Prepared n S₀ T) h.0.activities e.0), c.read_project-project.ensures)
+    (to_show_kept (omega arith) e.0.frame e.1 h.0, deep_from p S₀ T h.1.parents h.1.marks h.1.within (subst (λ (n : ℕ). Prepared n S₀ T) h.0.activities e.0), c.project-project.ensures)
 
 pub returns : goal.returns
 unfolding plan_of

@@ -14,21 +14,9 @@ use Rattle.order.specs.Plan.{plan_of, plan_in}
 use Rattle.calendars.specs.CalendarLaws.{in_plan_worked}
 use Rattle.results.specs.Showing.{critical_in}
 use Rattle.number.specs.Exits.{handed_on}
+use Rattle.passes.specs.Dates.{leaves}
 use Rattle.rollup.specs.RollingLaws.{summed_at, summed_refused}
 use Rattle.rollup.proofs.summed_of.Goals as goal
-
-pub activity_of-activity-requires : goal.activity_of-activity-requires
-activity_of-activity-requires c = let h = c.requires in h.1
-
-pub bounds-plan-k : goal.bounds-plan-k
-unfolding plan_of
-bounds-plan-k c =
-    let x = c.args in
-    let h = c.requires in
-    let p = plan_in x.plan.now.sheet in
-    let k = c.activity_of-activity.result.calendar in
-    let e : k ≡ (p.activity x.s).calendar = ap (λ (a : Activity). a.calendar) c.activity_of-activity.ensures in
-    let n : k ≤ x.plan.now.sheet.contents.calendars = omega (arith, e, h.2) in omega (arith, e, h.2, h.0.size)
 
 pub is_critical-critical-requires : goal.is_critical-critical-requires
 unfolding plan_of
@@ -51,10 +39,8 @@ returns c =
     let n : k ≤ x.plan.now.sheet.contents.calendars = omega (arith, e, h.2) in
     let f : SFits w64 c.in_ok-total.total = record { sfits = search rules } in
     let g = rw (to_z-of_z f) at c.is_critical-critical.ensures in
-    let l = h.0.is k n ∙ ap p.day_length e in (
-      summed_at p x.s x.x c.in_ok-total.total _ _ (sym (c.between.ensures ∙ ap (λ (v : ℕ → Bool). between v x.x.finish x.x.late) (in_plan_worked c.calendar-calendar.ensures ∙ ap (λ (j : ℕ). worked (p.hours j)) e)) ∙ c.in_ok-total.was) (to_z-of_z f) (g ∙ (λ t. critical_in (h.3 t).critical_by (l t) c.in_ok-total.total x.x.path)),
-      record { es = h.4.es; ef = h.4.ef; ls = h.4.ls; lf = h.4.lf; free = omega arith; finish = h.4.finish; late = h.4.late },
-    )
+    let l = h.0.is k n ∙ ap p.day_length e in
+    ap leaves c.new.ensures ∙ summed_at p x.s x.x.now.shown c.in_ok-total.total _ _ (sym (c.between.ensures ∙ ap (λ (v : ℕ → Bool). between v x.x.now.shown.finish x.x.now.shown.late) (in_plan_worked c.calendar-calendar.ensures ∙ ap (λ (j : ℕ). worked (p.hours j)) e)) ∙ c.in_ok-total.was) (to_z-of_z f) (g ∙ (λ t. critical_in (h.3 t).critical_by (l t) c.in_ok-total.total x.x.now.shown.path))
 
 pub returns-in_err-total : goal.returns-in_err-total
 unfolding plan_of
@@ -64,4 +50,4 @@ returns-in_err-total c = rw (handed_on _ _ c.from_residual.ensures.1) (let x = c
     let k = c.activity_of-activity.result.calendar in
     let e : k ≡ (p.activity x.s).calendar = ap (λ (a : Activity). a.calendar) c.activity_of-activity.ensures in
     let n : k ≤ x.plan.now.sheet.contents.calendars = omega (arith, e, h.2) in
-    (summed_refused p x.s x.x _ (sym (c.between.ensures ∙ ap (λ (v : ℕ → Bool). between v x.x.finish x.x.late) (in_plan_worked c.calendar-calendar.ensures ∙ ap (λ (j : ℕ). worked (p.hours j)) e)) ∙ c.in_err-total.was), tt))
+    summed_refused p x.s x.x.now.shown _ (sym (c.between.ensures ∙ ap (λ (v : ℕ → Bool). between v x.x.now.shown.finish x.x.now.shown.late) (in_plan_worked c.calendar-calendar.ensures ∙ ap (λ (j : ℕ). worked (p.hours j)) e)) ∙ c.in_err-total.was))

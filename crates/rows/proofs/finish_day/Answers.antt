@@ -31,9 +31,6 @@ loop-i-preserved c =
       λ q. c.max-d.ensures ∙ ap (max L.d) g.0 ∙ day_more p q S L.i L.d (omega arith) (L.invariant.1 q),
     )
 
-pub signed_day_of-requires : goal.signed_day_of-requires
-signed_day_of-requires c = c.loop-i.invariant.0
-
 pub returns : goal.returns
 unfolding plan_of
 returns c =

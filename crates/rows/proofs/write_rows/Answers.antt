@@ -18,9 +18,6 @@ loop-i-init c =
     let p = plan_in x.sheet.now in
     (refl, rows_none p S x.results.now)
 
-pub write_row-requires : goal.write_row-requires
-write_row-requires c = (c.requires.0, omega arith, omega (arith, c.requires.1, c.loop-i.invariant.0))
-
 pub loop-i-preserved : goal.loop-i-preserved
 loop-i-preserved c =
     let x = c.args in
@@ -31,9 +28,6 @@ loop-i-preserved c =
       ap length e ∙ stored_length (row_in p S L.i) L.results (15 * L.i) 0 ∙ L.invariant.0,
       e ∙ rows_more p S x.results.now L.results L.i L.invariant.1 (omega (arith, c.requires.1)),
     )
-
-pub shape_of-results : goal.shape_of-results
-shape_of-results c = c.loop-i.invariant.0
 
 pub returns : goal.returns
 unfolding plan_of

@@ -1,33 +1,11 @@
 -- `run::float_dates` meets its contract.
-use mathlib.Core.Path.{refl}
 use native.Mathlib.Omega.{arith}
 use Rattle.memory.specs.Seen.{state}
 use Rattle.memory.specs.SeenLaws.{same_then}
 use Rattle.order.specs.Plan.{plan_in}
 use Rattle.topology.specs.FrameLaws.{frame_acts, frame_then}
-use Rattle.dates.specs.KeptLaws.{ready_kept, recorded_kept}
-use Rattle.number.specs.Exits.{handed_on}
-use Rattle.run.specs.RunLaws.{floats_stop, floats_go}
+use Rattle.run.specs.RunLaws.{floats_go}
 use Rattle.run.proofs.float_dates.Goals as goal
-
-pub returns-in_err-free_pass : goal.returns-in_err-free_pass
-returns-in_err-free_pass c = rw (handed_on _ _ c.from_residual.ensures.1) (let x = c.args in
-    let call = c.free_pass in
-    let a = call.ensures in
-    let T = state call.new.tables in (
-      λ e. floats_stop (plan_in x.plan.now.sheet) x.finish (state x.tables.now) T T call.result a.0 c.in_err-free_pass.field-0.0 c.in_err-free_pass.was e,
-      frame_acts 12 17 0 0 12 16 (omega arith) (omega arith) a.1,
-      a.2,
-    ))
-
-pub path_pass-requires : goal.path_pass-requires
-path_pass-requires c =
-    let x = c.args in
-    let call = c.free_pass in
-    let a = call.ensures in (
-      ready_kept c.requires.0 a.1 a.2 (omega arith),
-      recorded_kept a.1 (plan_in x.plan.now.sheet) refl refl refl c.requires.1,
-    )
 
 pub returns : goal.returns
 returns c =

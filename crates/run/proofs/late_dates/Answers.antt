@@ -13,14 +13,10 @@ pub returns-in_err-last : goal.returns-in_err-last
 returns-in_err-last c = rw (handed_on _ _ c.from_residual.ensures.1) (let x = c.args in
     let p = plan_in x.plan.now.sheet in
     let S = state x.tables.now in (
-      late_ends p S S c.in_err-last.field-0.0 (sym (c.end_of.ensures.0 (early_in p S) c.requires.2) ∙ c.in_err-last.was),
+      late_ends p S S c.in_err-last.field-0.0 (sym (c.end_of.ensures.0 (early_in p S) c.requires.1) ∙ c.in_err-last.was),
       frame_refl 10 12 0 0 S,
       same_refl _,
     ))
-
-pub backward_pass-requires : goal.backward_pass-requires
-backward_pass-requires c =
-    (c.requires.0, c.requires.1, c.end_of.ensures.1 c.in_ok-last.last c.in_ok-last.was)
 
 pub returns-in_err-backward_pass : goal.returns-in_err-backward_pass
 returns-in_err-backward_pass c = rw (handed_on _ _ c.from_residual-in_err-backward_pass.ensures.1) (let x = c.args in
@@ -28,7 +24,7 @@ returns-in_err-backward_pass c = rw (handed_on _ _ c.from_residual-in_err-backwa
     let S = state x.tables.now in
     let call = c.backward_pass in
     let T = state call.new.tables in (
-      late_stops p S T c.in_ok-last.last (sym (c.end_of.ensures.0 (early_in p S) c.requires.2) ∙ c.in_ok-last.was) call.result call.ensures.0 c.in_err-backward_pass.field-0.0 c.in_err-backward_pass.was,
+      late_stops p S T c.in_ok-last.last (sym (c.end_of.ensures.0 (early_in p S) c.requires.1) ∙ c.in_ok-last.was) call.result call.ensures.0 c.in_err-backward_pass.field-0.0 c.in_err-backward_pass.was,
       call.ensures.1,
       call.ensures.2,
     ))
@@ -40,7 +36,7 @@ returns c =
     let S = state x.tables.now in
     let call = c.backward_pass in
     let T = state call.new.tables in (
-      late_goes p S T c.in_ok-last.last (sym (c.end_of.ensures.0 (early_in p S) c.requires.2) ∙ c.in_ok-last.was) call.result call.ensures.0 c.in_ok-backward_pass.was,
+      late_goes p S T c.in_ok-last.last (sym (c.end_of.ensures.0 (early_in p S) c.requires.1) ∙ c.in_ok-last.was) call.result call.ensures.0 c.in_ok-backward_pass.was,
       call.ensures.1,
       call.ensures.2,
     )

@@ -16,12 +16,6 @@ returns-in_err-counts c =
     (planned_checked (record { results = x.results.now; names = x.names.now; work = x.work.now }) (plan_in x.plan.now.sheet) _ c.check_plan.new.names _ h.number_is h.id_is h.named
     (search rules ∙ h.cleared ∙ ap zeros c.of-tables.ensures.4))
 
-pub run_plan-requires : goal.run_plan-requires
-run_plan-requires c =
-    let x = c.args in
-    let h = c.in_ok-counts.ensures.0 in
-    (h.ready, c.requires.0, c.requires.1, h.ignored, h.ends)
-
 pub returns : goal.returns
 returns c =
     let x = c.args in

@@ -1,5 +1,6 @@
 -- `sched::run_plan` meets its contract.
-use mathlib.Core.Path.{subst, ◌∙◌}
+use Rattle.std.specs.Prelude.{Err}
+use mathlib.Core.Path.{ap, subst, ◌∙◌}
 use native.Mathlib.Omega.{arith}
 use Rattle.memory.specs.Seen.{state}
 use Rattle.memory.specs.SeenLaws.{same_then}
@@ -16,7 +17,7 @@ returns-in-Err c =
     let ran = c.run in
     let call = c.refuse in (
       λ m L.
-          run_refuses m p L c.requires.0.fine call.result c.in-Err.error call.new.names ran.new.tables.cells.now call.new.tables.cells.now (subst (RunIn p (state ran.new.tables)) c.in-Err.is ran.ensures.0) call.ensures.0 call.ensures.1
+          run_refuses m p L c.requires.0.fine call.result c.in-Err.error call.new.names ran.new.tables.cells.now call.new.tables.cells.now (subst (RunIn p (state ran.new.tables)) c.in-Err.is ran.ensures.0) (call.ensures.0 ∙ ap Err c.from.ensures) call.ensures.1
           ran.ensures.3.cells call.ensures.2,
       same_then ran.ensures.3 call.ensures.3,
     )
@@ -31,7 +32,6 @@ show_plan-requires c =
       c.requires.1,
       c.requires.2,
       c.requires.3,
-      c.requires.4,
       subst (RunIn p (state ran.new.tables)) c.in-Ok.is ran.ensures.0,
     )
 

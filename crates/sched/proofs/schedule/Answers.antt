@@ -1,13 +1,12 @@
 -- `sched::schedule` meets its contract.
-use Rattle.std.specs.Prelude.{List, ℕ, ◌+◌, ◌*◌, ◌≤◌, max, length}
-use Rattle.std.proofs.Common.{sym, ap₂, subst, ◌∙◌}
+use Rattle.std.specs.Prelude.{List, ℕ}
+use Rattle.std.proofs.Common.{sym, ap₂, ◌∙◌}
 use Rattle.number.specs.Exits.{handed_on}
 use Rattle.sheet.specs.ReadLaws.{read_known}
 use Rattle.sheet.specs.declared.Contents.{Contents}
-use Rattle.memory.specs.State.{Room}
 use Rattle.order.specs.Plan.{plan_of}
 use Rattle.sched.specs.Outcome.{Lent, planned}
-use Rattle.sched.proofs.CallLaws.{room_has, room_for_lem, unread_is, short_is, planned_is}
+use Rattle.sched.proofs.CallLaws.{room_for_lem, unread_is, short_is, planned_is}
 use Rattle.sched.proofs.schedule.Goals as goal
 
 pub returns-in_err-contents : goal.returns-in_err-contents
@@ -24,12 +23,6 @@ has_room-requires c =
 
 pub new-requires : goal.new-requires
 new-requires c = read_known c.args.sheet.now c.in_ok-contents.contents (sym c.in_ok-contents.ensures)
-
-pub plan_sheet-requires : goal.plan_sheet-requires
-plan_sheet-requires c =
-    let x = c.args in
-    let h = room_has c.in_ok-contents.contents.activities c.in_ok-contents.contents.links (length x.results.now) (length x.names.now) (length x.work.now) (sym c.has_room.ensures ∙ c.if-not-has_room.false) in
-    subst (λ (k : Contents). (15 * k.activities ≤ length x.results.now) × (max (k.activities + 1) k.links ≤ length x.names.now) × Room k.activities k.links x.work.now) (sym c.new.ensures.1) h
 
 pub returns : goal.returns
 returns c =

@@ -1,4 +1,5 @@
 -- `sched::show_plan` meets its contract.
+use Rattle.std.specs.Prelude.{Err}
 use mathlib.Core.Path.{refl, sym, ap, subst, ◌∙◌}
 use native.Mathlib.Omega.{arith}
 use Rattle.memory.specs.Seen.{state}
@@ -21,11 +22,11 @@ returns-in-Err c =
     let S = state x.tables.now in
     let shown = c.results in
     let call = c.refuse in
-    let other = c.requires.6.other in
+    let other = c.requires.5.other in
     let T = state shown.new.tables in (
       λ m L.
-          show_refuses m p L c.requires.0.fine (ran_in p S x.last other) c.requires.6.is call.result c.in-Err.e call.new.names shown.new.tables.cells.now call.new.tables.cells.now
-          (sym (shown.ensures.0 x.last other) ∙ ap (ended (shown_in p T)) c.in-Err.is) call.ensures.0 call.ensures.1 shown.ensures.2.cells call.ensures.2,
+          show_refuses m p L c.requires.0.fine (ran_in p S x.last other) c.requires.5.is call.result c.in-Err.e call.new.names shown.new.tables.cells.now call.new.tables.cells.now
+          (sym (shown.ensures.0 x.last other) ∙ ap (ended (shown_in p T)) c.in-Err.is) (call.ensures.0 ∙ ap Err c.from.ensures) call.ensures.1 shown.ensures.2.cells call.ensures.2,
       same_then shown.ensures.2 call.ensures.3,
     )
 
@@ -46,12 +47,12 @@ returns-in-Ok c =
     let S = state x.tables.now in
     let shown = c.results in
     let call = c.accept in
-    let other = c.requires.6.other in
+    let other = c.requires.5.other in
     let T = state shown.new.tables in
     let ran = ran_in p S x.last other in
     let f = shown_in p T in
-    let A = subst (λ (q : Ran). AcceptedAs p q f x.ignored x.ends x.results.now call.new.results call.result) (ran_kept shown.ensures.1 p x.last other (omega arith)) (call.ensures.0 x.last other) in (
+    let A = subst (λ (q : Ran). AcceptedAs p q f x.counts x.results.now call.new.results call.result) (ran_kept shown.ensures.1 p x.last other (omega arith)) (call.ensures.0 x.last other) in (
       λ m L.
-          show_accepts m p L c.requires.0.fine ran c.requires.6.is f (sym (shown.ensures.0 x.last other) ∙ ap (ended f) c.in-Ok.is) A c.requires.4 c.requires.5 shown.new.tables.cells.now call.new.tables.cells.now shown.ensures.2.cells call.ensures.1,
+          show_accepts m p L c.requires.0.fine ran c.requires.5.is f (sym (shown.ensures.0 x.last other) ∙ ap (ended f) c.in-Ok.is) A c.requires.4 shown.new.tables.cells.now call.new.tables.cells.now shown.ensures.2.cells call.ensures.1,
       same_then shown.ensures.2 call.ensures.2,
     )

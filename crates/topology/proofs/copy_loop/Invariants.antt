@@ -10,4 +10,4 @@ use Rattle.topology.proofs.copy_loop.Given as goal
 abbrev pub invariant-loop-k : goal.invariant-loop-k
 invariant-loop-k l =
     SameSlice l.initial.tables l.tables × Frame seen path_at 0 0 (state l.initial.tables) (state l.tables)
-    × ((j : ℕ) → j < l.k → (state l.tables).act loop_at j ≡ (state l.initial.tables).act path_at (l.end - 1 - j))
+    × ((j : ℕ) → j < l.k → (state l.tables).act loop_at j ≡ (state l.initial.tables).act path_at (l.fn.places.end - 1 - j))

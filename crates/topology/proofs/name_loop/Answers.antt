@@ -31,8 +31,8 @@ unwrap-start-requires c =
     let F : Frame seen 10 0 0 S T = rw e.0 (frame_fill seen 10 0 0 seen (omega arith) (omega arith) S x.tables.now.activities 0) in
     found _ _ T (sized e.1 (λ n k. Stuck n k T) (stuck_left F p)) c.first_waiting.result (c.first_waiting.ensures.0 (links_of T c.fill_act.new.self.kept))
 
-pub walk_back-w-requires : goal.walk_back-w-requires
-walk_back-w-requires c =
+pub walk_back-way-requires : goal.walk_back-way-requires
+walk_back-way-requires c =
     let x = c.args in
     let p = c.requires in
     let S = state x.tables.now in
@@ -47,15 +47,15 @@ returns c =
     let p = c.requires in
     let S = state x.tables.now in
     let T = state c.fill_act.new.self in
-    let U = state c.walk_back-w.new.tables in
+    let U = state c.walk_back-way.new.tables in
     let e = c.fill_act.ensures in
     let a = e.1.activities in
     let F : Frame seen path_at 0 0 S T = rw e.0 (frame_fill seen path_at 0 0 seen (omega arith) (omega arith) S x.tables.now.activities 0) in
     let s = stuck_left (frame_acts seen 10 0 0 seen path_at (omega arith) (omega arith) F) p in
     let start = c.unwrap-start.result in
     let f = subst (λ n. start ≡ first_waiting (links_of T x.tables.now.kept) (T.act waiting) n 0) a (sym (ap (λ o. unwrap_or o c.fill_act.new.self.activities) c.unwrap-start.ensures) ∙ c.first_waiting.ensures.0 (links_of T x.tables.now.kept)) in
-    let way = c.walk_back-w.result in
-    let w = c.walk_back-w.ensures in
-    let v = sized_back e.1 (λ n k. WalkedBack n k T U start way.from way.end) w.0 in
+    let way = c.walk_back-way.result in
+    let w = c.walk_back-way.ensures in
+    let v = sized_back e.1 (λ n k. WalkedBack n k T U start way.start way.end) w.0 in
     let d = c.copy_loop.ensures in
     (named_from F (named_loop_lem s f v d.2 d.0 d.1), same_then e.1 (same_then w.1 d.3))

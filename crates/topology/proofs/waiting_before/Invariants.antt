@@ -1,11 +1,7 @@
--- `topology::waiting_before` meets its contract: none of the links into x before k comes from one that waits.
-use Prim.Native.Nat.{◌-◌}
+-- `topology::waiting_before` meets its contract: none of the links into x that were looked at comes from one that waits.
 use Rattle.memory.specs.Seen.{state}
 use Rattle.topology.specs.LoopLaws.{Looking}
 use Rattle.topology.proofs.waiting_before.Given as goal
 
 abbrev pub invariant-loop-k : goal.invariant-loop-k
-invariant-loop-k l = Looking l.tables.kept (state l.tables) l.x l.k
-
-abbrev pub decreases-loop-k : goal.decreases-loop-k
-decreases-loop-k l = l.tables.kept - l.k
+invariant-loop-k l = (goal.iterator-loop-k).can_next l.k-iterator × (goal.iterator-loop-k).is_finite l.k-iterator × Looking l.tables.kept (state l.tables) l.x l.k-iterator

@@ -5,6 +5,7 @@ use Prim.Native.Nat.{◌<◌}
 use native.Mathlib.Omega.{arith}
 use Rattle.bounds.specs.ReadyLaws.{activities_are}
 use Rattle.dates.specs.Columns.{early_in, late_in}
+use Rattle.dates.specs.ReadLaws.{not_completed}
 use Rattle.passes.specs.Backward.{late}
 use Rattle.passes.specs.Dates.{leaves}
 use Rattle.order.specs.Plan.{plan_of}
@@ -17,25 +18,25 @@ use Rattle.backward.proofs.BackwardStep.take.Goals as goal
 
 pub place_unfinished-requires : goal.place_unfinished-requires
 place_unfinished-requires c =
-    (c.requires.0, c.requires.2, ap Ok c.recorded_at-actual.ensures ∙ c.requires.1 c.args.i (omega (arith, c.requires.2, activities_are c.args.plan.now.sheet.bytes.now c.args.plan.now.sheet.contents)))
+    (c.requires.0.ready, c.requires.1, ap Ok c.recorded_at-actual.ensures ∙ c.requires.0.recorded c.args.i (omega (arith, c.requires.1, activities_are c.args.plan.now.sheet.bytes.now c.args.plan.now.sheet.contents)))
 
-pub returns-in_default : goal.returns-in_default
-returns-in_default c =
+pub returns-in-Unstarted : goal.returns-in-Unstarted
+returns-in-Unstarted c =
     let C = c.args.plan.now.sheet.contents in
     let p = plan_of c.args.plan.now.sheet.bytes.now C in
     let S = state c.args.tables.now in
     let a = c.recorded_at-actual.ensures in
-    let b : c.args.i < p.activities = omega (arith, c.requires.2, activities_are c.args.plan.now.sheet.bytes.now C) in (
+    let b : c.args.i < p.activities = omega (arith, c.requires.1, activities_are c.args.plan.now.sheet.bytes.now C) in (
       λ _. c.place_unfinished.ensures.0
           ∙ sym
-          (back_unfinished p (early_in p S) c.args.self.now.last (late_in p S c.args.self.now.last) c.args.i c.recorded_at-actual.result (ap Ok a ∙ c.requires.1 c.args.i b)
-          c.in_default.not-Completed),
+          (back_unfinished p (early_in p S) c.args.self.now.last (late_in p S c.args.self.now.last) c.args.i c.recorded_at-actual.result (ap Ok a ∙ c.requires.0.recorded c.args.i b)
+          (not_completed c.in-Unstarted.is)),
       c.place_unfinished.ensures.1,
       c.place_unfinished.ensures.2,
     )
 
-pub returns : goal.returns
-returns c =
+pub returns-in-Completed : goal.returns-in-Completed
+returns-in-Completed c =
     let C = c.args.plan.now.sheet.contents in
     let p = plan_of c.args.plan.now.sheet.bytes.now C in
     let S = state c.args.tables.now in
@@ -44,12 +45,12 @@ returns c =
     let i = c.args.i in
     let T = state c.keep_early.new.tables in
     let E = c.keep_early.ensures.0 in
-    let b : i < p.activities = omega (arith, c.requires.2, activities_are c.args.plan.now.sheet.bytes.now C) in
-    let e = start_at c.args.plan.now.sheet.bytes.now C S i c.requires.2 in
-    let f = finish_at c.args.plan.now.sheet.bytes.now C S i c.requires.2 in
+    let b : i < p.activities = omega (arith, c.requires.1, activities_are c.args.plan.now.sheet.bytes.now C) in
+    let e = start_at c.args.plan.now.sheet.bytes.now C S i c.requires.1 in
+    let f = finish_at c.args.plan.now.sheet.bytes.now C S i c.requires.1 in
     let F : Frame 10 12 0 0 S T = rw E (stored_frame p S i _ _) in (
       λ _. ap leaves (ap (λ (U : State). late_in p U c.args.self.now.last) E ∙ stored_late p S i _ _ d c.args.self.now.last b ∙ (λ z. late p d m i (sym e z) (sym f z)))
-          ∙ sym (back_completed p d c.args.self.now.last m i _ _ (sym (c.requires.1 i b) ∙ ap Ok (sym c.recorded_at-actual.ensures ∙ c.in-Completed.is))),
+          ∙ sym (back_completed p d c.args.self.now.last m i _ _ (sym (c.requires.0.recorded i b) ∙ ap Ok (sym c.recorded_at-actual.ensures ∙ c.in-Completed.is))),
       F,
       c.keep_early.ensures.1,
     )

@@ -1,59 +1,37 @@
--- `dates::step::onward` meets its contract.
+-- `dates::step::onward` meets its contract: place `q` of the order is next.
 use mathlib.Core.Path.{◌∙◌}
 use native.Mathlib.Omega.{arith}
 use Rattle.dates.specs.OrderLaws.{order_length, order_at_lem, order_below}
-use Rattle.dates.specs.StepLaws.{stands, by_turn}
-use Rattle.dates.specs.ThroughLaws.{through_turn, through_stop, through_end}
-use Rattle.memory.specs.Seen.{state}
-use Rattle.memory.specs.SeenLaws.{same_then}
+use Rattle.dates.specs.StepLaws.{stands, pass_turn, pass_stop, pass_end}
 use Rattle.number.specs.Exits.{handed_on}
 use Rattle.order.specs.Checks.{order}
 use Rattle.order.specs.Plan.{plan_in}
-use Rattle.topology.specs.FrameLaws.{frame_then}
 use Rattle.dates.proofs.step.onward.Goals as goal
 
 pub take-requires : goal.take-requires
 take-requires g c =
     let v = c.loop-q.invariant in
-    let R = stands (c.requires.fields) c.requires.ready v.0 v.1 in
-    (R.0, R.1, omega (arith, c.act-i.ensures.0, order_below R.0 c.loop-q.q (omega (arith, c.loop-q-test.true))))
+    let L = stands c.requires.fields c.requires.ready v.0 v.1 in
+    (L, omega (arith, c.act-i.ensures.0, order_below L.ready c.loop-q.q (omega (arith, c.loop-q-test.true))))
 
 pub returns-in_err-take : goal.returns-in_err-take
 returns-in_err-take g c = rw (handed_on _ _ c.from_residual.ensures.1) (
     let s = c.args.step.now in
     let p = plan_in c.args.plan.now.sheet in
     let v = c.loop-q.invariant in
-    let b = c.take.ensures in
-    let S = state c.args.tables.now in
-    let T = state c.loop-q.tables in
-    let U = state c.take.new.tables in
-    let at = c.act-i.ensures.0 ∙ order_at_lem (stands c.requires.fields c.requires.ready v.0 v.1).0 c.loop-q.q (omega (arith, c.loop-q-test.true)) in (
-      λ past. through_stop (g.S.Step.turn s p S past) (order p) (g.S.Step.seen s p S past) (v.2 past) c.act-i.result at (omega (arith, order_length c.requires.ready.0, c.loop-q-test.true)) (g.S.Step.seen s p U past) c.take.result
-          (by_turn (g.S.Step.seen s p T past) c.act-i.result (b.0 past) (g.met.S.Step.turn_kept s p S T v.1 past)) (g.S.Step.seen s p U past) _ c.in_err-take.was,
-      frame_then g.S.Step.low g.S.Step.high 0 0 v.1 b.1,
-      same_then v.0 b.2,
-    ))
+    let L = stands c.requires.fields c.requires.ready v.0 v.1 in
+    pass_stop g.S.Step.low g.S.Step.high (g.S.Step.seen s p) (g.S.Step.turn s p) (order p) v (g.met.S.Step.turn_kept s p) c.act-i.result (c.act-i.ensures.0 ∙ order_at_lem L.ready c.loop-q.q (omega (arith, c.loop-q-test.true))) (omega (arith, order_length L.ready, c.loop-q-test.true)) c.take.result c.take.ensures _ c.in_err-take.was)
 
 pub loop-q-preserved : goal.loop-q-preserved
 loop-q-preserved g c =
     let s = c.args.step.now in
     let p = plan_in c.args.plan.now.sheet in
     let v = c.loop-q.invariant in
-    let b = c.take.ensures in
-    let S = state c.args.tables.now in
-    let T = state c.loop-q.tables in
-    let U = state c.take.new.tables in
-    let at = c.act-i.ensures.0 ∙ order_at_lem (stands c.requires.fields c.requires.ready v.0 v.1).0 c.loop-q.q (omega (arith, c.loop-q-test.true)) in (
-      same_then v.0 b.2,
-      frame_then g.S.Step.low g.S.Step.high 0 0 v.1 b.1,
-      λ past. through_turn (g.S.Step.turn s p S past) (order p) (g.S.Step.seen s p S past) (v.2 past) c.act-i.result at (omega (arith, order_length c.requires.ready.0, c.loop-q-test.true)) (g.S.Step.seen s p U past) c.take.result
-          (by_turn (g.S.Step.seen s p T past) c.act-i.result (b.0 past) (g.met.S.Step.turn_kept s p S T v.1 past)) c.in_ok-take.was,
-    )
+    let L = stands c.requires.fields c.requires.ready v.0 v.1 in
+    pass_turn g.S.Step.low g.S.Step.high (g.S.Step.seen s p) (g.S.Step.turn s p) (order p) v (g.met.S.Step.turn_kept s p) c.act-i.result (c.act-i.ensures.0 ∙ order_at_lem L.ready c.loop-q.q (omega (arith, c.loop-q-test.true))) (omega (arith, order_length L.ready, c.loop-q-test.true)) c.take.result c.take.ensures c.in_ok-take.was
 
 pub returns : goal.returns
 returns g c =
     let s = c.args.step.now in
     let p = plan_in c.args.plan.now.sheet in
-    let v = c.loop-q.invariant in
-    let S = state c.args.tables.now in
-    (λ past. through_end (g.S.Step.turn s p S past) (order p) (g.S.Step.seen s p S past) (v.2 past) (omega (arith, order_length c.requires.ready.0, c.loop-q-test.false)), v.1, v.0)
+    pass_end g.S.Step.low g.S.Step.high (g.S.Step.seen s p) (g.S.Step.turn s p) (order p) c.loop-q.invariant (omega (arith, order_length c.requires.ready.ready, c.loop-q-test.false))

@@ -15,24 +15,24 @@ pub returns-in_ok-b-in-Some-2 : goal.returns-in_ok-b-in-Some-2
 returns-in_ok-b-in-Some-2 c =
     λ p d l i O.
     let x = c.args in
-    let e = (λ z. constraint_time (sym O.works z) (on_start (Some c.in-Some.kind))) ∙ sym c.constraint_time.ensures ∙ (c.in_ok-t.was ∙ ap Ok c.in-Some-2.is) in
+    let e = (λ z. constraint_time (O.hand.own_is z) (on_start (Some c.in-Some.kind))) ∙ sym c.constraint_time.ensures ∙ (c.in_ok-t.was ∙ ap Ok c.in-Some-2.is) in
     let f = ap (λ (o : ℕ). bounded o c.in-Some-2.t) (sym O.origin_is) ∙ sym c.bounded.ensures ∙ c.in_ok-b-in-Some-2.was in
-    c.limit_at.ensures p d l i O ∙ sym (limited_at p d l i c.in-Some.is x.latest _ _ e f)
+    c.limit_at.ensures p d l i O.hand ∙ sym (limited_at p d l i c.in-Some.is x.latest _ _ e f)
 
 pub returns-in_err-b-in-Some-2 : goal.returns-in_err-b-in-Some-2
 returns-in_err-b-in-Some-2 c = rw (handed_on _ _ c.from_residual-in_err-b-in-Some-2.ensures.1) (λ p d l i O.
     let x = c.args in
-    let e = (λ z. constraint_time (sym O.works z) (on_start (Some c.in-Some.kind))) ∙ sym c.constraint_time.ensures ∙ (c.in_ok-t.was ∙ ap Ok c.in-Some-2.is) in
+    let e = (λ z. constraint_time (O.hand.own_is z) (on_start (Some c.in-Some.kind))) ∙ sym c.constraint_time.ensures ∙ (c.in_ok-t.was ∙ ap Ok c.in-Some-2.is) in
     let f = ap (λ (o : ℕ). bounded o c.in-Some-2.t) (sym O.origin_is) ∙ sym c.bounded.ensures ∙ c.in_err-b-in-Some-2.was in
     sym (limited_beyond p d l i c.in-Some.is x.latest _ _ e f))
 
 pub returns-in-None : goal.returns-in-None
 returns-in-None c =
     λ p d l i O.
-    sym (limited_nowhere p d l i c.in-Some.is c.args.latest ((λ z. constraint_time (sym O.works z) (on_start (Some c.in-Some.kind))) ∙ sym c.constraint_time.ensures ∙ (c.in_ok-t.was ∙ ap Ok c.in-None.is)))
+    sym (limited_nowhere p d l i c.in-Some.is c.args.latest ((λ z. constraint_time (O.hand.own_is z) (on_start (Some c.in-Some.kind))) ∙ sym c.constraint_time.ensures ∙ (c.in_ok-t.was ∙ ap Ok c.in-None.is)))
 
 pub returns-in_err-t : goal.returns-in_err-t
 returns-in_err-t c =
     rw (handed_on _ _ c.from_residual.ensures.1)
     (λ p d l i O.
-    sym (limited_refused p d l i c.in-Some.is c.args.latest _ ((λ z. constraint_time (sym O.works z) (on_start (Some c.in-Some.kind))) ∙ sym c.constraint_time.ensures ∙ c.in_err-t.was)))
+    sym (limited_refused p d l i c.in-Some.is c.args.latest _ ((λ z. constraint_time (O.hand.own_is z) (on_start (Some c.in-Some.kind))) ∙ sym c.constraint_time.ensures ∙ c.in_err-t.was)))

@@ -46,7 +46,7 @@ returns c =
     let A = times_are R _ c.requires.1 τ e last ∙ sym c.successor_times.ensures ∙ c.in_ok-times.was in
     let F = to_z-of_z {w = w64} {z = τ.lag} (record { sfits = search rules }) in
     let B = over_are R _ c.requires.1 τ e d m _ _ ∙ ap (λ (x : ℕ). over_lag p d m (as_tie τ) x) (sym c.target-x.ensures) ∙ sym (c.over_lag.ensures d m (as_tie τ) refl (sym F)) ∙ c.in_ok-v.was in
-    let C = by_are R _ c.requires.1 τ e (own p i) (d.left i) c.in_ok-v.v ∙ own_by O τ.kind c.in_ok-v.v ∙ sym c.finish_by.ensures ∙ c.in_ok-f.was in
+    let C = by_are R _ c.requires.1 τ e (own p i) (d.left i) c.in_ok-v.v ∙ own_by O.hand τ.kind c.in_ok-v.v ∙ sym c.finish_by.ensures ∙ c.in_ok-f.was in
     c.bounded.ensures ∙ sym (own_bounded O _) ∙ sym (link_at p d m i c.args.k _ _ A _ B _ C)
 
 pub returns-in_err-f : goal.returns-in_err-f
@@ -61,7 +61,7 @@ returns-in_err-f c = rw (handed_on _ _ c.from_residual-in_err-f.ensures.1) (λ i
     let A = times_are R _ c.requires.1 τ e last ∙ sym c.successor_times.ensures ∙ c.in_ok-times.was in
     let F = to_z-of_z {w = w64} {z = τ.lag} (record { sfits = search rules }) in
     let B = over_are R _ c.requires.1 τ e d m _ _ ∙ ap (λ (x : ℕ). over_lag p d m (as_tie τ) x) (sym c.target-x.ensures) ∙ sym (c.over_lag.ensures d m (as_tie τ) refl (sym F)) ∙ c.in_ok-v.was in
-    let C = by_are R _ c.requires.1 τ e (own p i) (d.left i) c.in_ok-v.v ∙ own_by O τ.kind c.in_ok-v.v ∙ sym c.finish_by.ensures ∙ c.in_err-f.was in
+    let C = by_are R _ c.requires.1 τ e (own p i) (d.left i) c.in_ok-v.v ∙ own_by O.hand τ.kind c.in_ok-v.v ∙ sym c.finish_by.ensures ∙ c.in_err-f.was in
     sym (link_finish_refused p d m i c.args.k _ _ A _ B _ C))
 
 pub returns-in_err-v : goal.returns-in_err-v

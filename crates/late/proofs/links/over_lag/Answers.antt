@@ -7,34 +7,30 @@ use mir.Facts.{to_z-of_z}
 use mir.Syntax.{w64}
 use mir.Val.{to_z, of_z}
 use Rattle.number.specs.ZedLaws.{neg_dn}
+use Rattle.number.specs.CastLaws.{minus_back}
 use Rattle.number.specs.Zed.{dn}
 use Rattle.calendars.specs.CalendarLaws.{in_plan_worked}
 use Rattle.order.specs.Plan.{plan_in}
 use Rattle.worktime.specs.Walks.{next_start, shift}
 use Rattle.calendar.specs.Hours.{worked}
 use Rattle.number.specs.Exits.{handed_on}
-use Rattle.late.specs.LinkLaws.{negated_back, none_is, over_none, over_refused, over_at}
+use Rattle.late.specs.LinkLaws.{none_is, over_none, over_refused, over_at}
 use Rattle.late.proofs.links.over_lag.Goals as goal
 
 pub returns-then-lag-eq0 : goal.returns-then-lag-eq0
 returns-then-lag-eq0 c = λ d l t e f. sym (over_none _ d l t _ (f ∙ sym (to_z-of_z c.ranges.lag) ∙ ap (to_z w64) c.if-lag-eq0.true))
 
-pub negate-back-requires : goal.negate-back-requires
-negate-back-requires c =
-    let h : dn c.args.lag < 2 ^ 63 = omega (arith, c.requires) in
-    rw (to_z-of_z c.ranges.lag) h
-
 pub shift-requires : goal.shift-requires
 shift-requires c =
     let h : dn (neg_ℤ c.args.lag) < 2 ^ 63 = omega (arith, neg_dn c.args.lag, c.requires) in
-    rw (negated_back c.args.lag c.ranges.lag (omega (arith, c.requires)) _ c.negate-back.ensures) h
+    rw (minus_back c.args.lag c.ranges.lag (omega (arith, c.requires))) h
 
 pub returns : goal.returns
 returns c =
     λ d l t e f.
     let p = plan_in c.args.plan.now.sheet in
     let w = in_plan_worked c.calendar-calendar.ensures ∙ ap (λ (j : ℕ). worked (p.hours j)) (sym e) in
-    let m = ap neg_ℤ f ∙ sym (negated_back c.args.lag c.ranges.lag (omega (arith, c.requires)) _ c.negate-back.ensures) in
+    let m = ap neg_ℤ f ∙ sym (minus_back c.args.lag c.ranges.lag (omega (arith, c.requires))) in
     c.next_start.ensures ∙ (λ z. next_start (w z) c.in_ok-v.v)
     ∙ sym
     (over_at p d l t c.args.x _ ((λ z. shift (sym w z) c.args.x (m z)) ∙ sym c.shift.ensures ∙ c.in_ok-v.was)
@@ -44,5 +40,5 @@ pub returns-in_err-v : goal.returns-in_err-v
 returns-in_err-v c = rw (handed_on _ _ c.from_residual.ensures.1) (λ d l t e f.
     let p = plan_in c.args.plan.now.sheet in
     let w = in_plan_worked c.calendar-calendar.ensures ∙ ap (λ (j : ℕ). worked (p.hours j)) (sym e) in
-    let m = ap neg_ℤ f ∙ sym (negated_back c.args.lag c.ranges.lag (omega (arith, c.requires)) _ c.negate-back.ensures) in
+    let m = ap neg_ℤ f ∙ sym (minus_back c.args.lag c.ranges.lag (omega (arith, c.requires))) in
     sym (over_refused p d l t c.args.x _ ((λ z. shift (sym w z) c.args.x (m z)) ∙ sym c.shift.ensures ∙ c.in_err-v.was)))

@@ -3,4 +3,4 @@ use Rattle.std.proofs.Common.{rules}
 use Rattle.memory.proofs.Tables.clear.Goals as goal
 
 pub returns : goal.returns
-returns c = (c.clear.ensures, search rules)
+returns c = (c.fill.ensures.after (λ y e. e), search rules)

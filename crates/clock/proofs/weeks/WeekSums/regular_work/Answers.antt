@@ -1,19 +1,14 @@
--- `clock::weeks::WeekSums::regular_work` meets its contract: what is taken away is no more than what it is taken from.
-use Prim.Native.Nat.{◌+◌, ◌%◌}
+-- `clock::weeks::WeekSums::regular_work` meets its contract: fewer minutes stand before the earlier day.
 use native.Mathlib.Omega.{arith}
-use Rattle.clock.specs.RegularLaws.{between_small, between_low, between_regular}
+use Rattle.clock.specs.RegularOrder.{regular_up}
 use Rattle.clock.proofs.weeks.WeekSums.regular_work.Goals as goal
 
-pub overflow_mul-result : goal.overflow_mul-result
-overflow_mul-result c = let a = c.args in omega (arith, c.requires, between_small a.self.now.entries a.d a.e a.self.now.rising c.requires.0)
-
-pub overflow_add-result-4 : goal.overflow_add-result-4
-overflow_add-result-4 c =
-    let a = c.args in
-    omega (arith, c.requires, between_small a.self.now.entries a.d a.e a.self.now.rising c.requires.0, a.self.now.rising.0 ((a.e + 1) % 7) 7 (omega arith) (omega arith))
-
-pub overflow_sub-result-2 : goal.overflow_sub-result-2
-overflow_sub-result-2 c = let a = c.args in between_low a.self.now.entries a.d a.e a.self.now.rising c.requires.0
+pub overflow_sub-result : goal.overflow_sub-result
+overflow_sub-result c =
+    let up = regular_up c.args.self.now.entries c.args.self.now.rising {x = c.args.d} {y = c.args.e} c.requires.0 in
+    omega (arith, up, c.minutes_before.ensures.0, c.minutes_before-2.ensures.0)
 
 pub returns : goal.returns
-returns c = let a = c.args in between_regular a.self.now.entries a.d a.e a.self.now.rising c.requires.0
+returns c =
+    let up = regular_up c.args.self.now.entries c.args.self.now.rising {x = c.args.d} {y = c.args.e} c.requires.0 in
+    omega (arith, up, c.minutes_before.ensures.0, c.minutes_before-2.ensures.0)

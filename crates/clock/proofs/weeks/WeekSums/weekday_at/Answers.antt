@@ -1,45 +1,34 @@
--- `clock::weeks::WeekSums::weekday_at` meets its contract. Of the first `k` weekdays `n` are over, and they are the first `n`, since the sums rise.
-use mathlib.Core.Path.{◌≡◌, ap}
-use mathlib.Core.Logic.{⊎_elim}
-use Prim.Native.Nat.{◌+◌, ◌<◌}
-use native.Mathlib.Omega.{arith}
-use lib.ListN.{get_or}
-use Rattle.number.specs.Order.{lt_or_le}
+-- `clock::weeks::WeekSums::weekday_at` meets its contract: std's search parts the sums that are over by the minute from the others.
+use Rattle.std.proofs.Common.{rules, of_calls, arith, ◌∙◌, ◌≡◌, ℕ, ◌+◌, ◌-◌, ◌≤◌, ◌<◌, leb, length, get_or, drop, take, leb-true, leb-false, ⊎_elim, ap}
+use Rattle.std.proofs.lemmas.Bool.{cases_lt}
+use Rattle.std.proofs.lemmas.List.{get_or-drop, get_or-take}
+use Rattle.std.proofs.lemmas.List.Edits.{length-between}
+use Rattle.std.proofs.lemmas.List.Sorted.{IsPartitionedBy-leb, IsNonDecreasingBy-from_default, IsPartitionPoint-from_clause}
 use Rattle.clock.proofs.weeks.WeekSums.weekday_at.Goals as goal
-use Rattle.clock.proofs.weeks.WeekSums.weekday_at.Goals.{then-self-k, else-self-k}
-
-pub loop-k-preserved : goal.loop-k-preserved
-loop-k-preserved c =
-    let i = c.loop-k.invariant in
-    let s = c.args.self.now.entries in
-    let n = c.loop-k.n in
-    let k = c.loop-k.k in
-    elim c.if-self-k.branch [
-      | then-self-k w ↦
-          let same : n ≡ k =
-          ⊎_elim (λ h. absurd (omega (arith, i.3 h, w.if-self-k.true, c.args.self.now.rising.0 (n + 1) (k + 1) (omega arith) (omega arith)))) (λ h. omega (arith, i.1)) (lt_or_le n k) in
-          let e : get_or s c.if-self-k.n 0 ≡ get_or s (k + 1) 0 = ap (λ x. get_or s x 0) (omega (arith, w.n-is, same)) in
-          (omega arith, omega (arith, w.n-is, i.1), omega (arith, e, w.if-self-k.true), λ h. absurd (omega (arith, w.n-is, same)))
-      | else-self-k w ↦
-          let e : get_or s c.if-self-k.n 0 ≡ get_or s n 0 = ap (λ x. get_or s x 0) w.n-is in
-          let f : get_or s (c.if-self-k.n + 1) 0 ≡ get_or s (n + 1) 0 = ap (λ x. get_or s (x + 1) 0) w.n-is in (
-            omega arith,
-            omega (arith, w.n-is, i.1),
-            omega (arith, e, i.2),
-            λ h.
-                ⊎_elim (λ g. omega (arith, f, i.3 g))
-                (λ g. let q : get_or s (n + 1) 0 ≡ get_or s (k + 1) 0 = ap (λ x. get_or s (x + 1) 0) (omega (arith, i.1)) in omega (arith, f, q, w.if-self-k.false)) (lt_or_le n k),
-          )
-    ]
 
 pub returns : goal.returns
 returns c =
-    let l = c.before in
-    let a = l.args in
-    let i = l.loop-k.invariant in
-    let s = a.self.now.entries in
-    let n = l.loop-k.n in
-    let k : l.loop-k.k ≡ 7 = omega arith in
-    let less : n < 7 =
-    ⊎_elim (λ h. h) (λ h. let e : get_or s n 0 ≡ get_or s 7 0 = ap (λ x. get_or s x 0) (omega (arith, i.1)) in absurd (omega (arith, e, i.2, l.requires))) (lt_or_le n 7) in
-    (i.2, i.3 (omega arith), less)
+    let y = c.args.y in
+    let s = c.args.self.now in
+    let ss = s.entries in
+    let xs = take 7 (drop 1 ss) in
+    let long : length ss ≡ 8 = search rules in
+    let size : length xs ≡ 7 = length-between ss 1 8 (omega (arith, long)) in
+    let is : (i : ℕ) → i < 7 → get_or xs i 0 ≡ get_or ss (1 + i) 0 = λ i l. get_or-take 7 (drop 1 ss) i 0 l ∙ get_or-drop 1 ss i 0 in
+    let r = c.partition_point.result in
+    let parted = IsPartitionPoint-from_clause (λ s. leb s y) xs r c.partition_point.ensures.partitioned
+    (IsPartitionedBy-leb (λ s. s) xs y
+    (IsNonDecreasingBy-from_default (λ s. s) xs 0
+    (λ i j l m. omega (arith, size, is i (omega (arith, size)), is j (omega (arith, size)), s.rising.0 (1 + i) (1 + j) (omega arith) (omega (arith, size))))))
+    (λ x r f k. search (rules, of_calls)) in
+    let less : r < 7 = ⊎_elim (λ l. l) (λ l. let e = leb-true _ _ (parted.0 6 0 (omega (arith, size)) (omega arith)) in absurd (omega (arith, e, is 6 (omega arith), c.requires))) (cases_lt r 7) in
+    let low : get_or ss r 0 ≤ y =
+    ⊎_elim
+    (λ l. let e : get_or ss r 0 ≡ get_or ss 0 0 = ap (λ k. get_or ss k 0) (omega (arith, l)) in omega (arith, e, s.none))
+    (λ l.
+    let e = leb-true _ _ (parted.0 (r - 1) 0 (omega (arith, size, less)) (omega arith)) in
+    let f : get_or ss (1 + (r - 1)) 0 ≡ get_or ss r 0 = ap (λ k. get_or ss k 0) (omega arith) in
+    omega (arith, e, is (r - 1) (omega (arith, less)), f)) (cases_lt r 1) in
+    let high = leb-false _ _ (parted.1 r 0 (omega arith) (omega (arith, size, less))) in
+    let g : get_or ss (1 + r) 0 ≡ get_or ss (r + 1) 0 = ap (λ k. get_or ss k 0) (omega arith) in
+    (low, omega (arith, high, is r less, g), less)

@@ -1,0 +1,12 @@
+// An activity that is not completed, as its late dates are found.
+ghost use Rattle.std.specs.Prelude.{◌^◌, ◌<◌};
+
+use placing::Work;
+
+// The work in hand of an activity that is not completed, and the project's start.
+#[derive(Clone, Copy)]
+pub struct Unfinished<'a> {
+    pub work: Work<'a>,
+    pub origin: u64,
+    pub ghost near: { origin < 2 ^ 43 },
+}
