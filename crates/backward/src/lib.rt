@@ -31,7 +31,7 @@ fn finish_onward(sheet: &Sheet, tables: &Tables, i: usize, top: Option<u64>) -> 
     requires { (tables.now.activities ≡ sheet.now.contents.activities) × (i < sheet.now.contents.activities) × Marked (plan_in sheet.now) (state tables.now) × IfSome top (λ t. t < 2 ^ 63) }
     ensures { (past result ≡ onward (summary (plan_in sheet.now) i) ((state tables.now).act early_finish i) (past top)) × IfSome result (λ t. t < 2 ^ 63) }
 {
-    if tables.act(i, memory::fields::IS_SUMMARY) > 0 {
+    if tables.is_summary(i) {
         return top;
     }
     let finish = tables.act(i, memory::fields::EARLY_FINISH);
@@ -78,9 +78,8 @@ fn keep_early(tables: &mut Tables, i: usize)
     requires { i < tables.old.activities }
     ensures { (state tables.new ≡ stored (state tables.old) i ((state tables.old).act early_start i) ((state tables.old).act early_finish i)) × SameSlice tables.old tables.new }
 {
-    let start = tables.act(i, memory::fields::EARLY_START);
-    let finish = tables.act(i, memory::fields::EARLY_FINISH);
-    store_late(tables, i, Span { start, finish });
+    let early = bounds::early_at(tables, i);
+    store_late(tables, i, early);
 }
 
 // The late dates of activity `i`, of which `actual` is recorded and which is not completed.

@@ -20,6 +20,12 @@ use Rattle.dates.specs.Standing.{as_tie, tie_in, actual_in, Ready, Recorded}
 use Rattle.bounds.specs.ReadyLaws.{activities_are, tie_from_below, tie_to_below, tie_lag_fits}
 use Rattle.calendars.specs.declared.plan_sheet.PlanSheet.{PlanSheet}
 
+-- the start from which the links of activity i count
+pub start_counted : (p : Plan) (S : State) → Recorded p S → (i : ℕ) → i < p.activities → (a : Actual) (es₀ es : ℕ) → a ≡ actual_in S i → es₀ ≡ S.act early_start i
+    → ((q : Plan) → es ≡ begun q (Ok a) es₀) → es ≡ begun p (recorded p i) ((early_in p S).es i)
+start_counted p S N i l a es₀ es f g h =
+    h p ∙ ap₂ (begun p) (ap Ok f ∙ N i l) (g ∙ sym (column_at p.activities (λ j. origin p) early_start S i l))
+
 module _ {plan : PlanSheet} {tables : Tables} (R : Ready plan tables) (k : ℕ) (l : k < tables.kept) (τ : Tie)
     (e : as_tie τ ≡ tie_in (state tables) k) where
   -- the link in hand is the k-th kept one
@@ -54,13 +60,15 @@ module _ {plan : PlanSheet} {tables : Tables} (R : Ready plan tables) (k : ℕ) 
     within : τ.from < (plan_in plan.sheet).activities
     within = omega (arith, from_in, activities_are plan.sheet.bytes.now plan.sheet.contents)
 
-    pub link_bound_is : (a : Actual) (es₀ es ef : ℕ) (r : Result ℕ ClockError) → a ≡ actual_in S τ.from → es₀ ≡ S.act early_start τ.from
-        → ((q : Plan) → es ≡ begun q (Ok a) es₀) → ef ≡ S.act early_finish τ.from → r ≡ forward_bound p (as_tie τ) es ef
-        → r ≡ link_bound p (early_in p S) k
-    link_bound_is a es₀ es ef r f g h m q =
+    pub link_bound_from : (es ef : ℕ) (r : Result ℕ ClockError) → es ≡ begun p (recorded p τ.from) ((early_in p S).es τ.from) → ef ≡ S.act early_finish τ.from
+        → r ≡ forward_bound p (as_tie τ) es ef → r ≡ link_bound p (early_in p S) k
+    link_bound_from es ef r start m q =
         let d : Early = early_in p S in
-        let start : es ≡ begun p (recorded p τ.from) (d.es τ.from) =
-        h p ∙ ap₂ (begun p) (ap Ok f ∙ N τ.from within) (g ∙ sym (column_at p.activities (λ i. origin p) early_start S τ.from within)) in
         let finish : ef ≡ d.ef τ.from = m ∙ sym (column_at p.activities (λ i. origin p) early_finish S τ.from within) in
         q ∙ ap₂ (forward_bound p (as_tie τ)) start finish
         ∙ ap (λ (x : ties.Tie). forward_bound p x (begun p (recorded p x.from) (d.es x.from)) (d.ef x.from)) tie_is
+
+    pub link_bound_is : (a : Actual) (es₀ es ef : ℕ) (r : Result ℕ ClockError) → a ≡ actual_in S τ.from → es₀ ≡ S.act early_start τ.from
+        → ((q : Plan) → es ≡ begun q (Ok a) es₀) → ef ≡ S.act early_finish τ.from → r ≡ forward_bound p (as_tie τ) es ef
+        → r ≡ link_bound p (early_in p S) k
+    link_bound_is a es₀ es ef r f g h m q = link_bound_from es ef r (start_counted p S N τ.from within a es₀ es f g h) m q

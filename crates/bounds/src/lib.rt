@@ -2,14 +2,15 @@
 #![tactic(auto)]
 
 ghost use Rattle.std.specs.Prelude.{◌≡◌, ℕ, ◌^◌, ◌<◌};
-ghost use Rattle.number.specs.Zed.{dn};
 ghost use Rattle.clock.specs.On.{worked_by};
 ghost use Rattle.memory.specs.Seen.{state};
 ghost use Rattle.order.specs.Plan.{Plan, plan_in};
-ghost use Rattle.passes.specs.Plan.{own};
-ghost use Rattle.passes.specs.Forward.{source_of, forward_bound, link_bound, start_for};
+ghost use Rattle.memory.specs.Fields.{early_start, early_finish};
+ghost use Rattle.passes.specs.Plan.{own, recorded, begun};
+ghost use Rattle.passes.specs.Forward.{source_of, forward_bound, link_bound, link_start, start_for};
 ghost use Rattle.dates.specs.Columns.{early_in};
-ghost use Rattle.dates.specs.Standing.{as_tie, Lent};
+ghost use Rattle.dates.specs.InHand.{InHand};
+ghost use Rattle.dates.specs.Standing.{as_tie, Lent, Recorded};
 
 use calendars::PlanSheet;
 use dates::{Span, Tie};
@@ -19,6 +20,7 @@ use project::RelationshipType;
 use worktime::ClockError;
 
 // The end of the predecessor, whose early dates are `early`, from which a link counts.
+// `late::links::target` chooses by another test and definition, in as many lines.
 pub fn source_of(kind: RelationshipType, early: Span) -> u64
     ensures { (p : Plan) → result ≡ source_of p kind early.start early.finish }
 {
@@ -40,7 +42,6 @@ pub fn start_for(work: &Work, kind: RelationshipType, b: u64) -> Result<u64, Clo
 
 // The bound that a link puts on its successor: its predecessor's start or finish, moved by the lag on the lag's calendar.
 pub fn forward_bound(plan: &PlanSheet, tie: Tie, early: Span) -> Result<u64, ClockError>
-    requires { dn tie.lag < 2 ^ 63 }
     ensures { result ≡ forward_bound (plan_in plan.now.sheet) (as_tie tie) early.start early.finish }
 {
     let kind = tie.kind;
@@ -50,16 +51,51 @@ pub fn forward_bound(plan: &PlanSheet, tie: Tie, early: Span) -> Result<u64, Clo
     placing::bounded(origin, t)
 }
 
+// The early start and the early finish of activity `i`, as they stand in the memory.
+pub fn early_at(tables: &Tables, i: usize) -> Span
+    requires { i < tables.now.activities }
+    ensures { (result.start ≡ (state tables.now).act early_start i) × (result.finish ≡ (state tables.now).act early_finish i) × (result.start < 2 ^ 63) × (result.finish < 2 ^ 63) }
+{
+    Span {
+        start: tables.act(i, memory::fields::EARLY_START),
+        finish: tables.act(i, memory::fields::EARLY_FINISH),
+    }
+}
+
+// The early dates of activity `i` from which its links count: its start as recorded once work has begun.
+pub fn counted_from(tables: &Tables, i: usize) -> Span
+    requires { i < tables.now.activities }
+    ensures { ((p : Plan) → p.activities ≡ tables.now.activities → Recorded p (state tables.now) → result.start ≡ begun p (recorded p i) ((early_in p (state tables.now)).es i)) × (result.finish ≡ (state tables.now).act early_finish i) }
+{
+    let recorded = dates::recorded_at(tables, i);
+    let early = early_at(tables, i);
+    Span {
+        start: dates::begun_at(recorded, early.start),
+        finish: early.finish,
+    }
+}
+
 // The bound of the kept link in row `k`: its predecessor's start as recorded once begun.
 pub fn link_bound(plan: &PlanSheet, tables: &Tables, k: usize) -> Result<u64, ClockError>
     requires { Lent plan.now tables.now × (k < tables.now.kept) }
     ensures { result ≡ link_bound (plan_in plan.now.sheet) (early_in (plan_in plan.now.sheet) (state tables.now)) k }
 {
     let tie = dates::tie_at(tables, k);
-    let from = tie.from;
-    let recorded = dates::recorded_at(tables, from);
-    let es = tables.act(from, memory::fields::EARLY_START);
-    let start = dates::begun_at(recorded, es);
-    let finish = tables.act(from, memory::fields::EARLY_FINISH);
-    forward_bound(plan, tie, Span { start, finish })
+    let from = counted_from(tables, tie.from);
+    forward_bound(plan, tie, from)
+}
+
+// The start that the kept link in row `k` leaves its successor, whose work is in hand.
+pub fn start_by_link(
+    plan: &PlanSheet,
+    tables: &Tables,
+    work: &Work,
+    k: usize,
+) -> Result<u64, ClockError>
+    requires { Lent plan.now tables.now × (k < tables.now.kept) }
+    ensures { (i : ℕ) → InHand (plan_in plan.now.sheet) (early_in (plan_in plan.now.sheet) (state tables.now)) i work.now → result ≡ link_start (plan_in plan.now.sheet) (early_in (plan_in plan.now.sheet) (state tables.now)) i k }
+{
+    let b = link_bound(plan, tables, k)?;
+    let kind = RelationshipType::from(tables.link(k, memory::fields::KIND));
+    start_for(work, kind, b)
 }

@@ -1,7 +1,10 @@
 -- `rank`, `select`, `next_in` and `works` a period at a time, as a loop over a day's periods goes.
 use Rattle.std.specs.Prelude.{Option, Some, None, ◌≡◌, List, [], ◌∷◌, ℕ, zero, suc, ◌+◌, ◌-◌, min, max, ◌≤◌, ◌<◌, get_or, length, drop, ltb}
-use Rattle.std.proofs.Common.{sym, ◌∙◌, arith, add-one, drop_of_length-le, drop-cons}
-use Rattle.std.specs.List.{list_any, range_with_len}
+use Rattle.std.proofs.Common.{refl, sym, ap, ◌∙◌, ⊎_elim, arith, add-one, drop_of_length-le, drop-cons, lt-ltb, le-ltb, option_map}
+use Rattle.std.specs.Option.{MatchOption, IsSomeAnd}
+use Rattle.std.specs.List.{list_any, find, fold, sum, range_with_len}
+use mathlib.Core.List.{map}
+use Rattle.number.specs.Order.{lt_or_le}
 use Rattle.calendar.specs.declared.Period.{Period}
 use Rattle.calendar.specs.Hours.{none, Ordered, rank, select, next_in, works}
 use Rattle.calendar.specs.HoursLaws.{select_in, select_past, next_in_lem, next_past}
@@ -54,3 +57,41 @@ pub works_from : (ps : List Period) (i n : ℕ) → i + n ≡ length ps → list
 unfolding works
 works_from ps i zero e = let h : length ps ≤ i = omega arith in rw (drop_of_length-le ps h)
 works_from ps i (suc n) e = let h : i < length ps = omega arith in rw (works_from ps (i + 1) n (omega arith), add-one, drop-cons ps i none)
+
+-- as a search among the places of the periods goes
+pub next_from : (ps : List Period) (m i n : ℕ) → i + n ≡ length ps
+    → option_map (λ p. max m p.from) (find (λ p. ltb m p.to) (map (λ j. get_or ps j none) (range_with_len i n))) ≡ next_in (drop i ps) m
+unfolding next_in
+next_from ps m i zero e = let h : length ps ≤ i = omega arith in rw (drop_of_length-le ps h) refl
+next_from ps m i (suc n) e =
+    let h : i < length ps = omega arith in
+    let p = get_or ps i none in
+    ⊎_elim
+    (λ l. rw (drop-cons ps i none, lt-ltb m p.to l) (sym (next_in_lem _ _ m l)))
+    (λ l. rw (le-ltb m p.to l, next_from ps m (i + 1) n (omega arith), add-one, drop-cons ps i none) (sym (next_past _ _ m l)))
+    (lt_or_le m p.to)
+
+-- and what comes of the period found
+pub next_of : (m : ℕ) (o : Option Period) (r : Option ℕ) (Is : Period → ℕ → Type 0) → MatchOption o (r ≡ None) (λ p. IsSomeAnd r (Is p)) → ((p : Period) (k : ℕ) → Is p k → k ≡ max m p.from)
+    → r ≡ option_map (λ p. max m p.from) o
+next_of m None r Is e is = e
+next_of m (Some p) None Is e is = absurd e
+next_of m (Some p) (Some k) Is e is = ap Some (is p k e)
+
+-- and as a sum over them, onto what is summed already
+rank_onto : (ps : List Period) (m i n a : ℕ) → i + n ≡ length ps
+    → fold (λ b k. b + k) a (map (λ j. min m (get_or ps j none).to - (get_or ps j none).from) (range_with_len i n)) ≡ a + rank (drop i ps) m
+rank_onto ps m i zero a e = omega (arith, rank_end ps i m (omega arith))
+rank_onto ps m i (suc n) a e = rank_onto ps m (i + 1) n _ (omega arith) ∙ omega (arith, rank_step ps i m (get_or ps i none) refl (omega arith))
+
+pub rank_from : (ps : List Period) (m i n : ℕ) → i + n ≡ length ps → sum (map (λ j. min m (get_or ps j none).to - (get_or ps j none).from) (range_with_len i n)) ≡ rank (drop i ps) m
+rank_from ps m i n e = rank_onto ps m i n 0 e ∙ omega arith
+
+-- the lengths of periods in order sum to the rank at the day's end
+work_onto : (ps : List Period) (f a : ℕ) → Ordered f ps → fold (λ b k. b + k) a (map (λ p. p.to - p.from) ps) ≡ a + rank ps 1440
+unfolding rank
+work_onto [] f a o = omega arith
+work_onto (p ∷ ps) f a o = work_onto ps (max f p.to) _ o.2 ∙ omega (arith, o.0)
+
+pub work_from : (ps : List Period) → Ordered 0 ps → sum (map (λ p. p.to - p.from) ps) ≡ rank ps 1440
+work_from ps o = work_onto ps 0 0 o ∙ omega arith

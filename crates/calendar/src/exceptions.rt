@@ -12,7 +12,7 @@ const MANY_RECORDS: usize = 65536;
 const NEAR: usize = 8;
 
 // `n` E records from the byte `at` of the sheet on; they lie within it, and their days do not fall.
-// It holds the bytes and the place and no slice of records, since the definitions read a place of the sheet; `entries` gives the records where std's search asks for a slice.
+// It holds the bytes and the place and no slice of records: `entries`, which gives one where std's search asks for it, leads a record's day back to the sheet, and each other getter would do so, too.
 #[derive(Clone, Copy)]
 pub struct Exceptions<'a> {
     pub sheet: &'a [u8],
@@ -92,18 +92,15 @@ impl<'a> Exceptions<'a> {
     }
 
     // The same where the day of record `start` is before `d`: one of the next, or else searched for.
-    // Here and below the loop is by the index, which is the answer: std's `find` would give it as an Option, with a contract for its closure, and be no plainer.
     fn first_past(&self, d: u64, start: usize) -> usize
         requires { (start < self.now.n) × (day_in self.now start < d) }
         ensures { FirstOf self.now d result }
     {
         let end = self.n.min(start + NEAR);
-        for i in start + 1..end {
-            if d <= self.day(i) {
-                return i;
-            }
+        match (start + 1..end).find(|i| d <= self.day(*i)) {
+            Some(i) => i,
+            None => self.first_between(d, end, self.n),
         }
-        self.first_between(d, end, self.n)
     }
 
     // The same where the day of record `start` is `d` or later: it or one of the last before it, or else searched for.
@@ -112,12 +109,10 @@ impl<'a> Exceptions<'a> {
         ensures { FirstOf self.now d result }
     {
         let end = start.saturating_sub(NEAR);
-        for i in (end..start).rev() {
-            if self.day(i) < d {
-                return i + 1;
-            }
+        match (end..start).rev().find(|i| self.day(*i) < d) {
+            Some(i) => i + 1,
+            None => self.first_between(d, 0, end),
         }
-        self.first_between(d, 0, end)
     }
 
     // The first record whose day is `d` or later. It is mostly near the guess, where a look at each costs less than halving.
@@ -140,12 +135,7 @@ impl<'a> Exceptions<'a> {
         requires { FirstOf self.now d from }
         ensures { FirstOf self.now (d + 1) result }
     {
-        for i in from..self.n {
-            if d < self.day(i) {
-                return i;
-            }
-        }
-        self.n
+        (from..self.n).find(|i| d < self.day(*i)).unwrap_or(self.n)
     }
 
     // The first record whose day is `d` or later, where `to` is the first whose day is after `d`.
@@ -154,12 +144,10 @@ impl<'a> Exceptions<'a> {
         requires { FirstOf self.now (d + 1) to }
         ensures { FirstOf self.now d result }
     {
-        for i in (0..to).rev() {
-            if self.day(i) < d {
-                return i + 1;
-            }
-        }
-        0
+        (0..to)
+            .rev()
+            .find(|i| self.day(*i) < d)
+            .map_or(0, |i| i + 1)
     }
 
     // The records from `from` up to `to`.

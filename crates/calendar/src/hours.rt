@@ -9,7 +9,8 @@ use super::{Period, exception_period, period_length, period_rank};
 // How many periods a row holds.
 const PERIODS: usize = 8;
 
-// Periods in their order: a row, or the E records of a day. What is asked of either is one loop over their places, compiled for each.
+// Periods in their order: a row, or the E records of a day. What is asked of either goes over their places, compiled for each.
+// It gives a count and a place, since an iterator over periods would be a type of its own for each impl.
 pub trait Periods {
     ghost use Rattle.calendar.specs.declared.Period.{Period};
 
@@ -35,7 +36,7 @@ impl Periods for [Period; 8] {
     }
 }
 
-// `n` E records of one day, from the byte `at` of the sheet on; as in `Exceptions`, a place and no slice, since the definitions read one.
+// `n` E records of one day, from the byte `at` of the sheet on; as in `Exceptions`, a place and no slice, which would have to be led back to the sheet.
 #[derive(Clone, Copy)]
 pub struct DayRecords<'a> {
     pub sheet: &'a [u8],
@@ -74,11 +75,9 @@ pub fn rank_in<P: Periods>(periods: &P, m: u16) -> u16
     requires { Ordered 0 (P.list periods.now) }
     ensures { (result ≡ rank (P.list periods.now) m) × (result ≤ 1440) }
 {
-    let mut sum: u16 = 0;
-    for i in 0..periods.count() {
-        sum += period_rank(periods.period(i), m);
-    }
-    sum
+    (0..periods.count())
+        .map(|i| period_rank(periods.period(i), m))
+        .sum()
 }
 
 // The minute of the day by which `k` minutes of the periods are worked.
@@ -86,6 +85,7 @@ pub fn select_in<P: Periods>(periods: &P, k: u64) -> u64
     requires { Ordered 0 (P.list periods.now) × (0 < k) × (k ≤ rank (P.list periods.now) 1440) }
     ensures { (result ≡ select (P.list periods.now) k) × (0 < result) × (result ≤ 1440) }
 {
+    // A loop, since each period passed takes its minutes from what is left: a closure for std's `find_map` would change what it captures.
     let mut left = k;
     for i in 0..periods.count() {
         let p = periods.period(i);
@@ -102,13 +102,10 @@ pub fn select_in<P: Periods>(periods: &P, k: u64) -> u64
 pub fn next_in<P: Periods>(periods: &P, m: u64) -> Option<u64>
     ensures { result ≡ next_in (P.list periods.now) m }
 {
-    for i in 0..periods.count() {
-        let p = periods.period(i);
-        if m < p.to as u64 {
-            return Some(m.max(p.from as u64));
-        }
-    }
-    None
+    (0..periods.count())
+        .map(|i| periods.period(i))
+        .find(|p| m < p.to as u64)
+        .map(|p| m.max(p.from as u64))
 }
 
 // The hours of a day: its weekday's row, or its E records if it has any.

@@ -35,7 +35,8 @@ fn read_period(sheet: &[u8], at: usize) -> Period
 }
 
 // The period of W record `i`. Records W and E are read by the sheet, the place of the first and an index, as the definitions read them:
-// they are judged and read by runs, so no function holds one alone, as others do an activity's or a link's record.
+// a slice of the records alone would have to be led back to the sheet at each read. They are judged and read by runs, so no function holds one alone,
+// as others do an activity's or a link's record.
 pub fn week_period(sheet: &[u8], at: usize, i: usize) -> Period
     requires { at + 6 * i + 6 ≤ length sheet.now }
     ensures { result ≡ week_period_at sheet.now at i }
@@ -48,9 +49,10 @@ pub fn read_week(sheet: &[u8], at: usize, n: usize) -> [[Period; 8]; 7]
     requires { (at + 6 * n ≤ length sheet.now) × ((k : ℕ) → k < 7 → length (week_periods sheet.now at k n) ≤ 8) }
     ensures { result ≡ week_of sheet.now at n }
 {
+    // Rows of eight places, since the call may not allocate; how many each holds is in an array of its own, since it is needed only while they are read.
     let mut week = [[Period { from: 0, to: 0 }; 8]; 7];
     let mut counts = [0 as usize; 7];
-    // By the index, which `week_period` takes: chunks of six bytes would be read at other places than the definitions name.
+    // By the index, which `week_period` takes: chunks of six bytes would have to be led back to their places in the sheet.
     for i in 0..n {
         let k = sheet[at + 6 * i + 1] as usize;
         if k < 7 {
@@ -96,6 +98,7 @@ pub fn exception_period(sheet: &[u8], at: usize, i: usize) -> Period
 }
 
 // Whether some minute of day `d` is worked.
+// `d < 4294967296` is a clause: a type of bounded days would put its number between each contract and its definition.
 pub fn is_working(calendar: &Calendar, d: u64) -> bool
     requires { d < 4294967296 }
     ensures { result ≡ works (hours_of calendar.now d) }
@@ -128,6 +131,7 @@ fn period_length(p: Period) -> u16
 }
 
 // How many minutes of the row stand before minute `m` of the day.
+// `Ordered 0 row` is a clause, here and below: a row is one of a week's seven, of all of which a calendar's type says it, and a type of one row would be made anew at each call.
 pub fn row_rank(row: [Period; 8], m: u16) -> u16
     requires { Ordered 0 row }
     ensures { (result ≡ rank row m) × (result ≤ 1440) }
@@ -135,16 +139,12 @@ pub fn row_rank(row: [Period; 8], m: u16) -> u16
     rank_in(&row, m)
 }
 
-// How many minutes the row has: cheaper than its rank at the day's end.
+// How many minutes the row has, which is its rank at the day's end: the sum of `hours::rank_in`, but of the periods' lengths, which need no minute.
 pub fn row_work(row: [Period; 8]) -> u16
     requires { Ordered 0 row }
     ensures { (result ≡ rank row 1440) × (result ≤ 1440) }
 {
-    let mut sum: u16 = 0;
-    for p in row {
-        sum += period_length(p);
-    }
-    sum
+    row.iter().map(|p| period_length(*p)).sum()
 }
 
 // The minute of the day by which `k` minutes of the row are worked.

@@ -43,8 +43,9 @@ impl<'a> Calendar<'a> {
     }
 
     // The hours of day `d`.
+    // `d < 2 ^ 63` is a clause, here and below: a type of bounded days would put its number between each contract and its definition.
     pub fn hours_on(&self, d: u64) -> Hours<'a>
-        requires { d < 4294967296 }
+        requires { d < 2 ^ 63 }
         ensures { (periods_of result ≡ hours_of self.now d) × Ordered 0 (periods_of result) }
     {
         self.hours_from(d, self.exceptions.first_from(d))
@@ -52,7 +53,7 @@ impl<'a> Calendar<'a> {
 
     // The hours of day `d`, where `from` is the first E record whose day is `d` or later; so a walk forward searches no day anew.
     pub fn hours_from(&self, d: u64, from: usize) -> Hours<'a>
-        requires { (d < 4294967296) × FirstOf self.now.exceptions d from }
+        requires { (d < 2 ^ 63) × FirstOf self.now.exceptions d from }
         ensures { (periods_of result ≡ hours_of self.now d) × Ordered 0 (periods_of result) × FirstOf self.now.exceptions (d + 1) (from + result.records.n) × (from + result.records.n < 2 ^ 64) }
     {
         let to = self.exceptions.first_after(d, from);
@@ -65,7 +66,7 @@ impl<'a> Calendar<'a> {
     // The hours of day `d`, where `to` is the first E record whose day is after `d`; so a walk back searches no day anew.
     // It mirrors `hours_from`: one function would take the search and both ends, and be no plainer.
     pub fn hours_to(&self, d: u64, to: usize) -> Hours<'a>
-        requires { (d < 4294967296) × FirstOf self.now.exceptions (d + 1) to }
+        requires { (d < 2 ^ 63) × FirstOf self.now.exceptions (d + 1) to }
         ensures { (periods_of result ≡ hours_of self.now d) × Ordered 0 (periods_of result) × (result.records.n ≤ to) × FirstOf self.now.exceptions d (to - result.records.n) }
     {
         let from = self.exceptions.first_back(d, to);

@@ -6,6 +6,7 @@ ghost use Rattle.calendar.specs.Records.{round_the_clock};
 ghost use Rattle.order.specs.Plan.{plan_in};
 ghost use Rattle.calendars.specs.Calendars.{Places, Lengths};
 
+use project::CalendarRecord;
 use sheet::Sheet;
 
 mod plan_calendar;
@@ -42,7 +43,7 @@ pub fn locate(sheet: &Sheet) -> [PlanCalendar; ROWS]
             week: calendar::read_week(sheet.bytes, at + 3, place.weeks),
             at: place.at,
             n: place.exceptions,
-            day_length: project::records::read_day_length(sheet.bytes, at),
+            day_length: CalendarRecord::new(sheet.bytes, at).day_length(),
         };
         at = place.next;
     }
@@ -50,6 +51,7 @@ pub fn locate(sheet: &Sheet) -> [PlanCalendar; ROWS]
 }
 
 // So many days of `day_length` minutes.
+// `day_length ≤ 1440` is a clause: a type with the bound would put its number between each contract and its definition.
 pub fn days_in_minutes(days: i32, day_length: u64) -> i64
     requires { day_length ≤ 1440 }
     ensures { result ≡ days *ℤ pos day_length }

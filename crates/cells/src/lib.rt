@@ -20,6 +20,7 @@ pub fn get_signed(work: &[i64], at: usize) -> i64
 }
 
 // Puts `v` into the cell `at`.
+// `v < 2 ^ 63` is a clause, here and wherever a number goes into a cell: a type of such numbers would stand between each value and its definition.
 pub fn put(work: &mut [i64], at: usize, v: u64)
     requires { (at < length work.old) × (v < 2 ^ 63) }
     ensures { work.new ≡ store work.old at v }

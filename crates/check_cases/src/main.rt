@@ -2,7 +2,8 @@
 // tools/check_cases.py, where each answer is stated by hand.
 #![tactic(auto)]
 
-ghost use Rattle.std.specs.Prelude.{◌+◌, ◌*◌, ◌≤◌, max, length};
+ghost use Rattle.std.specs.Prelude.{◌+◌, ◌≤◌, max, length};
+ghost use Rattle.memory.specs.State.{Room};
 ghost use Rattle.order.specs.Plan.{plan_in};
 ghost use Rattle.calendars.specs.Calendars.{Lengths};
 
@@ -24,16 +25,6 @@ fn first_zero(names: &[u32]) -> usize
         .unwrap_or(names.len())
 }
 
-// Whether the names are zeros.
-fn are_names_zero(names: &[u32]) -> bool {
-    names.iter().all(|name| *name == 0)
-}
-
-// Whether all of the memory is zeros.
-fn is_work_zero(work: &[i64]) -> bool {
-    work.iter().all(|cell| *cell == 0)
-}
-
 // The names, one after another.
 fn print_each(rt: &impl Print, names: &[u32]) -> io::Result<()> {
     for name in names {
@@ -42,12 +33,13 @@ fn print_each(rt: &impl Print, names: &[u32]) -> io::Result<()> {
     Ok(())
 }
 
-// The first `n` names, and whether those after them are zeros.
-fn print_names(rt: &impl Print, names: &[u32], n: usize) -> io::Result<()>
-    requires { n ≤ length names.now }
-{
-    print_each(rt, &names[..n])?;
-    if are_names_zero(&names[n..]) {
+// The first `n` names, and whether those after them are zeros; nothing where there are fewer.
+fn print_names(rt: &impl Print, names: &[u32], n: usize) -> io::Result<()> {
+    let Some((named, rest)) = names.split_at_checked(n) else {
+        return Ok(());
+    };
+    print_each(rt, named)?;
+    if rest.iter().all(|name| *name == 0) {
         return Ok(());
     }
     print!(rt; " names not zero")
@@ -56,17 +48,14 @@ fn print_names(rt: &impl Print, names: &[u32], n: usize) -> io::Result<()>
 // A plan that is fine: its kept and ignored links and its open ends, and where the ignored ones stand.
 fn print_fine(rt: &impl Print, names: &[u32], kept: usize, counts: PlanCounts) -> io::Result<()> {
     print!(rt; " fine {kept} {} {}", counts.ignored, counts.open_ends)?;
-    if counts.ignored <= names.len() {
-        print_names(rt, names, counts.ignored)?;
-    }
-    Ok(())
+    print_names(rt, names, counts.ignored)
 }
 
 // A refusal: its number and its id, and the loop that is named.
 fn print_refused(rt: &impl Print, names: &[u32], work: &[i64], error: PlanError) -> io::Result<()> {
     print!(rt; " refused {} {}", error.number(), error.id())?;
     print_names(rt, names, first_zero(names))?;
-    if is_work_zero(work) {
+    if work.iter().all(|cell| *cell == 0) {
         return Ok(());
     }
     print!(rt; " work not zero")
@@ -79,7 +68,7 @@ fn check_lent(
     names: &mut [u32],
     work: &mut [i64],
 ) -> io::Result<()>
-    requires { Lengths (plan_in plan.now.sheet) plan.now.calendars.now × (max (plan.now.sheet.contents.activities + 1) plan.now.sheet.contents.links ≤ length names.old) × (64 * plan.now.sheet.contents.activities + 16 * plan.now.sheet.contents.links ≤ length work.old) }
+    requires { Lengths (plan_in plan.now.sheet) plan.now.calendars.now × (max (plan.now.sheet.contents.activities + 1) plan.now.sheet.contents.links ≤ length names.old) × Room plan.now.sheet.contents.activities plan.now.sheet.contents.links work.old }
 {
     let mut tables = Tables::of(
         work,

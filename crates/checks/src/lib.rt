@@ -45,6 +45,7 @@ fn name_one(sheet: &Sheet, names: &mut [u32], k: usize, i: usize)
     names[k] = sheet.activity(i).id() as u32;
 }
 
+// That `names` is long enough is a clause, here and below: a type of such a slice would hold the sheet's sizes, too.
 // Row 12's names: the ids from activity `first` so many steps upward, which lead back to it, then zeros.
 fn name_parents(sheet: &Sheet, names: &mut [u32], tables: &Tables, first: usize, steps: usize)
     requires { Lent sheet.now tables.now × ParentsKnown (plan_in sheet.now) × Parented (plan_in sheet.now) (state tables.now) sheet.now.contents.activities × LoopFrom (plan_in sheet.now) first steps × (sheet.now.contents.activities < length names.old) }
@@ -53,9 +54,10 @@ fn name_parents(sheet: &Sheet, names: &mut [u32], tables: &Tables, first: usize,
     names.fill(0);
     name_one(sheet, names, 0, first);
     // No iterator over the activities above: these are a loop, and an iterator is seen as a list, which ends.
+    // On a loop each has a parent.
     let mut i = first;
     for k in 0..steps {
-        i = tables.act(i, fields::PARENT) as usize - 1;
+        i = tables.row(i, fields::PARENT).unwrap();
         name_one(sheet, names, k + 1, i);
     }
 }
@@ -79,7 +81,7 @@ fn is_open(sheet: &Sheet, tables: &Tables, i: usize) -> bool
     requires { Lent sheet.now tables.now × Standing (plan_in sheet.now) tables.now.kept (state tables.now) × (i < sheet.now.contents.activities) }
     ensures { result ≡ is_open (plan_in sheet.now) i }
 {
-    tables.act(i, fields::IS_SUMMARY) == 0
+    !tables.is_summary(i)
         && (tables.act(i, fields::FIRST_IN) == tables.kept as u64
             || tables.act(i, fields::FIRST_OUT) == tables.kept as u64)
 }

@@ -2,7 +2,6 @@
 #![tactic(auto)]
 
 ghost use Rattle.std.specs.Prelude.{◌≡◌, ℕ, ◌+◌, ◌*◌, ◌^◌, ◌≤◌, ◌<◌};
-ghost use Rattle.number.specs.Zed.{dn};
 ghost use Rattle.date.specs.Years.{first_day, end_day};
 ghost use Rattle.calendar.specs.Exceptions.{FirstOf};
 ghost use Rattle.clock.specs.On.{worked_by};
@@ -46,6 +45,7 @@ pub fn next_start(calendar: &Calendar, t: u64) -> Result<u64, ClockError>
 }
 
 // The greatest closing minute at or before `t`.
+// It mirrors `next_start`: the search, the sums and the end differ, so one function would take all three and be no plainer.
 pub fn previous_finish(calendar: &Calendar, t: u64) -> Result<u64, ClockError>
     ensures { result ≡ previous_finish (worked_by calendar.now) t }
 {
@@ -101,6 +101,7 @@ pub fn previous_start(calendar: &Calendar, t: u64) -> Result<u64, ClockError>
 }
 
 // `t` if it is worked, else the minute before the previous finish: for a date that a start must not pass.
+// It differs from `previous_start` in the walk that it ends with: a function of that walk would take its contract, too, and be no plainer.
 pub fn start_by(calendar: &Calendar, t: u64) -> Result<u64, ClockError>
     ensures { result ≡ start_by (worked_by calendar.now) t }
 {
@@ -113,6 +114,7 @@ pub fn start_by(calendar: &Calendar, t: u64) -> Result<u64, ClockError>
 }
 
 // The closing minute with `work` worked minutes from the beginning of day `d` on; `from` is the first E record whose day is `d` or later.
+// The bounds of `d` and of `work` are clauses, here and below: a type with the bound would put its number between each contract and its definition.
 fn advance_from(calendar: &Calendar, d: u64, from: usize, work: u64) -> Result<u64, ClockError>
     requires { FirstOf calendar.now.exceptions d from × (first_day ≤ d) × (d < end_day) × (0 < work) × (work < 2 ^ 47) }
     ensures { result ≡ advance (worked_by calendar.now) (d * 1440) work }
@@ -217,7 +219,6 @@ pub fn retreat(calendar: &Calendar, t: u64, work: u64) -> Result<u64, ClockError
 
 // `t` moved by `lag` worked minutes: forward for a lag, back for a lead.
 pub fn shift(calendar: &Calendar, t: u64, lag: i64) -> Result<u64, ClockError>
-    requires { (dn lag < 2 ^ 63) }
     ensures { result ≡ shift (worked_by calendar.now) t lag }
 {
     let back = number::sign::downward(lag);
@@ -236,7 +237,7 @@ pub fn day_work(calendar: &Calendar, d: u64) -> Result<i64, ClockError>
     Ok(hours.rank(1440) as i64)
 }
 
-// The minutes worked on `t`'s day before `t`.
+// The minutes worked on `t`'s day before `t`. It and `day_work` are two lines each, of two definitions.
 pub fn worked_before(calendar: &Calendar, t: u64) -> Result<i64, ClockError>
     ensures { result ≡ worked_before (worked_by calendar.now) t }
 {
@@ -261,6 +262,7 @@ fn days_work(calendar: &Calendar, d: u64, e: u64, from: usize) -> Days
     let sums = WeekSums::of(calendar.week);
     let mut sum = sums.regular_work(d, e);
     let mut next = d;
+    // By the index, here and in `records`: the record at which the sum ends is answered with it.
     for j in from..calendar.exceptions.n {
         let day = calendar.exceptions.day(j);
         if e <= day {

@@ -12,6 +12,7 @@ use super::weeks::WeekSums;
 use calendar::Exceptions;
 
 // Where a walk stands between two E records: the first that comes after, the minutes passed, those of all days up to there by their weekdays, and the minutes to pass up to the record that is next on its way.
+// `start` is of the record that is next, where there is one; an `Option` of it would be told from `at` a second time.
 #[derive(Clone, Copy)]
 pub struct Standing {
     pub at: usize,
@@ -23,6 +24,7 @@ pub struct Standing {
 // The walks read no week: what they say of its days holds for every week that the E records are valid with and whose sums they are given.
 
 // Forward from the beginning of day `d`; `from` is the first record whose day is `d` or later. It stops before the record by whose end `work` minutes are passed.
+// The bounds of `d` and of `work` are clauses, here and below: a type with the bound would put its number between each contract and its definition.
 pub fn ahead(sums: &WeekSums, exceptions: &Exceptions, d: u64, from: usize, work: u64) -> Standing
     requires { FirstOf exceptions.now d from × (d < 4294967296) × (0 < work) × (work < 2 ^ 47) }
     ensures { ((week : List (List Period)) → Valid week exceptions.now.sheet.now exceptions.now.at exceptions.now.n → Sums week sums.now.entries → Ahead week exceptions.now.sheet.now exceptions.now.at exceptions.now.n sums.now.entries result.at (count (worked_on week exceptions.now.sheet.now exceptions.now.at exceptions.now.n) (d * 1440) + result.passed) result.over) × (result.passed < work) × (result.at < exceptions.now.n → (result.start ≡ result.passed + (regular sums.now.entries (day_in exceptions.now result.at) - result.over)) × (work ≤ result.start + record_work exceptions.now.sheet.now exceptions.now.at result.at)) × (result.over < 2 ^ 43) }

@@ -37,6 +37,7 @@ impl WeekSums {
     }
 
     // The minutes of day `d` by its weekday.
+    // `d < 4294967296` is a clause, here and below: a type with the bound would put its number between each contract and its definition.
     pub fn minutes_on(&self, d: u64) -> u64
         requires { d < 4294967296 }
         ensures { (regular self.now.entries d + result ≡ regular self.now.entries (d + 1)) × (result ≤ 10080) }

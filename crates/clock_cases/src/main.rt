@@ -26,6 +26,8 @@ impl fmt::Display for Time {
 }
 
 // A function of the clock, with what it takes beside a calendar and a time.
+// The file names it by a code, and three switches have all twelve. What the functions take and answer differs, so a table of them would want a function around
+// each, and places that are the same codes.
 #[derive(Clone, Copy)]
 enum Walk {
     NextStart,
@@ -50,6 +52,13 @@ enum Answer {
     Working(bool),
 }
 
+impl Answer {
+    // The answer that is a time.
+    fn at(t: u64) -> Answer {
+        Answer::Time(Time(t))
+    }
+}
+
 // A walk and the time that it is taken at.
 #[derive(Clone, Copy)]
 struct Case {
@@ -65,6 +74,7 @@ fn time_at(case: &[u8], at: usize) -> Time
 }
 
 // The walk with a code, which takes what stands at `at`. The codes are 1 to 12; 0 counts as 5, and more as 12.
+// `From` would have the code alone; a walk takes numbers of the case, too.
 fn walk_of(code: u64, case: &[u8], at: usize) -> Walk
     requires { at + 6 ≤ length case.now }
 {
@@ -98,18 +108,18 @@ impl Case {
     fn answer(&self, calendar: &Calendar) -> Result<Answer, ClockError> {
         let t = self.time.0;
         match self.walk {
-            Walk::NextStart => Ok(Answer::Time(Time(clock::next_start(calendar, t)?))),
-            Walk::PreviousFinish => Ok(Answer::Time(Time(clock::previous_finish(calendar, t)?))),
-            Walk::NextFinish => Ok(Answer::Time(Time(clock::next_finish(calendar, t)?))),
-            Walk::PreviousStart => Ok(Answer::Time(Time(clock::previous_start(calendar, t)?))),
-            Walk::StartBy => Ok(Answer::Time(Time(clock::start_by(calendar, t)?))),
-            Walk::WorkingAt => Ok(Answer::Working(clock::working_at(calendar, t)?)),
-            Walk::WorkedBefore => Ok(Answer::Work(clock::worked_before(calendar, t)?)),
-            Walk::DayWork => Ok(Answer::Work(clock::day_work(calendar, t / 1440)?)),
-            Walk::Advance(work) => Ok(Answer::Time(Time(clock::advance(calendar, t, work)?))),
-            Walk::Retreat(work) => Ok(Answer::Time(Time(clock::retreat(calendar, t, work)?))),
-            Walk::Shift(lag) => Ok(Answer::Time(Time(clock::shift(calendar, t, lag as i64)?))),
-            Walk::Between(end) => Ok(Answer::Work(clock::between(calendar, t, end.0)?)),
+            Walk::NextStart => clock::next_start(calendar, t).map(Answer::at),
+            Walk::PreviousFinish => clock::previous_finish(calendar, t).map(Answer::at),
+            Walk::NextFinish => clock::next_finish(calendar, t).map(Answer::at),
+            Walk::PreviousStart => clock::previous_start(calendar, t).map(Answer::at),
+            Walk::StartBy => clock::start_by(calendar, t).map(Answer::at),
+            Walk::WorkingAt => clock::working_at(calendar, t).map(Answer::Working),
+            Walk::WorkedBefore => clock::worked_before(calendar, t).map(Answer::Work),
+            Walk::DayWork => clock::day_work(calendar, t / 1440).map(Answer::Work),
+            Walk::Advance(work) => clock::advance(calendar, t, work).map(Answer::at),
+            Walk::Retreat(work) => clock::retreat(calendar, t, work).map(Answer::at),
+            Walk::Shift(lag) => clock::shift(calendar, t, lag as i64).map(Answer::at),
+            Walk::Between(end) => clock::between(calendar, t, end.0).map(Answer::Work),
         }
     }
 }
@@ -138,7 +148,7 @@ impl fmt::Display for Answer {
     fn fmt<W: fmt::Write>(&self, f: &mut fmt::Formatter<W>) -> fmt::Result {
         match self {
             Answer::Time(t) => write!(f, "{t}"),
-            // The least number, which has no opposite, shows as the next.
+            // The least number, which has no opposite, shows as the next. `plan`, `replay` and this each have it: one call of std's.
             Answer::Work(z) => {
                 let work = (*z).max(-i64::MAX);
                 write!(f, "{work}")
@@ -161,7 +171,8 @@ fn print_case(rt: &impl Print, calendar: &Calendar, case: Case) -> io::Result<()
     }
 }
 
-// Each of the next functions says that it ends past its place, unless the file ends there, and within the file: so `run_file` ends.
+// Each function here and below that answers a place promises that it is past the one it is given, unless the file ends there, and within the file: so `run_file`
+// ends. They spell it out, since a name for it would be all that a specs/ of this program had.
 // The file is no sheet, since its calendars have cases between them: they take its bytes and places, where a `Sheet` would be taken.
 
 // The cases that follow a calendar, from their mark on, and where they end.

@@ -20,9 +20,13 @@ weekday d = (d + 1) % 7
 abbrev pub midnight : ℕ → ℕ
 midnight d = d * 1440
 
+-- the signed day of a day so counted, back from `biased`
+abbrev pub unbiased : ℕ → ℤ
+unbiased d = pos d -ℤ pos (2 ^ 31)
+
 -- "A time is a minute; its day is time / 1,440 rounded down": the signed day of a time
 abbrev pub signed_day : ℕ → ℤ
-signed_day t = pos (t / 1440) -ℤ pos (2 ^ 31)
+signed_day t = unbiased (t / 1440)
 
 -- the signed minute of a time
 abbrev pub signed_minute : ℕ → ℤ

@@ -5,7 +5,7 @@ ghost use Rattle.std.specs.Prelude.{◌≡◌, ℕ, ◌+◌, ◌*◌, ◌/◌, �
 ghost use Rattle.number.specs.Zed.{up, dn};
 ghost use Rattle.date.specs.Years.{in_years};
 ghost use Rattle.date.specs.Gregorian.{IsDate};
-ghost use Rattle.date.specs.Days.{biased, from_days, weekday, midnight, signed_day, signed_minute};
+ghost use Rattle.date.specs.Days.{biased, unbiased, from_days, weekday, midnight, signed_day, signed_minute};
 
 mod civil;
 
@@ -41,12 +41,20 @@ pub fn biased(day: i32) -> u64
     (day as i64 + 2147483648) as u64
 }
 
+// The signed day of a day counted so, back from `biased`.
+pub fn unbiased(day: u64) -> i64
+    requires { day < 2 ^ 63 }
+    ensures { (result ≡ unbiased day) × (up result + 2 ^ 31 ≡ dn result + day) }
+{
+    number::sign::difference(2147483648, day)
+}
+
 // The signed day of a time.
 pub fn signed_day(t: u64) -> i64
     requires { t < 2 ^ 63 }
     ensures { (result ≡ signed_day t) × (up result + 2 ^ 31 ≡ dn result + t / 1440) }
 {
-    number::sign::difference(2147483648, t / 1440)
+    unbiased(t / 1440)
 }
 
 // The signed minute of a time.
@@ -59,6 +67,7 @@ pub fn signed_minute(t: u64) -> i64
 
 impl Date {
     // The day `days` from 1 January 1970, whatever its year: a reader judges its days by itself.
+    // A name and no `From`: of two functions from an i32 that would not say which refuses no year.
     pub fn new(days: i32) -> Date
         ensures { result.0 ≡ days }
     {

@@ -75,6 +75,7 @@ pub record Ready (plan : PlanSheet) (tables : Tables) : Type 0 where
   pub standing : Standing (plan_in plan.sheet) tables.kept (state tables)
 
 -- fields 17 to 19 of activities
+-- a clause, and no type's field: it relates the tables, which are written, to the plan
 abbrev pub Recorded : Plan → State → Type 0
 Recorded p S = (i : ℕ) → i < p.activities → Ok (actual_in S i) ≡ recorded p i
 

@@ -2,7 +2,6 @@
 #![tactic(auto)]
 
 ghost use Rattle.std.specs.Prelude.{◌≡◌, ◌+◌, ◌^◌, ◌<◌, Ok};
-ghost use Rattle.number.specs.Zed.{dn};
 ghost use Rattle.calendar.specs.Hours.{worked};
 ghost use Rattle.worktime.specs.Walks.{shift};
 ghost use Rattle.memory.specs.Seen.{state};
@@ -35,6 +34,7 @@ pub struct Tie {
 }
 
 // A start and a finish.
+// That a cell can hold both is a clause of those that store them: `bounds::forward_bound` takes any two, and a type with that fact would ask more.
 #[derive(Clone, Copy)]
 pub struct Span {
     pub start: u64,
@@ -75,7 +75,7 @@ pub fn tie_at(tables: &Tables, t: usize) -> Tie
     }
 }
 
-// What is recorded of activity `i`, from the memory.
+// What is recorded of activity `i`, from the memory: the other way from `Actual::status`, with a field read for each variant, so no `From` of the number.
 pub fn recorded_at(tables: &Tables, i: usize) -> Actual
     requires { i < tables.now.activities }
     ensures { result ≡ actual_in (state tables.now) i }
@@ -151,7 +151,6 @@ pub fn floor_of(sheet: &Sheet) -> u64
 
 // `t` moved by a lag that counts on calendar `k`.
 pub fn shifted(plan: &PlanSheet, k: usize, t: u64, lag: i64) -> Result<u64, ClockError>
-    requires { dn lag < 2 ^ 63 }
     ensures { result ≡ shift (worked ((plan_in plan.now.sheet).hours k)) t lag }
 {
     if lag == 0 {

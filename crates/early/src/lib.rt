@@ -140,7 +140,7 @@ fn work_to(unplaced: &Unplaced, s: u64, expected: Option<Date>) -> Result<u64, C
 {
     match expected {
         Some(x) => {
-            let e = clock::previous_finish(&unplaced.work.calendar, x.midnight() + 1440)?;
+            let e = placing::dates::finish_by_day(&unplaced.work.calendar, x)?;
             let b = placing::bounded(unplaced.times.origin, e)?;
             counted(clock::between(&unplaced.work.calendar, s, b.max(s)))
         }

@@ -5,15 +5,16 @@
 ghost use Rattle.std.specs.Prelude.{◌≡◌, ◌+◌, ◌≤◌, ◌<◌, leb, length};
 ghost use Rattle.number.specs.Bytes.{byte_at, biased_at};
 ghost use Rattle.fields.specs.Parts.{header_days, activity_codes, activity_dates};
-ghost use Rattle.project.specs.Fields.{day_ok, day_or_absent, header_ok, calendar_ok, constraint_ok, activity_ok, link_ok, header_size, calendar_size};
+ghost use Rattle.project.specs.Fields.{day_ok, day_or_absent, header_ok, calendar_ok, constraint_ok, activity_ok, link_ok};
 
-use project::{ActivityRecord, LinkRecord};
+use project::{ActivityRecord, CalendarRecord, LinkRecord, ProjectRecord};
 
 // The first and the last day that a sheet may name, those of the years 1600 to 2999, counted from the first that an i32 can name.
 pub const FIRST_DAY: u64 = 2147348508;
 
 pub const LAST_DAY: u64 = 2147859847;
 
+// `date::in_years` is of the same form with the years that a date may have: each is one comparison with a definition of its own.
 pub fn day_ok(d: u64) -> bool
     ensures { result ≡ day_ok d }
 {
@@ -50,30 +51,30 @@ fn code_ok(sheet: &[u8], at: usize, most: u64) -> bool
     number::byte(sheet, at) <= most
 }
 
-// P: its days, then its codes.
-fn header_days(sheet: &[u8], at: usize) -> bool
-    requires { at + header_size ≤ length sheet.now }
-    ensures { result ≡ header_days sheet.now at }
+// P: its days, then its codes. The tests read the codes and days themselves: the records' getters answer what those mean, where one out of range no longer shows.
+fn header_days(project: &ProjectRecord) -> bool
+    ensures { result ≡ header_days project.now.sheet.now project.now.at }
 {
-    day_at(sheet, at + 1) & day_or_absent_at(sheet, at + 5) & day_or_absent_at(sheet, at + 9)
+    day_at(project.sheet, project.at + 1)
+        & day_or_absent_at(project.sheet, project.at + 5)
+        & day_or_absent_at(project.sheet, project.at + 9)
 }
 
-pub fn header_ok(sheet: &[u8], at: usize) -> bool
-    requires { at + header_size ≤ length sheet.now }
-    ensures { result ≡ header_ok sheet.now at }
+pub fn header_ok(project: &ProjectRecord) -> bool
+    ensures { result ≡ header_ok project.now.sheet.now project.now.at }
 {
-    header_days(sheet, at)
-        & code_ok(sheet, at + 13, 3)
-        & code_ok(sheet, at + 14, 2)
-        & code_ok(sheet, at + 15, 1)
-        & code_ok(sheet, at + 16, 1)
+    header_days(project)
+        & code_ok(project.sheet, project.at + 13, 3)
+        & code_ok(project.sheet, project.at + 14, 2)
+        & code_ok(project.sheet, project.at + 15, 1)
+        & code_ok(project.sheet, project.at + 16, 1)
 }
 
-pub fn calendar_ok(sheet: &[u8], at: usize) -> bool
-    requires { at + calendar_size ≤ length sheet.now }
-    ensures { result ≡ calendar_ok sheet.now at }
+// C: its day length, which the record gives as it stands.
+pub fn calendar_ok(calendar: &CalendarRecord) -> bool
+    ensures { result ≡ calendar_ok calendar.now.sheet.now calendar.now.at }
 {
-    number::read_u16(sheet, at + 1) <= 1440
+    calendar.day_length() <= 1440
 }
 
 // A constraint: its kind, then its day, which kinds 0 and 9 leave unread.
@@ -85,8 +86,7 @@ pub fn constraint_ok(sheet: &[u8], at: usize) -> bool
     (kind == 0) | (kind == 9) | ((kind < 9) & day_at(sheet, at + 1))
 }
 
-// A: its id, its kind, and its minutes, which are 0 for a milestone. The tests read the codes and days themselves: ActivityRecord's and LinkRecord's getters
-// answer what those mean, where one out of range no longer shows.
+// A: its id, its kind, and its minutes, which are 0 for a milestone.
 fn activity_codes(activity: &ActivityRecord) -> bool
     ensures { result ≡ activity_codes activity.now.sheet.now activity.now.at }
 {

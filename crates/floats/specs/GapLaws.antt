@@ -88,6 +88,11 @@ module _ {plan : PlanSheet} {tables : Tables} (R : Ready plan tables) where
       let y : es ≡ d.es i = g ∙ sym (es_at p S i b) in
       record { start_is = h p ∙ (λ z. begun p (x z) (y z)); finish_is = m ∙ sym (ef_at p S i b) }
 
+  pub from_counted : (i : ℕ) → i < plan.sheet.contents.activities → (start ef : ℕ) → start ≡ begun p (recorded p i) (d.es i) → ef ≡ S.act early_finish i → From p d i start ef
+  from_counted i l start ef f m =
+      let b : i < p.activities = omega (arith, activities_are plan.sheet.bytes.now plan.sheet.contents) in
+      record { start_is = f; finish_is = m ∙ sym (ef_at p S i b) }
+
   -- ---- the walk along the links out of i: ks are left, and `least` is the least so far
   module _ (i : ℕ) (slack : ℤ) where
     abbrev pub Slack : ℤ → List ℕ → Type 0

@@ -1,5 +1,5 @@
 -- What is stored of an activity's free float and held late move, as the definition has it.
-use Rattle.std.specs.Prelude.{◌≡◌, refl, Bool, true, false, ◌&&◌, ℕ, ◌≤◌, ◌<◌, pos, Result, Ok, Err}
+use Rattle.std.specs.Prelude.{◌≡◌, refl, Bool, true, false, ◌&&◌, ℕ, ◌<◌, pos, Result, Ok, Err}
 use Rattle.dates.specs.declared.Span.{Span}
 use Rattle.floats.specs.Slack.{moved_to}
 use Rattle.worktime.specs.declared.ClockError.{ClockError}
@@ -16,8 +16,6 @@ use Rattle.topology.specs.Frame.{Frame}
 use Rattle.topology.specs.FrameLaws.{frame_then, frame_put}
 use Rattle.order.specs.Plan.{Plan}
 use Rattle.order.specs.Ids.{summary}
-use Rattle.number.specs.Bit.{bit}
-use Rattle.number.specs.BitLaws.{mark_none, mark_some}
 use Rattle.passes.specs.Plan.{own, kind_of, origin, recorded}
 use Rattle.passes.specs.Dates.{Early, leaves, refused, put}
 use Rattle.passes.specs.Forward.{early}
@@ -67,7 +65,7 @@ stored_frame S i s f =
     (frame_then 12 16 0 0 (frame_put 12 16 0 0 early_finish (omega arith) (omega arith) (put_act S early_start i s) i (pos f))
     (frame_put 12 16 0 0 free_float (omega arith) (omega arith) (put_act (put_act S early_start i s) early_finish i f) i (pos 0)))
 
--- ---- the ways of whether activity i is moved by n minutes; `cell` is the mark of a summary
+-- ---- the ways of whether activity i is moved by n minutes
 and_false : (b : Bool) → b && false ≡ false
 and_false true = refl
 and_false false = refl
@@ -80,18 +78,17 @@ module _ (p : Plan) (d : Early) (i n : ℕ) where
   pub unmoved_none : n ≡ 0 → false ≡ (holds_late p d i && ltb 0 n)
   unmoved_none z = let e : ltb 0 n ≡ false = le-ltb 0 n (omega arith) in sym (ap (λ (b : Bool). holds_late p d i && b) e ∙ and_false (holds_late p d i))
 
-  pub unmoved_summary : (cell : ℕ) → cell ≡ bit (summary p i) → 0 < cell → false ≡ (holds_late p d i && ltb 0 n)
-  unmoved_summary cell b l =
-      sym (ap (λ (x : Bool). x && ltb 0 n) (holds_late_summary p d i (mark_some (summary p i) b (λ z. omega arith))))
+  pub unmoved_summary : summary p i ≡ true → false ≡ (holds_late p d i && ltb 0 n)
+  unmoved_summary s = sym (ap (λ (x : Bool). x && ltb 0 n) (holds_late_summary p d i s))
 
-  pub moved_by_mark : (cell : ℕ) → cell ≡ bit (summary p i) → cell ≤ 0 → (n ≡ 0 → ⊥) → (actual : Result Actual ClockError) → actual ≡ recorded p i
+  pub moved_by_mark : summary p i ≡ false → (n ≡ 0 → ⊥) → (actual : Result Actual ClockError) → actual ≡ recorded p i
       → (activity : Activity) → activity ≡ p.activity i
       → marked_late p d actual activity.constraint activity.secondary_constraint ≡ (holds_late p d i && ltb 0 n)
-  moved_by_mark cell b l z actual r activity q =
+  moved_by_mark s z actual r activity q =
       let e : ltb 0 n ≡ true = lt-ltb 0 n (omega (arith, z)) in
       (λ y. marked_late p d (r y) (q y).constraint (q y).secondary_constraint)
       ∙ sym
-      (ap (λ (x : Bool). holds_late p d i && x) e ∙ and_true (holds_late p d i) ∙ holds_late_else p d i (mark_none (summary p i) b (omega arith)))
+      (ap (λ (x : Bool). holds_late p d i && x) e ∙ and_true (holds_late p d i) ∙ holds_late_else p d i s)
 
 -- ---- the ways of what becomes of a free float of n minutes
 module _ (p : Plan) (S : State) (i n : ℕ) where

@@ -83,7 +83,7 @@ fn held_move(work: &Work, early: Span, free: u64) -> Result<Span, ClockError>
 }
 
 // The field with the end of a link's successor that the link leads to.
-// `late::links::target` picks from two times that were walked to: here the one field is read, where a pick of both dates would read a field more at each link.
+// `late::links::target` picks from two times that were walked to; here a field is picked, which is all that is read.
 fn target_field(kind: RelationshipType) -> usize
     ensures { ((p : Plan) → result ≡ target_of p kind early_start early_finish) × (result < 64) }
 {
@@ -111,7 +111,7 @@ fn gap_at(
 }
 
 // The least of `slack` and of what stands before each successor of activity `i`.
-// `InPlan` stands here and at its callers: it relates the calendar to the plan and to the place `i`, which a type of the calendar would have to hold too.
+// `InPlan` is a clause, here and at its callers: a type of calendar that kept it would hold the sheet and a number, too, and be made anew at each activity.
 fn least_slack(
     plan: &PlanSheet,
     tables: &Tables,
@@ -142,12 +142,8 @@ fn slack_of(
     requires { Lent plan.now tables.now × (i < plan.now.sheet.contents.activities) × InPlan plan.now.sheet (calendar_of (plan_in plan.now.sheet) i) calendar.now }
     ensures { result ≡ slack_of (plan_in plan.now.sheet) (early_in (plan_in plan.now.sheet) (state tables.now)) finish i }
 {
-    let recorded = dates::recorded_at(tables, i);
-    let es = tables.act(i, memory::fields::EARLY_START);
-    let start = dates::begun_at(recorded, es);
-    let ef = tables.act(i, memory::fields::EARLY_FINISH);
-    let slack = clock::between(calendar, ef, finish)?;
-    let from = Span { start, finish: ef };
+    let from = bounds::counted_from(tables, i);
+    let slack = clock::between(calendar, from.finish, finish)?;
     least_slack(plan, tables, i, from, calendar, slack)
 }
 
@@ -178,7 +174,7 @@ fn is_moved(tables: &Tables, i: usize, activity: &Activity, free: u64) -> bool
     if free == 0 {
         return false;
     }
-    if tables.act(i, memory::fields::IS_SUMMARY) > 0 {
+    if tables.is_summary(i) {
         return false;
     }
     let recorded = dates::recorded_at(tables, i);
@@ -186,6 +182,7 @@ fn is_moved(tables: &Tables, i: usize, activity: &Activity, free: u64) -> bool
 }
 
 // Stores the dates of a held late move, whose free float is used up.
+// It, `forward::store` and `backward::store_late` write fields of their own, each as one definition has it: one function would take the fields, and a third value or none.
 fn store_move(tables: &mut Tables, i: usize, moved: Span)
     requires { (i < tables.old.activities) × (moved.start < 2 ^ 63) × (moved.finish < 2 ^ 63) }
     ensures { (state tables.new ≡ stored (state tables.old) i moved.start moved.finish) × SameSlice tables.old tables.new }
@@ -200,9 +197,8 @@ fn hold_late(tables: &mut Tables, i: usize, work: &Work, free: u64) -> Result<()
     requires { i < tables.old.activities }
     ensures { ((p : Plan) → p.activities ≡ tables.old.activities → InHand p (early_in p (state tables.old)) i work.now → ended (freed_in p (state tables.new)) result ≡ held_move p (early_in p (state tables.old)) i free (free_in p (state tables.old))) × Frame 12 16 0 0 (state tables.old) (state tables.new) × SameSlice tables.old tables.new }
 {
-    let start = tables.act(i, memory::fields::EARLY_START);
-    let finish = tables.act(i, memory::fields::EARLY_FINISH);
-    let moved = held_move(work, Span { start, finish }, free)?;
+    let early = bounds::early_at(tables, i);
+    let moved = held_move(work, early, free)?;
     store_move(tables, i, moved);
     Ok(())
 }

@@ -1,5 +1,5 @@
 -- The walk along the links into an activity, as a loop takes it; and whether the activity is a summary.
-use Rattle.std.specs.Prelude.{◌≡◌, List, [], ◌∷◌, ℕ, ◌-◌, ◌<◌, max, ltb, Result, Ok, Err}
+use Rattle.std.specs.Prelude.{◌≡◌, Bool, List, [], ◌∷◌, ℕ, ◌-◌, ◌<◌, max, ltb, Result, Ok, Err}
 use Rattle.worktime.specs.declared.ClockError.{ClockError}
 use Rattle.std.proofs.Common.{sym, ap, ◌∙◌, arith}
 use Rattle.number.specs.BitLaws.{mark_flag}
@@ -65,5 +65,5 @@ module _ (plan : PlanSheet) (tables : Tables) (i floor : ℕ) where
       within : i < (plan_in plan.sheet).activities
       within = omega (arith, activities_are plan.sheet.bytes.now plan.sheet.contents)
 
-      pub flag_is : (mark : ℕ) → mark ≡ seen.act is_summary i → ltb 0 mark ≡ summary (plan_in plan.sheet) i
-      flag_is mark e = mark_flag (summary (plan_in plan.sheet) i) (e ∙ R.standing.marks i within)
+      pub flag_is : {b : Bool} → b ≡ ltb 0 (seen.act is_summary i) → b ≡ summary (plan_in plan.sheet) i
+      flag_is e = e ∙ mark_flag (summary (plan_in plan.sheet) i) (R.standing.marks i within)

@@ -16,7 +16,7 @@ ghost use Rattle.dates.specs.Columns.{early_in, left_in, ended};
 ghost use Rattle.dates.specs.Standing.{Lent};
 ghost use Rattle.dates.specs.InHand.{InHand};
 ghost use Rattle.early.specs.InHand.{placed_as};
-ghost use Rattle.forward.specs.Linked.{after_links, Settled};
+ghost use Rattle.forward.specs.Linked.{after_links};
 
 use calendars::PlanSheet;
 use dates::step::Step;
@@ -25,17 +25,8 @@ use memory::Tables;
 use placing::{Actual, Work};
 use worktime::ClockError;
 
-// The start that the kept link in row `k` leaves its successor, whose dates are found.
-fn link_start(plan: &PlanSheet, tables: &Tables, k: usize, work: &Work) -> Result<u64, ClockError>
-    requires { Lent plan.now tables.now × (k < tables.now.kept) }
-    ensures { (i : ℕ) → InHand (plan_in plan.now.sheet) (early_in (plan_in plan.now.sheet) (state tables.now)) i work.now → result ≡ link_start (plan_in plan.now.sheet) (early_in (plan_in plan.now.sheet) (state tables.now)) i k }
-{
-    let b = bounds::link_bound(plan, tables, k)?;
-    let tie = dates::tie_at(tables, k);
-    bounds::start_for(work, tie.kind, b)
-}
-
-// `start`, raised by that start.
+// `start`, raised by the start that the kept link in row `k` leaves its successor.
+// `early::raised_to` raises a walk's answer in the same line; to call it would take as much.
 fn raised_by(
     plan: &PlanSheet,
     tables: &Tables,
@@ -46,11 +37,12 @@ fn raised_by(
     requires { Lent plan.now tables.now × (k < tables.now.kept) }
     ensures { (i : ℕ) → InHand (plan_in plan.now.sheet) (early_in (plan_in plan.now.sheet) (state tables.now)) i work.now → result ≡ via Err (link_start (plan_in plan.now.sheet) (early_in (plan_in plan.now.sheet) (state tables.now)) i k) (λ s. Ok (max start s)) }
 {
-    link_start(plan, tables, k, work).map(|s| start.max(s))
+    bounds::start_by_link(plan, tables, work, k).map(|s| start.max(s))
 }
 
 // `floor`, raised by each kept link into activity `i`, in rising order.
-// `InHand` relates the work to the plan, to the tables and to the place `i`, which a type of the work would have to hold too.
+// `InHand` is a clause: a type of work that kept it would hold plan, tables and `i`, too, and be made anew at each activity.
+// `late::links::lower` and `floats::least_slack` are such walks along a chain, a `for` and a `?` each: one function over the step would be as long.
 fn raise(
     plan: &PlanSheet,
     tables: &Tables,
@@ -80,7 +72,7 @@ fn early_of(
 {
     let unplaced = Unplaced {
         work: dates::work_of(plan, tables, i),
-        is_summary: tables.act(i, memory::fields::IS_SUMMARY) > 0,
+        is_summary: tables.is_summary(i),
         times: early::times_of(&plan.sheet),
     };
     let start = raise(plan, tables, i, &unplaced.work, unplaced.times.floor)?;
@@ -95,20 +87,6 @@ fn store(tables: &mut Tables, i: usize, placed: Placement)
     tables.put_act(i, memory::fields::EARLY_START, placed.start);
     tables.put_act(i, memory::fields::EARLY_FINISH, placed.finish);
     tables.put_act(i, memory::fields::WORK_LEFT, placed.left);
-}
-
-// Stores what was found, unless a walk was refused.
-fn settle(
-    tables: &mut Tables,
-    i: usize,
-    placement: Result<Placement, ClockError>,
-) -> Result<(), ClockError>
-    requires { i < tables.old.activities }
-    ensures { Settled i placement (state tables.old) (state tables.new) result × SameSlice tables.old tables.new }
-{
-    let placed = placement?;
-    store(tables, i, placed);
-    Ok(())
 }
 
 // The pass's step: completed work stays where it happened.
@@ -134,8 +112,9 @@ impl Step for Forward {
         let recorded = dates::recorded_at(tables, i);
         match recorded {
             Actual::Unstarted | Actual::Begun(_) => {
-                let placement = early_of(plan, tables, i, recorded);
-                settle(tables, i, placement)
+                let placed = early_of(plan, tables, i, recorded)?;
+                store(tables, i, placed);
+                Ok(())
             }
             Actual::Completed(start, finish) => {
                 let left = tables.act(i, memory::fields::WORK_LEFT);

@@ -17,9 +17,9 @@ module _ (parent : ℕ → ℕ) (n i : ℕ) where
     pub is : up ≡ climb parent k i
     pub left : steps_back parent (n + 1 - k) k i ≡ loop_steps parent n i
 
-  above_some : (up : ℕ) → up ≢ 0 → above parent up ≡ parent (up - 1)
+  above_some : (j : ℕ) → above parent (j + 1) ≡ parent j
   unfolding above
-  above_some up h = let e : up ≡ suc (up - 1) = omega arith in ap (above parent) e
+  above_some j = ap (above parent) (add-one j)
 
   climb_one : climb parent 1 i ≡ parent i
   unfolding climb above
@@ -40,15 +40,16 @@ module _ (parent : ℕ → ℕ) (n i : ℕ) where
     pub climb_none : up ≡ 0 → 0 ≡ loop_steps parent n i
     climb_none z = sym (steps_none parent n i (n + 1 - k) k (sym C.is ∙ z)) ∙ C.left
 
-    pub climb_back : k ≤ n → up ≡ i + 1 → k ≡ loop_steps parent n i
-    climb_back l e = sym (steps_hit parent n i k l (sym C.is ∙ e ∙ add-one i)) ∙ C.left
+    module _ (j : ℕ) (at : up ≡ j + 1) where
+      pub climb_back : k ≤ n → j ≡ i → k ≡ loop_steps parent n i
+      climb_back l e = sym (steps_hit parent n i k l (omega (arith, C.is))) ∙ C.left
 
-    pub climb_turn : ((j : ℕ) → j < n → parent j ≤ n) → k ≤ n → up ≢ 0 → up ≢ i + 1 → (next : ℕ) → next ≡ parent (up - 1) → Climb next (k + 1)
-    climb_turn within l some other next e = record {
-      low = omega (arith, within (up - 1) (omega (arith, C.low)));
-      is = e ∙ sym (above_some up some) ∙ ap (above parent) C.is ∙ sym (climb_more k);
-      left = sym (steps_miss parent n i k l (λ q. other (C.is ∙ q ∙ sym (add-one i)))) ∙ C.left;
-    }
+      pub climb_turn : ((j : ℕ) → j < n → parent j ≤ n) → k ≤ n → j ≢ i → (next : ℕ) → next ≡ parent j → Climb next (k + 1)
+      climb_turn within l other next e = record {
+        low = omega (arith, within j (omega (arith, C.low)));
+        is = e ∙ sym (above_some j) ∙ ap (above parent) (sym at ∙ C.is) ∙ sym (climb_more k);
+        left = sym (steps_miss parent n i k l (λ q. other (omega (arith, C.is)))) ∙ C.left;
+      }
 
     pub climb_end : n < k → 0 ≡ loop_steps parent n i
     climb_end l = sym (steps_end parent n i k l) ∙ C.left

@@ -1,5 +1,5 @@
 -- Rows 11 and 12 by the ways of the code, and what follows where rows 6 to 10 are fine.
-use Rattle.std.specs.Prelude.{◌≡◌, Bool, true, false, ◌&&◌, ◌≢◌, ℕ, ◌+◌, ◌-◌, ◌≤◌, ◌<◌, Ok, Err}
+use Rattle.std.specs.Prelude.{◌≡◌, Bool, true, false, ◌&&◌, ◌≢◌, ℕ, ◌+◌, ◌-◌, ◌≤◌, ◌<◌, ltb, Ok, Err}
 use Rattle.std.proofs.Common.{sym, ap, ◌∙◌, arith}
 use Rattle.memory.specs.State.{State}
 use Rattle.memory.specs.Fields.{parent, is_summary}
@@ -19,7 +19,7 @@ use Rattle.ids.specs.declared.SummaryError.TheVariants.{Milestone, Loop}
 use Rattle.ids.specs.Answers.{Answered}
 use Rattle.ids.specs.AnswerLaws.{fine_number}
 use Rattle.number.specs.Bit.{bit}
-use Rattle.number.specs.BitLaws.{mark_none, mark_some}
+use Rattle.number.specs.BitLaws.{mark_flag}
 use Rattle.ids.specs.Parented.{Parented}
 use Rattle.ids.specs.Summaries.{SummaryAnswered}
 use Rattle.ids.specs.ClimbSteps.{loop_steps_same}
@@ -42,12 +42,15 @@ module _ (p : Plan) where
     unfolding summary
     marks_summary i l = P.marks i l
 
-    module _ (i : ℕ) (l : i < p.activities) (mark : ℕ) (e : mark ≡ S.act is_summary i) where
-      pub no_summary : mark ≡ 0 → false ≡ milestone_parent i
-      no_summary z = let q = mark_none (summary p i) (e ∙ marks_summary i l) z in rw q
+    module _ (i : ℕ) (l : i < p.activities) (mark : Bool) (e : mark ≡ ltb 0 (S.act is_summary i)) where
+      pub is_marked : mark ≡ summary p i
+      is_marked = e ∙ mark_flag (summary p i) (marks_summary i l)
 
-      pub summary_kind : mark ≢ 0 → is_milestone (p.activity i).kind ≡ milestone_parent i
-      summary_kind n = let q = mark_some (summary p i) (e ∙ marks_summary i l) n in rw q
+      pub no_summary : mark ≡ false → mark ≡ milestone_parent i
+      no_summary z = let q = sym is_marked ∙ z in rw q z
+
+      pub summary_kind : mark ≡ true → is_milestone (p.activity i).kind ≡ milestone_parent i
+      summary_kind t = let q = sym is_marked ∙ t in rw q
 
     module _ (K : ParentsKnown p) where
       pub parents_within : (j : ℕ) → j < p.activities → S.act parent j ≤ p.activities

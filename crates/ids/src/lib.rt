@@ -44,14 +44,13 @@ fn seek(sheet: &Sheet, tables: &Tables, n: usize, id: u64) -> Result<usize, Vaca
 {
     let a = sheet.contents.activities;
     let tree = id as usize % a;
-    let first = tables.act(tree, memory::fields::ROOT) as usize;
-    if first == 0 {
+    let Some(first) = tables.row(tree, memory::fields::ROOT) else {
         return Err(Vacancy {
             parent: tree,
             side: memory::fields::ROOT,
         });
-    }
-    let mut j = first - 1;
+    };
+    let mut j = first;
     let mut rest = id / a as u64;
     // No iterator: the way down ends with the place at which it stood, which an iterator does not give.
     loop {
@@ -60,11 +59,10 @@ fn seek(sheet: &Sheet, tables: &Tables, n: usize, id: u64) -> Result<usize, Vaca
         }
         // `LOW_CHILD` is field 0 and `HIGH_CHILD` field 1: the bit is the field.
         let side = rest as usize % 2;
-        let k = tables.act(j, side) as usize;
-        if k == 0 {
+        let Some(k) = tables.row(j, side) else {
             return Err(Vacancy { parent: j, side });
-        }
-        j = k - 1;
+        };
+        j = k;
         rest = rest / 2;
     }
 }
@@ -109,9 +107,9 @@ fn index_one(sheet: &Sheet, tables: &mut Tables, i: usize) -> Result<(), PlanErr
     ensures { Answered result (judge_activity (plan_in sheet.now) i) × IndexedBy (plan_in sheet.now) (i + 1) (state tables.old) (state tables.new) result × SameSlice tables.old tables.new }
 {
     let vacancy = judge_activity(sheet, tables, i)?;
-    tables.put_act(i, memory::fields::LOW_CHILD, 0);
-    tables.put_act(i, memory::fields::HIGH_CHILD, 0);
-    tables.put_act(vacancy.parent, vacancy.side, i as u64 + 1);
+    tables.put_row(i, memory::fields::LOW_CHILD, None);
+    tables.put_row(i, memory::fields::HIGH_CHILD, None);
+    tables.put_row(vacancy.parent, vacancy.side, Some(i));
     Ok(())
 }
 
@@ -136,13 +134,13 @@ fn parent_one(sheet: &Sheet, tables: &mut Tables, i: usize) -> Result<(), PlanEr
     let a = sheet.contents.activities;
     let id = sheet.activity(i).parent();
     if id == 0 {
-        tables.put_act(i, memory::fields::PARENT, 0);
+        tables.put_row(i, memory::fields::PARENT, None);
         return Ok(());
     }
     let Some(j) = find(sheet, tables, a, id) else {
         return Err(PlanError::UnknownParent(sheet.activity(i).id()));
     };
-    tables.put_act(i, memory::fields::PARENT, j as u64 + 1);
+    tables.put_row(i, memory::fields::PARENT, Some(j));
     tables.put_act(j, memory::fields::IS_SUMMARY, 1);
     Ok(())
 }
@@ -165,15 +163,13 @@ pub fn parent_loop_steps(tables: &Tables, i: usize) -> Option<usize>
     ensures { (unwrap_or result 0 ≡ loop_steps ((state tables.now).act parent) tables.now.activities i) × IfSome result (λ k. (0 < k) × (k ≤ tables.now.activities)) }
 {
     // No iterator over the activities above: they may lead around without end, and an iterator is seen as a list, which ends.
-    let mut up = tables.act(i, memory::fields::PARENT) as usize;
+    let mut up = tables.row(i, memory::fields::PARENT);
     for k in 1..tables.activities + 1 {
-        if up == 0 {
-            return None;
-        }
-        if up == i + 1 {
+        let j = up?;
+        if j == i {
             return Some(k);
         }
-        up = tables.act(up - 1, memory::fields::PARENT) as usize;
+        up = tables.row(j, memory::fields::PARENT);
     }
     None
 }
@@ -183,10 +179,7 @@ fn is_milestone_parent(sheet: &Sheet, tables: &Tables, i: usize) -> bool
     requires { Lent sheet.now tables.now × (i < sheet.now.contents.activities) × Parented (plan_in sheet.now) (state tables.now) sheet.now.contents.activities }
     ensures { result ≡ (summary (plan_in sheet.now) i && is_milestone ((plan_in sheet.now).activity i).kind) }
 {
-    if tables.act(i, memory::fields::IS_SUMMARY) == 0 {
-        return false;
-    }
-    project::is_milestone(sheet.activity(i).kind())
+    project::is_milestone(sheet.activity(i).kind()) && tables.is_summary(i)
 }
 
 // Rows 11 and 12 for activity `i`.

@@ -3,11 +3,10 @@
 
 ghost use Rattle.std.specs.Prelude.{◌≡◌, ◌+◌, ◌*◌, ◌≤◌, length};
 ghost use Rattle.calendar.specs.Records.{week_periods};
-ghost use Rattle.project.specs.Fields.{calendar_size};
 ghost use Rattle.judges.specs.Judging.{sheet_number, judged, judge_calendar, period_ok, week_after, judge_week, no_work, exception_after, judge_exception, judge_activity, judge_link};
 
 use calendar::Period;
-use project::{ActivityRecord, LinkRecord};
+use project::{ActivityRecord, CalendarRecord, LinkRecord};
 
 // Why a sheet is refused.
 #[derive(Clone, Copy, Debug, PartialEq, Eq)]
@@ -21,7 +20,7 @@ pub enum SheetError {
 }
 
 impl SheetError {
-    // Its row in 01's table.
+    // Its row in 01's table; a method, as `order::PlanError` has one.
     pub fn number(self) -> u64
         ensures { (result ≡ sheet_number self) × (result ≤ 4) }
     {
@@ -45,12 +44,11 @@ fn verdict(beyond: bool, ok: bool) -> Result<(), SheetError>
     Err(SheetError::OutOfRange)
 }
 
-// C number `k`, at a place.
-pub fn judge_calendar(sheet: &[u8], at: usize, k: usize) -> Result<(), SheetError>
-    requires { at + calendar_size ≤ length sheet.now }
-    ensures { result ≡ judge_calendar sheet.now at k }
+// C number `k`.
+pub fn judge_calendar(calendar: &CalendarRecord, k: usize) -> Result<(), SheetError>
+    ensures { result ≡ judge_calendar calendar.now.sheet.now calendar.now.at k }
 {
-    verdict(15 <= k, fields::calendar_ok(sheet, at))
+    verdict(15 <= k, fields::calendar_ok(calendar))
 }
 
 fn period_ok(p: Period) -> bool
@@ -135,6 +133,7 @@ pub fn judge_exception(sheet: &[u8], at: usize, i: usize) -> Result<(), SheetErr
     )
 }
 
+// `judge_link` is of the same form, over another record: a trait of the two with its laws would be longer than both.
 pub fn judge_activity(sheet: &[u8], at: usize, i: usize) -> Result<(), SheetError>
     requires { at + 45 * i + 45 ≤ length sheet.now }
     ensures { result ≡ judge_activity sheet.now at i }

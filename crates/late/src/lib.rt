@@ -75,9 +75,8 @@ pub fn late_of(
         work: dates::work_of(plan, tables, i),
         origin: dates::origin_of(&plan.sheet),
     };
-    let mark = tables.act(i, memory::fields::IS_SUMMARY);
     let early = tables.act(i, memory::fields::EARLY_FINISH);
     let f = links::lower(plan, tables, &unfinished, i, last)?;
-    let g = limits::hold_late(&unfinished, mark == 1, actual, f)?;
+    let g = limits::hold_late(&unfinished, tables.is_summary(i), actual, f)?;
     place_late(&unfinished, early, g)
 }

@@ -23,6 +23,7 @@ fn start_limit(work: &Work, t: u64, latest: u64) -> Result<u64, ClockError>
 }
 
 // What a constraint whose time is `t` leaves of `latest`.
+// It and `hold_late` mirror `early::at_early` and `held`: other constraints bind there, and by other walks.
 fn limit_at(work: &Work, constraint: Constraint, t: u64, latest: u64) -> Result<u64, ClockError>
     ensures { (p : Plan) (d : Early) (l : Late) (i : ℕ) → InHand p d i work.now → result ≡ at_late p d l i (Some constraint) t latest }
 {

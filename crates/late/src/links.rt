@@ -62,6 +62,7 @@ fn target(kind: RelationshipType, times: Span) -> u64
 }
 
 // The finish that a link's bound `v` leaves: a bound on the start counts on.
+// It mirrors `bounds::start_for` by another test and another walk.
 fn finish_by(work: &Work, kind: RelationshipType, v: u64) -> Result<u64, ClockError>
     ensures { result ≡ finish_by (worked_by work.now.calendar) work.now.left kind v }
 {

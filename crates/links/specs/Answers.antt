@@ -18,15 +18,6 @@ use Rattle.calendars.specs.Calendars.{Lengths}
 use Rattle.links.specs.Stored.{tie_in, Stored}
 use Rattle.sheet.specs.declared.value.Sheet.{Sheet}
 
--- what a link's checks are lent: rows 6 to 12 are fine, and the memory has the index of ids, parents and summaries
-pub record Judging (sheet : Sheet) (calendars : List PlanCalendar) (t : Tables) : Type 0 where
-  pub lent : Lent sheet t
-  pub distinct : DistinctIds (plan_in sheet)
-  pub indexed : Indexed (plan_in sheet) (state t) sheet.contents.activities
-  pub parented : Parented (plan_in sheet) (state t) sheet.contents.activities
-  pub activities : ActivitiesFine (plan_in sheet)
-  pub lengths_are : Lengths (plan_in sheet) calendars
-
 -- T has the activities of S
 pub record ActsKept (S T : State) : Type 0 where
   pub acts : T.act ≡ S.act

@@ -21,7 +21,8 @@ use Rattle.order.specs.VerdictLaws.{first_start, first_end, first_passes, first_
 use Rattle.ids.specs.Index.{Indexed}
 use Rattle.ids.specs.Parented.{Parented}
 use Rattle.links.specs.Stored.{tie_in}
-use Rattle.links.specs.Answers.{Judging, ActsKept, LinkIgnored, LinkKept, LinkedOne, LinksIn, LinkedAll}
+use Rattle.ties.specs.Judging.{Judging}
+use Rattle.links.specs.Answers.{ActsKept, LinkIgnored, LinkKept, LinkedOne, LinksIn, LinkedAll}
 use Rattle.sheet.specs.declared.value.Sheet.{Sheet}
 
 -- ---- where the activities' fields stay

@@ -4,16 +4,14 @@
 ghost use Rattle.std.specs.Prelude.{◌≡◌, false, ◌+◌, ◌≤◌, ◌<◌, length};
 ghost use Rattle.memory.specs.Seen.{state, SameLent};
 ghost use Rattle.order.specs.Plan.{plan_in};
-ghost use Rattle.order.specs.IdLaws.{DistinctIds};
 ghost use Rattle.order.specs.FineLaws.{ActivitiesFine};
 ghost use Rattle.order.specs.Ties.{tie_calendar, tie_too_long, tie_of};
-ghost use Rattle.ids.specs.Index.{Indexed};
-ghost use Rattle.ids.specs.Parented.{Parented};
 ghost use Rattle.ids.specs.Lent.{Lent};
 ghost use Rattle.ties.specs.Ends.{Between};
 ghost use Rattle.calendars.specs.Calendars.{Lengths};
 ghost use Rattle.links.specs.Stored.{Stored};
-ghost use Rattle.links.specs.Answers.{Judging, LinkedOne, LinkedAll, ActsKept};
+ghost use Rattle.ties.specs.Judging.{Judging};
+ghost use Rattle.links.specs.Answers.{LinkedOne, LinkedAll, ActsKept};
 
 use calendars::PlanCalendar;
 use memory::{KeptLink, Tables};
@@ -26,9 +24,7 @@ fn tie_lag(sheet: &Sheet, calendars: &[PlanCalendar], k: usize, ends: Link, cale
     requires { (k < sheet.now.contents.links) × ActivitiesFine (plan_in sheet.now) × Lengths (plan_in sheet.now) calendars.now × Between (plan_in sheet.now) k ends.from ends.to × (tie_too_long (plan_in sheet.now) k ≡ false) × (calendar ≡ tie_calendar (plan_in sheet.now) k) × (calendar ≤ sheet.now.contents.calendars) }
     ensures { result ≡ (tie_of (plan_in sheet.now) k).lag }
 {
-    let lag = sheet.link(k).lag();
-    let minutes = sheet.activity(ends.from).minutes();
-    ties::lags::lag_minutes(lag, calendars[calendar as usize].day_length, minutes as i64)
+    ties::lag_of(sheet, calendars, k, ends, calendar).minutes()
 }
 
 // Puts link `k` into the table of the kept links.
@@ -48,6 +44,7 @@ fn store_tie(sheet: &Sheet, calendars: &[PlanCalendar], tables: &mut Tables, k: 
 }
 
 // Judges link `k`, where so many are ignored before it: a kept link is stored, an ignored one is named. Answers how many are ignored then.
+// `names` is the caller's slice, which C lends: how many it holds is what the call answers.
 fn link_one(
     sheet: &Sheet,
     calendars: &[PlanCalendar],
@@ -74,7 +71,7 @@ pub fn link_all(
     names: &mut [u32],
     tables: &mut Tables,
 ) -> Result<usize, PlanError>
-    requires { Lent sheet.now tables.old × DistinctIds (plan_in sheet.now) × Indexed (plan_in sheet.now) (state tables.old) sheet.now.contents.activities × Parented (plan_in sheet.now) (state tables.old) sheet.now.contents.activities × ActivitiesFine (plan_in sheet.now) × Lengths (plan_in sheet.now) calendars.now × (sheet.now.contents.links ≤ length names.old) }
+    requires { Judging sheet.now calendars.now tables.old × (sheet.now.contents.links ≤ length names.old) }
     ensures { LinkedAll (plan_in sheet.now) tables.new names.old names.new result × ActsKept (state tables.old) (state tables.new) × SameLent tables.old tables.new × (length names.new ≡ length names.old) }
 {
     tables.keep(0);

@@ -9,7 +9,7 @@ use Rattle.placing.proofs.PlacingLaws.{via_at, via_refused}
 use Rattle.order.specs.Plan.{Plan}
 use Rattle.passes.specs.Plan.{own, tie, kind_of, recorded}
 use Rattle.passes.specs.Dates.{Early, Pass, refused}
-use Rattle.passes.specs.Forward.{link_bound, start_for}
+use Rattle.passes.specs.Forward.{link_bound, link_start, start_for}
 use Rattle.passes.specs.Floats.{is_completed, drives}
 use Rattle.longest.specs.Path.{bound_start}
 
@@ -38,6 +38,20 @@ module _ (p : Plan) (d : Early) (i t : ℕ) where
 
     pub start_placed : (s : ℕ) → y ≡ Ok s → bound_start p d i t ≡ place_start (own p i) (kind_of p i) s
     start_placed s h = from_bound ∙ via_at Err y (place_start (own p i) (kind_of p i)) s h
+
+  -- the same from the start that the link leaves i
+  module _ (x : Result ℕ ClockError) (e : x ≡ link_start p d i t) where
+    from_link : bound_start p d i t ≡ via Err x (place_start (own p i) (kind_of p i))
+    unfolding bound_start
+    from_link =
+        sym (via_via Err (link_bound p d t) (start_for p i (d.left i) (tie p t).kind) (place_start (own p i) (kind_of p i)))
+        ∙ ap (λ (y : Result ℕ ClockError). via Err y (place_start (own p i) (kind_of p i))) (sym e)
+
+    pub start_refused_by_link : (k : ClockError) → x ≡ Err k → bound_start p d i t ≡ Err k
+    start_refused_by_link k h = from_link ∙ via_refused Err x (place_start (own p i) (kind_of p i)) k h
+
+    pub start_placed_by_link : (s : ℕ) → x ≡ Ok s → bound_start p d i t ≡ place_start (own p i) (kind_of p i) s
+    start_placed_by_link s h = from_link ∙ via_at Err x (place_start (own p i) (kind_of p i)) s h
 
   -- ---- whether it sets the start
   module _ (go : Bool → Pass (ℕ → Bool)) where

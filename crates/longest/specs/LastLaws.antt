@@ -1,9 +1,9 @@
 -- The marks of what finishes the project, one activity after the other.
-use Rattle.std.specs.Prelude.{◌≡◌, refl, Bool, true, false, ◌&&◌, ◌≢◌, ℕ, ◌+◌, ◌<◌, eqb, pos, Ok}
+use Rattle.std.specs.Prelude.{◌≡◌, refl, Bool, true, false, ◌&&◌, ℕ, ◌+◌, ◌<◌, eqb, ltb, pos, Ok}
 use Rattle.std.proofs.Common.{sym, ap, ◌∙◌, arith}
 use Rattle.std.proofs.Math.Bool.{not}
 use Rattle.number.specs.Bit.{bit}
-use Rattle.number.specs.BitLaws.{mark_none, mark_some}
+use Rattle.number.specs.BitLaws.{mark_flag}
 use Rattle.memory.specs.State.{State, put_act}
 use Rattle.memory.specs.Fields.{is_summary, early_finish, longest_path}
 use Rattle.topology.specs.Frame.{Frame}
@@ -27,13 +27,15 @@ module _ (p : Plan) (S : State) (t : ℕ) (W : Standing p t S) (R : Recorded p S
   last_by b c e f g h = λ z. not (f z) && not (g z) && h z
 
   -- by the summary's mark, what is recorded, and the early finish, as they are read
-  pub last_summary : (m : ℕ) → m ≡ S.act is_summary i → m ≢ 0 → last_ones p (early_in p S) finish i ≡ false
-  last_summary m e h =
-      last_by true (is_completed p (recorded p i)) (eqb ((early_in p S).ef i) finish) (mark_some (summary p i) (e ∙ W.marks i l) h) refl refl
+  told : {m : Bool} → m ≡ ltb 0 (S.act is_summary i) → summary p i ≡ m
+  told e = sym (e ∙ mark_flag (summary p i) (W.marks i l))
 
-  module _ (m : ℕ) (e : m ≡ S.act is_summary i) (none : m ≡ 0) (a : Actual) (f : a ≡ actual_in S i) where
+  pub last_summary : {m : Bool} → m ≡ ltb 0 (S.act is_summary i) → m ≡ true → last_ones p (early_in p S) finish i ≡ false
+  last_summary e h = last_by true (is_completed p (recorded p i)) (eqb ((early_in p S).ef i) finish) (told e ∙ h) refl refl
+
+  module _ {m : Bool} (e : m ≡ ltb 0 (S.act is_summary i)) (none : m ≡ false) (a : Actual) (f : a ≡ actual_in S i) where
     plain : summary p i ≡ false
-    plain = mark_none (summary p i) (e ∙ W.marks i l) none
+    plain = told e ∙ none
 
     same : is_completed p (recorded p i) ≡ is_completed p (Ok a)
     same = ap (is_completed p) (sym (ap Ok f ∙ R i l))

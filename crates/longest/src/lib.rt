@@ -19,7 +19,6 @@ use calendars::PlanSheet;
 use dates::step::Step;
 use memory::Tables;
 use placing::{Actual, Work};
-use project::RelationshipType;
 use worktime::ClockError;
 
 // Whether work is completed.
@@ -36,7 +35,7 @@ fn is_last(tables: &Tables, i: usize, finish: u64) -> bool
     requires { i < tables.now.activities }
     ensures { (p : Plan) (t : ℕ) → p.activities ≡ tables.now.activities → Standing p t (state tables.now) → Recorded p (state tables.now) → result ≡ last_ones p (early_in p (state tables.now)) finish i }
 {
-    if tables.act(i, memory::fields::IS_SUMMARY) != 0 {
+    if tables.is_summary(i) {
         return false;
     }
     let recorded = dates::recorded_at(tables, i);
@@ -59,7 +58,7 @@ fn mark_last(tables: &mut Tables, finish: u64)
 // ---- the links that set a start
 
 // Where the bound of link `k` places activity `i`, on its own calendar.
-// `InHand` stands here and at its callers: it relates the work to the plan, to the tables and to the place `i`, which a type of the work would have to hold too.
+// `InHand` is a clause, here and at its callers: a type of work that kept it would hold plan, tables and `i`, too, and be made anew at each activity.
 fn bound_start(
     plan: &PlanSheet,
     tables: &Tables,
@@ -70,9 +69,7 @@ fn bound_start(
     requires { Lent plan.now tables.now × InHand (plan_in plan.now.sheet) (early_in (plan_in plan.now.sheet) (state tables.now)) i work.now × (i < plan.now.sheet.contents.activities) × (k < tables.now.kept) }
     ensures { result ≡ bound_start (plan_in plan.now.sheet) (early_in (plan_in plan.now.sheet) (state tables.now)) i k }
 {
-    let b = bounds::link_bound(plan, tables, k)?;
-    let kind = RelationshipType::from(tables.link(k, memory::fields::KIND));
-    let s = bounds::start_for(work, kind, b)?;
+    let s = bounds::start_by_link(plan, tables, work, k)?;
     work.place_start(s)
 }
 

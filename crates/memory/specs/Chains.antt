@@ -18,6 +18,7 @@ abbrev pub with_chains : ℕ → ℕ → ℕ → ℕ → ℕ → State → State
 with_chains key head next a t S = linked_from key head next t 0 (fill_act S head a t)
 
 -- the first t links into each of a activities, and those out of it, as chains
+-- clauses, and no type's field: they are of fields of the tables, which are written
 abbrev pub ChainsIn : ℕ → ℕ → State → Type 0
 ChainsIn a t S = Chained (S.link to_field) (S.act first_in) (S.link next_into) a t 0
 

@@ -10,3 +10,4 @@ pub mod Fields
 pub mod Seen
 pub mod SeenLaws
 pub mod Kept
+pub mod Rows

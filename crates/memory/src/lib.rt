@@ -2,7 +2,7 @@
 // but eight fields of a result, which are written and read together, row by row.
 #![tactic(auto)]
 
-ghost use Rattle.std.specs.Prelude.{◌≡◌, ◌≢◌, ℕ, ◌+◌, ◌*◌, ◌^◌, ◌≤◌, ◌<◌, pos, length, replicate};
+ghost use Rattle.std.specs.Prelude.{◌≡◌, ◌≢◌, ℕ, ◌+◌, ◌*◌, ◌^◌, ◌≤◌, ◌<◌, ltb, pos, length, replicate};
 ghost use Rattle.memory.specs.State.{Room, place, state_of, put_act, put_act_z, put_link, put_link_z, fill_act};
 
 pub mod chain;
@@ -23,7 +23,9 @@ fn place(n: usize, i: usize, f: usize) -> usize
 }
 
 // The tables of so many activities and links, in cells that a caller lends; the first `kept` rows of the link table are the kept links.
-// C lends one slice of i64 and the call may not allocate: so a field is a column of the slice and no field of a struct, and a chain, a tree or a queue names its next by its row.
+// C lends one slice of i64 and the call may not allocate: so a field is a column of the slice and no field of a struct, and a chain or a tree names its next by its row.
+// Heads and nexts of a chain hold the number of the rows for none, so that one bound ends a walk: an `Option` would be turned back at each law of chains.
+// That a row is one of the tables (`i < activities`, `k < kept`) is a clause wherever one is named: a number with its bound would be made anew for each tables that it is taken to.
 #[derive(Drop)]
 pub struct Tables<'a> {
     pub cells: &'a mut [i64],
@@ -35,7 +37,8 @@ pub struct Tables<'a> {
 }
 
 // What a kept link's row has before the chains: its ends by the activities' numbers, the code of its type, and its lag in minutes with the calendar's number.
-// The type is a code, as the cell holds it: `dates::Tie` has the enum of `project`, which the memory does not know.
+// The type is a code, as the cell holds it: `dates::Tie` has the enum, which `add_link` would turn into a code, with a law for the way back.
+// Its ends are two fields, as in `dates::Tie`: each use takes one of them, and would name a `Link` between.
 #[derive(Clone, Copy)]
 pub struct KeptLink {
     pub from: usize,
@@ -47,7 +50,9 @@ pub struct KeptLink {
 
 impl<'a> Tables<'a> {
     ghost use Rattle.memory.specs.Seen.{state, SameLent, SameSlice};
+    ghost use Rattle.memory.specs.Fields.{is_summary};
     ghost use Rattle.memory.specs.Kept.{with_link};
+    ghost use Rattle.memory.specs.Rows.{cell_of};
     ghost use Rattle.memory.specs.Chains.{linked, linked_from, with_chains, Chains};
 
     // The tables in `cells`, no link kept yet.
@@ -109,6 +114,22 @@ impl<'a> Tables<'a> {
         self.cells[place(self.activities, i, f)]
     }
 
+    // The row that field `f` of activity `i` names, where it names one.
+    pub fn row(&self, i: usize, f: usize) -> Option<usize>
+        requires { (i < self.now.activities) × (f < 64) }
+        ensures { cell_of result ≡ (state self.now).act f i }
+    {
+        (self.act(i, f) as usize).checked_sub(1)
+    }
+
+    // Whether activity `i` is a summary.
+    pub fn is_summary(&self, i: usize) -> bool
+        requires { i < self.now.activities }
+        ensures { result ≡ ltb 0 ((state self.now).act is_summary i) }
+    {
+        self.act(i, fields::IS_SUMMARY) > 0
+    }
+
     // Field `f` of link `k`: 0 where it is negative.
     // A link's methods stand beside an activity's: one over a trait of the two tables was tried and is as long, and `get::<Link>(tables, k, f)` reads less plainly.
     pub fn link(&self, k: usize, f: usize) -> u64
@@ -140,6 +161,17 @@ impl<'a> Tables<'a> {
         cells::put_signed(self.cells, place(self.activities, i, f), v);
     }
 
+    // Field `f` of activity `i` names the row, or none.
+    pub fn put_row(&mut self, i: usize, f: usize, row: Option<usize>)
+        requires { (i < self.old.activities) × (f < 64) × (cell_of row < 2 ^ 63) }
+        ensures { (state self.new ≡ put_act (state self.old) f i (cell_of row)) × SameSlice self.old self.new }
+    {
+        match row {
+            Some(j) => self.put_act(i, f, j as u64 + 1),
+            None => self.put_act(i, f, 0),
+        }
+    }
+
     // Puts `v` into field `f` of link `k`.
     pub fn put_link(&mut self, k: usize, f: usize, v: u64)
         requires { (k < self.old.links) × (f < 16) × (v < 2 ^ 63) }
@@ -155,7 +187,7 @@ impl<'a> Tables<'a> {
         cells::put_signed(self.cells, 64 * self.activities + f * self.links + k, v);
     }
 
-    // Puts `v` into field `f` of every activity.
+    // Puts `v` into field `f` of every activity: one by one, since the field may be one of the eight that stand row by row.
     pub fn fill_act(&mut self, f: usize, v: u64)
         requires { (f < 64) × (v < 2 ^ 63) }
         ensures { (state self.new ≡ fill_act (state self.old) f self.old.activities v) × SameSlice self.old self.new }
@@ -166,6 +198,7 @@ impl<'a> Tables<'a> {
     }
 
     // Puts link `k` before the links that have its key.
+    // `key`, `head` and `next` are any fields, here and below: a type of the two ways that links are chained would ask more, and be read out again in each.
     fn chain_one(&mut self, k: usize, key: usize, head: usize, next: usize)
         requires { (k < self.old.links) × (key < 16) × (head < 64) × (next < 16) × ((state self.old).link key k < self.old.activities) }
         ensures { (state self.new ≡ linked key head next (state self.old) k) × SameSlice self.old self.new }

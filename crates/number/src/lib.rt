@@ -6,7 +6,7 @@ ghost use Rattle.number.specs.Bytes.{byte_at, u16_at, u32_at, i32_at, biased_at}
 
 pub mod sign;
 
-// The byte at a place.
+// The byte at a place. Here and below a place is taken and no array of bytes, which would have to be cut out at each call.
 pub fn byte(sheet: &[u8], at: usize) -> u64
     requires { at < length sheet.now }
     ensures { (result ≡ byte_at sheet.now at) × (result < 256) }
@@ -38,7 +38,7 @@ pub fn read_biased(sheet: &[u8], at: usize) -> u64
     (read_u32(sheet, at) + 0x8000_0000) % 0x1_0000_0000
 }
 
-// The signed number of four bytes, the low one first.
+// The signed number of four bytes, the low one first. `read_u32` names the same four: a function of them would take a definition of its own, for two callers.
 pub fn read_i32(sheet: &[u8], at: usize) -> i32
     requires { at + 4 ≤ length sheet.now }
     ensures { result ≡ i32_at sheet.now at }

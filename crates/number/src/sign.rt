@@ -1,5 +1,5 @@
 // Signed arithmetic: each result is the integer's, and what it asks is that the integer fits.
-// `min` stays beside std's: its answer is the specs' own `min_z`, so its three callers need no step from std's definition to that one.
+// `min` is std's with the specs' own `min_z` for its answer: the three callers would each lead std's definition back to that one.
 ghost use Rattle.std.specs.Prelude.{◌≡◌, ◌+◌, ◌^◌, ◌≤◌, ◌<◌, pos, ◌-ℤ◌};
 ghost use Rattle.number.specs.Zed.{up, dn};
 ghost use Rattle.number.specs.Sign.{min_z, percent_of, whole_days};
@@ -48,8 +48,7 @@ pub fn upward(z: i64) -> u64
 
 // How far `z` lies below 0.
 pub fn downward(z: i64) -> u64
-    requires { dn z < 2 ^ 63 }
-    ensures { (result ≡ dn z) × (result < 2 ^ 63) }
+    ensures { (result ≡ dn z) × (result ≤ 2 ^ 63) }
 {
     z.min(0).unsigned_abs()
 }

@@ -21,7 +21,7 @@ pub enum PlanError {
 }
 
 impl PlanError {
-    // The row's number.
+    // The row's number: no `From`, since a refusal has an id, too, and `u64::from` would not say which is meant.
     pub fn number(self) -> u64
         ensures { (result ≡ plan_number self) × (5 ≤ result) × (result ≤ 15) }
     {
@@ -40,7 +40,7 @@ impl PlanError {
         }
     }
 
-    // The id that the row hands back: 0 where it has none.
+    // The id that the row hands back: 0 where it has none, as 01's answer and C hold it.
     pub fn id(self) -> u64
         ensures { (result ≡ plan_id self) × (result < 2 ^ 64) }
     {

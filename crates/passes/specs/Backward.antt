@@ -1,5 +1,5 @@
 -- The greatest early finish, the end, and the backward pass: late starts and finishes.
-use Rattle.std.specs.Prelude.{Bool, true, false, ◌&&◌, List, [], ◌∷◌, ℕ, zero, suc, ◌+◌, max, min, eqb, ltb, leb, ℤ, pos, neg_ℤ, Result, Ok, Err, Option, Some, None}
+use Rattle.std.specs.Prelude.{Bool, true, false, ◌&&◌, List, [], ◌∷◌, ℕ, zero, suc, ◌+◌, max, min, eqb, ltb, leb, neg_ℤ, Result, Ok, Err, Option, Some, None}
 use Rattle.worktime.specs.declared.ClockError.{ClockError}
 use Rattle.date.specs.declared.Date.{Date}
 use Rattle.number.specs.Zed.{up, dn}

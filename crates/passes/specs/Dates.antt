@@ -1,5 +1,5 @@
 -- Dates as functions from an activity to a minute, and passes over the order that a refusal ends.
-use Rattle.std.specs.Prelude.{Bool, true, false, List, [], ◌∷◌, ℕ, eqb, ℤ}
+use Rattle.std.specs.Prelude.{true, false, List, [], ◌∷◌, ℕ, eqb}
 use Rattle.worktime.specs.declared.ClockError.{ClockError}
 
 -- early start, early finish and minutes of work left

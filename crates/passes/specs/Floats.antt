@@ -1,5 +1,5 @@
 -- Free float with held late moves, total float, the longest path, and what is critical.
-use Rattle.std.specs.Prelude.{Bool, true, false, ◌&&◌, ◌||◌, not, List, [], ◌∷◌, ℕ, zero, suc, eqb, ltb, ℤ, pos, ◌*ℤ◌, Result, Ok, Err, Option, Some, None}
+use Rattle.std.specs.Prelude.{Bool, true, false, ◌&&◌, ◌||◌, not, List, [], ◌∷◌, ℕ, eqb, ltb, ℤ, pos, ◌*ℤ◌, Result, Ok, Err, Option, Some, None}
 use Rattle.worktime.specs.declared.ClockError.{ClockError}
 use Rattle.std.specs.Int.Signed.{le_z}
 use Rattle.number.specs.Zed.{up}
@@ -18,7 +18,7 @@ use Rattle.placing.specs.declared.Actual.TheVariants.{Unstarted, Begun, Complete
 use Rattle.placing.specs.Placing.{via, place_start, finish_of}
 use Rattle.order.specs.Plan.{Plan}
 use Rattle.order.specs.Ids.{summary}
-use Rattle.order.specs.Ties.{Tie, calendar_of}
+use Rattle.order.specs.Ties.{calendar_of}
 use Rattle.passes.specs.Plan.{own, tie, ties_into, ties_out, kind_of, recorded, begun}
 use Rattle.passes.specs.Dates.{Early, Late, Freed, Pass, leaves, refused, put}
 use Rattle.passes.specs.Forward.{forward_bound, link_bound, start_for, early}

@@ -1,5 +1,5 @@
 -- Work left and the forward pass: early starts and finishes. "[..] the precedence diagramming method as textbooks state it", and 000 where that is silent.
-use Rattle.std.specs.Prelude.{Bool, true, false, List, [], ◌∷◌, ℕ, zero, suc, ◌+◌, ◌-◌, max, min, eqb, ℤ, pos, negsuc, Result, Ok, Err, Option, Some, None}
+use Rattle.std.specs.Prelude.{true, false, List, [], ◌∷◌, ℕ, zero, suc, ◌-◌, max, min, ℤ, Result, Ok, Err, Option, Some, None}
 use Rattle.worktime.specs.declared.ClockError.{ClockError}
 use Rattle.date.specs.declared.Date.{Date}
 use Rattle.number.specs.Zed.{up}

@@ -1,5 +1,5 @@
 -- What the passes ask of a plan: whose calendar is whose, the kept links by number, and what stands still before the passes.
-use Rattle.std.specs.Prelude.{Bool, true, false, List, ℕ, ◌+◌, max, length, get_or, Result, Ok, Err, Option, Some, None}
+use Rattle.std.specs.Prelude.{Bool, true, false, List, ℕ, ◌+◌, max, get_or, Result, Ok, Err, Option, Some, None}
 use Rattle.worktime.specs.declared.ClockError.{ClockError}
 use Rattle.date.specs.declared.Date.{Date}
 use Rattle.number.specs.Zed.{up}

@@ -1,5 +1,5 @@
 -- The run: the passes one after the other, each over the order or its reverse.
-use Rattle.std.specs.Prelude.{Bool, List, reverse, ℕ}
+use Rattle.std.specs.Prelude.{Bool, reverse, ℕ}
 use Rattle.placing.specs.Placing.{via}
 use Rattle.order.specs.Plan.{Plan}
 use Rattle.order.specs.Checks.{order}

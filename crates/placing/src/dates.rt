@@ -22,7 +22,7 @@ fn start_of_day(calendar: &Calendar, day: Date) -> Result<u64, ClockError>
 }
 
 // The last finish by the end of a day.
-fn finish_by_day(calendar: &Calendar, day: Date) -> Result<u64, ClockError>
+pub fn finish_by_day(calendar: &Calendar, day: Date) -> Result<u64, ClockError>
     ensures { result ≡ previous_finish (worked_by calendar.now) (midnight_of day + 1440) }
 {
     clock::previous_finish(calendar, day.midnight() + 1440)

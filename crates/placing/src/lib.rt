@@ -22,7 +22,7 @@ pub enum Actual {
 }
 
 impl Actual {
-    // How far the work has come, as the lent cell and the row of results hold it, which are numbers: 0 unstarted, 1 begun, 2 completed.
+    // How far the work has come: 0 unstarted, 1 begun, 2 completed. A number, since only the lent cell and the row of results take it, which hold one.
     pub fn status(self) -> u64
         ensures { (result ≡ status_of self) × (result < 3) }
     {

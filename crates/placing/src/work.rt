@@ -6,6 +6,7 @@ use project::{Activity, ActivityKind};
 use worktime::ClockError;
 
 // An activity, its own calendar, and its minutes of work left.
+// The activity's number is no field: what is said of work here holds wherever a plan has it, and in the passes it names the row of the tables, which work does not have.
 #[derive(Clone, Copy)]
 pub struct Work<'a> {
     pub activity: Activity,
@@ -85,6 +86,7 @@ impl<'a> Work<'a> {
     }
 
     // The latest finish that starts no later than `t`, moments with no work between counting as one.
+    // It mirrors `start_for_finish` by two other walks.
     pub fn finish_for_start(&self, t: u64) -> Result<u64, ClockError>
         ensures { result ≡ finish_for_start (worked_by self.now.calendar) self.now.left t }
     {

@@ -7,15 +7,15 @@ ghost use Rattle.number.specs.Zed.{dn};
 use sched::{Accepted, Refusal};
 use std::io;
 
-// A number as it is shown: the least one, which has no opposite, as the next. `plan` and `replay` each have it: one call of std's.
+// A number as it is shown: the least one, which has no opposite, as the next. `plan`, `replay` and `clock_cases` each have it: one call of std's.
 fn shown(z: i64) -> i64
     ensures { (dn z < 2 ^ 63 → result ≡ z) × (dn result < 2 ^ 63) }
 {
     z.max(-i64::MAX)
 }
 
-// A row's numbers, on a line. This and the next stand in both `plan` and `replay`: std's `Print` promises nothing of what is written, so in a library they
-// would be public functions with no contract, and a rule of the project wants one of each.
+// A row's numbers, on a line. This, the next and the line of a plan's totals stand in both `plan` and `replay`: std's `Print` promises nothing of what is
+// written, so in a library they would be public functions with no contract, and a rule of the project wants one of each.
 fn print_row(rt: &impl Print, row: &[i64]) -> io::Result<()>
     requires { 0 < length row.now }
 {

@@ -1,5 +1,5 @@
 // The sheet's codes as values. "Codes follow the enums' order in 002."
-// A value that a code alone gives is made by `From`; one that takes more beside the code, by a function whose parameters have names, which a tuple's have not.
+// A value that a code alone gives is made by `From`, since the definitions are total and `fields` refuses every other code before; one that takes more beside the code, by a function whose parameters have names, which a tuple's have not.
 ghost use Rattle.std.specs.Prelude.{◌≡◌};
 ghost use Rattle.project.specs.Records.{activity_kind_of, constraint_of, relationship_type_of, lag_of, lag_calendar_of, float_kind_of, progress_mode_of, critical_by_of};
 

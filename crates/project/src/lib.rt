@@ -7,13 +7,16 @@ ghost use Rattle.project.specs.Status.{is_milestone, on_start, bounds_start, sta
 use date::Date;
 
 mod activity_record;
+mod calendar_record;
 pub mod codes;
 pub mod fields;
 mod link_record;
-pub mod records;
+mod project_record;
 
 pub use activity_record::ActivityRecord;
+pub use calendar_record::CalendarRecord;
 pub use link_record::LinkRecord;
+pub use project_record::ProjectRecord;
 
 // What an activity is, as far as scheduling cares.
 #[derive(Clone, Copy)]
@@ -37,6 +40,7 @@ pub enum Constraint {
     AsLateAsPossible,
 }
 
+// The parent is 0 for none, as the sheet has it and the definitions' `parent_of`: ids are not 0.
 #[derive(Clone, Copy)]
 pub struct Activity {
     pub id: u32,

@@ -34,7 +34,7 @@ fn minutes_of(minutes: i32) -> u64
 }
 
 // The minutes less the work from the recorded start to the data day; all of them without a data day.
-// `Own` and `full` stand here and at its callers: they relate the work to the sheet and to the place `i`, which a type of the work would have to hold too.
+// `Own` and `full` are clauses, here and at its callers: a type of work that kept them would hold the sheet and `i`, too, and be made anew at each activity.
 fn since_start(sheet: &Sheet, i: usize, work: &Work, start: u64) -> Result<u64, ClockError>
     requires { Own sheet.now i work.now.activity work.now.calendar × (work.now.left ≡ full (plan_in sheet.now) i) }
     ensures { result ≡ since_start (plan_in sheet.now) i start (plan_in sheet.now).project.data_date }
@@ -72,7 +72,7 @@ fn left_of(sheet: &Sheet, i: usize, work: &Work, actual: Actual) -> Result<u64, 
     }
 }
 
-// The recorded start, 0 where there is none.
+// The recorded start, 0 where there is none. `dates::begun_at` with 0 says the same of a plan, and there is none here.
 fn start_of(actual: Actual) -> u64
     ensures { result ≡ start_of actual }
 {
@@ -114,6 +114,7 @@ fn record_dated(
     requires { (tables.old.activities ≡ plan.now.sheet.contents.activities) × (i < plan.now.sheet.contents.activities) × (activity ≡ (plan_in plan.now.sheet).activity i) × (summary (plan_in plan.now.sheet) i ≡ false) × (whole ≡ full (plan_in plan.now.sheet) i) × (whole < 2 ^ 63) }
     ensures { Row (plan_in plan.now.sheet) i (state tables.old) (state tables.new) result × SameSlice tables.old tables.new }
 {
+    // No `dates::work_of`: the work left is not in the memory yet.
     let work = Work {
         activity,
         calendar: plan.calendar(activity.calendar as usize),
@@ -130,8 +131,7 @@ fn record_one(plan: &PlanSheet, tables: &mut Tables, i: usize) -> Result<(), Clo
     requires { Ready plan.now tables.old × (i < plan.now.sheet.contents.activities) }
     ensures { Row (plan_in plan.now.sheet) i (state tables.old) (state tables.new) result × SameSlice tables.old tables.new }
 {
-    let mark = tables.act(i, memory::fields::IS_SUMMARY);
-    if mark != 0 {
+    if tables.is_summary(i) {
         keep(tables, i, Actual::Unstarted, 0);
         return Ok(());
     }

@@ -9,15 +9,15 @@ use sched::{Accepted, Refusal};
 use std::io::Read;
 use std::{fs, io};
 
-// A number as it is shown: the least one, which has no opposite, as the next. `plan` and `replay` each have it: one call of std's.
+// A number as it is shown: the least one, which has no opposite, as the next. `plan`, `replay` and `clock_cases` each have it: one call of std's.
 fn shown(z: i64) -> i64
     ensures { (dn z < 2 ^ 63 → result ≡ z) × (dn result < 2 ^ 63) }
 {
     z.max(-i64::MAX)
 }
 
-// A row's numbers, on a line. This and the next stand in both `plan` and `replay`: std's `Print` promises nothing of what is written, so in a library they
-// would be public functions with no contract, and a rule of the project wants one of each.
+// A row's numbers, on a line. This, the next and the line of a plan's totals stand in both `plan` and `replay`: std's `Print` promises nothing of what is
+// written, so in a library they would be public functions with no contract, and a rule of the project wants one of each.
 fn print_row(rt: &impl Print, row: &[i64]) -> io::Result<()>
     requires { 0 < length row.now }
 {
@@ -73,10 +73,10 @@ fn print_plan(rt: &impl Print, plan: Accepted, results: &[i64], names: &[u32]) -
         plan.activities, plan.ignored, plan.open_ends
     )?;
     print_rows(rt, results, plan.activities)?;
-    if plan.ignored <= names.len() as u64 {
-        print_names(rt, &names[..plan.ignored as usize])?;
-    }
-    Ok(())
+    let Some(ignored) = names.get(..plan.ignored as usize) else {
+        return Ok(());
+    };
+    print_names(rt, ignored)
 }
 
 fn print_answer(
@@ -111,33 +111,21 @@ fn replay_sheet(rt: &impl Print, file: &mut impl Read, sheet: &mut [u8]) -> io::
     Ok(true)
 }
 
-// The same, for a sheet of `n` bytes.
-fn replay_sized(
-    rt: &impl Print,
-    file: &mut impl Read,
-    sheet: &mut [u8],
-    n: usize,
-) -> io::Result<bool>
-    requires { n ≤ length sheet.old }
-{
-    replay_sheet(rt, file, &mut sheet[..n])
-}
-
-// Reads the next sheet, its length first, and writes its answer; answers whether there was one.
+// Reads the next sheet, its length first, and writes its answer; answers whether there was one, of 16,384 bytes at most.
 fn replay_next(rt: &impl Print, file: &mut impl Read) -> io::Result<bool> {
     let mut head = [0u8; 4];
     if input::read_full(file, &mut head)? < 4 {
         return Ok(false);
     }
-    let size = number::read_u32(&head, 0);
-    if size > 16384 {
-        return Ok(false);
-    }
+    let size = number::read_u32(&head, 0) as usize;
     let mut sheet = [0u8; 16384];
-    replay_sized(rt, file, &mut sheet, size as usize)
+    let Some(sheet) = sheet.get_mut(..size) else {
+        return Ok(false);
+    };
+    replay_sheet(rt, file, sheet)
 }
 
-// The answers of all sheets, 65,536 at most.
+// The answers of all sheets, 65,536 at most: more than the file has, and a bound, so that the loop ends, whatever is read.
 fn replay_all(rt: &impl Print, file: &mut impl Read) -> io::Result<()> {
     for _ in 0..65536 {
         if !replay_next(rt, file)? {
@@ -147,6 +135,7 @@ fn replay_all(rt: &impl Print, file: &mut impl Read) -> io::Result<()> {
     Ok(())
 }
 
+// It begins as the three programs of cases do, but reads its file, which is large, a sheet at a time: the opening alone, two calls of std's, is the same.
 fn main(rt: HostRuntime) -> io::Result<()> {
     let mut file = match fs::open(&rt, "sheets") {
         Ok(file) => file,

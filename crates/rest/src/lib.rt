@@ -18,6 +18,7 @@ fn clear_cells(work: &mut [i64], from: usize, to: usize)
 }
 
 // The columns of the activities.
+// By places in the cells, here and below: fields that lie side by side are cleared by one store, and the cells past the tables are no field's.
 fn clear_activities(tables: &mut Tables)
     ensures { ColumnsCleared 0 tables.old.activities of_activity 0 64 tables.old.cells.now tables.new.cells.now × SameSlice tables.old tables.new }
 {

@@ -1,7 +1,7 @@
 -- The rows of results: 01's fifteen fields of each activity, in its order.
-use Rattle.std.specs.Prelude.{true, false, List, [], ◌∷◌, ◌++◌, ℕ, zero, suc, ◌^◌, ℤ, pos, ◌-ℤ◌}
+use Rattle.std.specs.Prelude.{true, false, List, [], ◌∷◌, ◌++◌, ℕ, zero, suc, ℤ, pos}
 use Rattle.number.specs.Bit.{bit}
-use Rattle.date.specs.Days.{signed_minute}
+use Rattle.date.specs.Days.{unbiased, signed_minute}
 use Rattle.order.specs.Plan.{Plan}
 use Rattle.order.specs.Ids.{id_of, summary}
 use Rattle.passes.specs.Plan.{recorded}
@@ -12,7 +12,7 @@ use Rattle.results.specs.Results.{status_number}
 
 -- a day as 01 counts it
 abbrev pub signed_day_of : ℕ → ℤ
-signed_day_of d = pos d -ℤ pos (2 ^ 31)
+signed_day_of d = unbiased d
 
 module _ (p : Plan) (r : Ran) (f : ℕ → Shown) where
   -- "0 for summaries"

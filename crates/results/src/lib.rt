@@ -81,6 +81,7 @@ fn total_by(actual: Actual, total: i64) -> i64
     }
 }
 
+// What is recorded and the times go one by one, here and below: the definitions take them so, and a row of results shows the one without the others.
 fn total_of(
     kind: FloatKind,
     actual: Actual,
@@ -116,6 +117,7 @@ fn finish_minute(kind: ActivityKind, left: u64, t: u64) -> u64
     }
 }
 
+// The early and the late pair are two lines each: a function of a pair would take as many.
 fn days_of(kind: ActivityKind, actual: Actual, t: Times) -> Days
     ensures { (p : Plan) → result ≡ days_of p kind (Ok actual) t }
 {
@@ -137,6 +139,7 @@ fn all_in_years(days: Days) -> bool
 }
 
 // ---- critical, by total float or by the longest path
+// `day_length ≤ 1440` is a clause, here and below: a type with the bound would put its number between each contract and its definition.
 pub fn is_critical(by: CriticalBy, day_length: u64, total: i64, path: bool) -> bool
     requires { day_length ≤ 1440 }
     ensures { result ≡ critical_in by day_length total path }
@@ -257,6 +260,7 @@ fn put_days(tables: &mut Tables, i: usize, x: &ShownRow)
     tables.put_act(i, memory::fields::SHOWN_LATE_FINISH, days.lf);
 }
 
+// A truth value goes into its cell by std's `From` and comes back by a test: two methods of `Tables` for it would be as long where they are called.
 fn put_floats(tables: &mut Tables, i: usize, x: &ShownRow)
     requires { i < tables.old.activities }
     ensures { (state tables.new ≡ put_floats (state tables.old) i x.now.shown) × SameSlice tables.old tables.new }
@@ -286,8 +290,8 @@ pub fn put_shown(tables: &mut Tables, i: usize, x: &ShownRow)
 }
 
 // ---- all activities
-// What is shown of activity `i`, on its own calendar. The project comes beside the plan here and in `rollup`, read once a pass, since reading it at each
-// activity costs; a struct of the two would say their one equation once, and put its own name before the plan's in every other clause.
+// What is shown of activity `i`, on its own calendar. The project comes beside the plan here and in `rollup`: a struct of the two would say their one equation
+// once, and put its own name before the plan's in every other clause.
 fn row_of(
     plan: &PlanSheet,
     project: Project,
@@ -297,6 +301,7 @@ fn row_of(
     requires { ToShow plan.now tables.now × (i < plan.now.sheet.contents.activities) × (project ≡ (plan_in plan.now.sheet).project) }
     ensures { showing result ≡ row_shown (plan_in plan.now.sheet) (state tables.now) i }
 {
+    // No `dates::work_of`: the work left is read with the other times, and a day length beside the calendar.
     let activity = dates::activity_of(&plan.sheet, i);
     let kind = activity.kind;
     let k = activity.calendar as usize;

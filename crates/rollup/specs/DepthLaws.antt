@@ -1,7 +1,7 @@
 -- The turns of a climb that counts its steps, and depths put one after the other.
-use Rattle.std.specs.Prelude.{◌≡◌, true, false, ◌≢◌, eqb, pos}
-use Rattle.std.proofs.Math.Path.{refl, sym, ap}
-use Rattle.std.proofs.Common.{◌∙◌, ⊎_elim, eq-eqb, ne_eqb}
+use Rattle.std.specs.Prelude.{◌≡◌, true, false, ◌≢◌, eqb, ltb, pos}
+use Rattle.std.proofs.Math.Path.{sym, ap}
+use Rattle.std.proofs.Common.{◌∙◌, ⊎_elim, eq-eqb, ne_eqb, ltb-true, ltb-false}
 use Prim.Native.Nat.{ℕ, zero, suc, ◌+◌, ◌-◌, ◌≤◌, ◌<◌}
 use native.Mathlib.Omega.{arith}
 use Rattle.number.specs.Order.{eq_or_ne}
@@ -14,7 +14,7 @@ use Rattle.topology.specs.FrameLaws.{outside_below, frame_put}
 use Rattle.network.specs.ParentLinks.{steps_out, depth}
 use Rattle.rollup.specs.Depths.{depth_key, DepthsTo}
 
--- k steps are made and lead to y, one more than an activity or 0
+-- k steps are made and lead to y, one more than an activity, or 0 for none
 pub record Climbs (up : ℕ → ℕ) (a i y k : ℕ) : Type 0 where
   pub steps : k ≤ a
   pub low : y ≤ a
@@ -25,37 +25,36 @@ module _ (up : ℕ → ℕ) (a i : ℕ) where
   unfolding depth
   climbs_start b = let e : a - 0 ≡ a = omega arith in let d : i + 1 ≡ suc i = omega arith in record { steps = omega arith; low = omega arith; left = rw (e, d) (omega arith) }
 
-  module _ (y k : ℕ) (C : Climbs up a i y k) where
-    pub climbs_turn : k < a → 0 < y → up (y - 1) ≤ a → (z : ℕ) → z ≡ up (y - 1) → Climbs up a i z (k + 1)
+  module _ (k : ℕ) where
+    pub climbs_turn : (j : ℕ) → Climbs up a i (j + 1) k → k < a → up j ≤ a → (z : ℕ) → z ≡ up j → Climbs up a i z (k + 1)
     unfolding steps_out
-    climbs_turn b o h z e =
+    climbs_turn j C b h z e =
         let d : a - k ≡ suc (a - (k + 1)) = omega arith in
-        let f : y ≡ suc (y - 1) = omega arith in
-        let g : steps_out up (suc (a - (k + 1))) (suc (y - 1)) ≡ suc (steps_out up (a - (k + 1)) (up (y - 1))) = refl in
-        let m : k + steps_out up (a - k) y ≡ k + suc (steps_out up (a - (k + 1)) z) = (λ t. k + steps_out up (d t) (f t)) ∙ ap (λ (x : ℕ). k + x) g ∙ ap (λ (x : ℕ). k + suc (steps_out up (a - (k + 1)) x)) (sym e) in
+        let f : j + 1 ≡ suc j = omega arith in
+        let m : k + steps_out up (a - k) (j + 1) ≡ k + suc (steps_out up (a - (k + 1)) z) = (λ t. k + steps_out up (d t) (f t)) ∙ ap (λ (x : ℕ). k + suc (steps_out up (a - (k + 1)) x)) (sym e) in
         record { steps = omega arith; low = omega arith; left = omega (arith, m, C.left) }
 
-    pub climbs_top : y ≡ 0 → k ≡ depth up a i
+    pub climbs_top : Climbs up a i 0 k → k ≡ depth up a i
     unfolding steps_out
-    climbs_top e = top (a - k) (ap (λ (x : ℕ). k + steps_out up (a - k) x) (sym e) ∙ C.left)
+    climbs_top C = top (a - k) C.left
       where
         top : (f : ℕ) → k + steps_out up f 0 ≡ depth up a i → k ≡ depth up a i
         top zero h = omega (arith, h)
         top (suc f) h = omega (arith, h)
 
-    pub climbs_end : a ≤ k → k ≡ depth up a i
+    pub climbs_end : (y : ℕ) → Climbs up a i y k → a ≤ k → k ≡ depth up a i
     unfolding steps_out
-    climbs_end l = let e : a - k ≡ 0 = omega arith in omega (arith, ap (λ (f : ℕ). k + steps_out up f y) (sym e) ∙ C.left)
+    climbs_end y C l = let e : a - k ≡ 0 = omega arith in omega (arith, ap (λ (f : ℕ). k + steps_out up f y) (sym e) ∙ C.left)
 
 -- ---- the depths of the rows
 module _ (S : State) (a i : ℕ) where
-  pub key_none : S.act is_summary i ≡ 0 → 0 ≡ depth_key S a i
+  pub key_none : ltb 0 (S.act is_summary i) ≡ false → 0 ≡ depth_key S a i
   unfolding depth_key
-  key_none e = sym (on_true (eqb (S.act is_summary i) 0) 0 (depth (S.act parent) a i) (eq-eqb _ _ e))
+  key_none e = sym (on_true (eqb (S.act is_summary i) 0) 0 (depth (S.act parent) a i) (eq-eqb _ _ (omega (arith, ltb-false 0 (S.act is_summary i) e))))
 
-  pub key_some : S.act is_summary i ≢ 0 → depth (S.act parent) a i ≡ depth_key S a i
+  pub key_some : ltb 0 (S.act is_summary i) ≡ true → depth (S.act parent) a i ≡ depth_key S a i
   unfolding depth_key
-  key_some e = sym (on_false (eqb (S.act is_summary i) 0) 0 (depth (S.act parent) a i) (ne_eqb _ _ e))
+  key_some e = sym (on_false (eqb (S.act is_summary i) 0) 0 (depth (S.act parent) a i) (ne_eqb _ _ (λ d. omega (arith, ltb-true 0 (S.act is_summary i) e, d))))
 
 pub key_kept : (S T : State) (a i : ℕ) → Frame 30 31 0 0 S T → depth_key T a i ≡ depth_key S a i
 unfolding depth_key

@@ -12,6 +12,7 @@ use memory::{Tables, fields};
 use std::marker::Model;
 
 // What is left of the children of summary `of`, seen as the list of them: from `at` on, each names the next, and the last names the number of the activities, which is none.
+// It is no `memory::chain::Chain`: that walks rows of links, this one rows of activities, and a type for both would take the table and its bound.
 #[derive(Drop)]
 pub(crate) struct Children<'a, 'b> {
     tables: &'a Tables<'b>,

@@ -34,19 +34,19 @@ use results::{Days, Shown, ShownRow};
 use worktime::ClockError;
 
 // ---- chains through the activities
-// They are not those of `memory`: those chain links by an activity, these activities by a key that may be none, and in another table.
+// They are not those of `memory`: those chain links by an activity, these activities by a key that may be none, and in another table; one function of both would take the table, and an `Option` for each link.
+// `key < head` and `head + 2 ≤ 64` are clauses, here and below: a type of two such fields would be made for two calls.
 // Puts activity `c` before those with its key.
 fn chain_one(tables: &mut Tables, key: usize, head: usize, c: usize)
     requires { (c < tables.old.activities) × (key < head) × (head + 2 ≤ 64) × KeysIn key tables.old.activities (state tables.old) × LinkedIn key head tables.old.activities (c + 1) (state tables.old) }
     ensures { LinkedIn key head tables.old.activities c (state tables.new) × Frame head (head + 2) 0 0 (state tables.old) (state tables.new) × SameSlice tables.old tables.new }
 {
-    let k = tables.act(c, key) as usize;
-    if k == 0 {
+    let Some(i) = tables.row(c, key) else {
         return;
-    }
-    let first = tables.act(k - 1, head);
+    };
+    let first = tables.act(i, head);
     tables.put_act(c, head + 1, first);
-    tables.put_act(k - 1, head, c as u64);
+    tables.put_act(i, head, c as u64);
 }
 
 // Puts all activities before those with their keys, from the last to the first.
@@ -59,7 +59,7 @@ fn chain_down(tables: &mut Tables, key: usize, head: usize)
     }
 }
 
-// Chains the activities by the field `key`, where 0 is no key: `head` of row i is the first whose key is i + 1, and the field after it the next with the same key.
+// Chains the activities by the row that the field `key` names, if any: `head` of row i is the first that names it, and the field after it the next that names the same; a depth d names row d - 1.
 fn chain(tables: &mut Tables, key: usize, head: usize)
     requires { (key < head) × (head + 2 ≤ 64) × KeysIn key tables.old.activities (state tables.old) }
     ensures { LinkedIn key head tables.old.activities 0 (state tables.new) × Frame head (head + 2) 0 0 (state tables.old) (state tables.new) × SameSlice tables.old tables.new }
@@ -75,12 +75,12 @@ fn depth_of(tables: &Tables, i: usize) -> usize
     ensures { (result ≡ depth ((state tables.now).act parent) tables.now.activities i) × (result ≤ tables.now.activities) }
 {
     // No iterator over the activities above, as in `ids::parent_loop_steps`: a field of parents alone does not say that they end.
-    let mut y = i + 1;
+    let mut at = Some(i);
     for k in 0..tables.activities {
-        if y == 0 {
+        let Some(j) = at else {
             return k;
-        }
-        y = tables.act(y - 1, memory::fields::PARENT) as usize;
+        };
+        at = tables.row(j, memory::fields::PARENT);
     }
     tables.activities
 }
@@ -90,12 +90,12 @@ fn mark_one(tables: &mut Tables, i: usize)
     requires { (i < tables.old.activities) × KeysIn parent tables.old.activities (state tables.old) }
     ensures { (state tables.new ≡ put_act (state tables.old) depth_of i (depth_key (state tables.old) tables.old.activities i)) × SameSlice tables.old tables.new }
 {
-    if tables.act(i, memory::fields::IS_SUMMARY) == 0 {
-        tables.put_act(i, memory::fields::DEPTH_OF, 0);
+    if tables.is_summary(i) {
+        let d = depth_of(tables, i) as u64;
+        tables.put_act(i, memory::fields::DEPTH_OF, d);
         return;
     }
-    let d = depth_of(tables, i) as u64;
-    tables.put_act(i, memory::fields::DEPTH_OF, d);
+    tables.put_act(i, memory::fields::DEPTH_OF, 0);
 }
 
 // Puts the depth of each summary into its row, and 0 into the others'.

@@ -17,14 +17,6 @@ use results::ShownRow;
 use sheet::Sheet;
 
 // ---- fields
-// A day as 01 counts it.
-fn signed_day_of(d: u64) -> i64
-    requires { d < 2 ^ 63 }
-    ensures { result ≡ signed_day_of d }
-{
-    number::sign::difference(2147483648, d)
-}
-
 // A minute as 01 counts it, 0 for a summary.
 fn minute_of(is_summary: bool, t: u64) -> i64
     requires { t < 2 ^ 63 }
@@ -37,7 +29,8 @@ fn minute_of(is_summary: bool, t: u64) -> i64
 }
 
 // ---- rows
-// A row by its values, `left`, `es` and `ef` among them as the passes leave them: `results::times_at` would read four fields more at each activity.
+// A row by its values, `left`, `es` and `ef` among them as the passes leave them: of the seven values of `results::times_at` it shows these three.
+// The bounds of numbers are clauses: types with them would put their numbers between the contract and its definition.
 fn row_of(
     id: u64,
     day_length: u64,
@@ -56,10 +49,10 @@ fn row_of(
     let free = x.shown.free as i64;
     [
         id as i64,
-        signed_day_of(days.es),
-        signed_day_of(days.ef),
-        signed_day_of(days.ls),
-        signed_day_of(days.lf),
+        date::unbiased(days.es),
+        date::unbiased(days.ef),
+        date::unbiased(days.ls),
+        date::unbiased(days.lf),
         number::sign::whole_days(total, day_length),
         number::sign::whole_days(free, day_length),
         total,
@@ -89,7 +82,7 @@ fn write_row(
     let id = activity.id as u64;
     let x = results::shown_at(tables, i);
     let actual = dates::recorded_at(tables, i);
-    let is_summary = tables.act(i, memory::fields::IS_SUMMARY) > 0;
+    let is_summary = tables.is_summary(i);
     let left = tables.act(i, memory::fields::WORK_LEFT);
     let es = tables.act(i, memory::fields::EARLY_START);
     let ef = tables.act(i, memory::fields::EARLY_FINISH);
@@ -118,5 +111,5 @@ pub fn finish_day(sheet: &Sheet, tables: &Tables) -> i64
     for i in 0..sheet.contents.activities {
         d = d.max(tables.act(i, memory::fields::SHOWN_FINISH));
     }
-    signed_day_of(d)
+    date::unbiased(d)
 }

@@ -61,7 +61,7 @@ impl Refusal {
         }
     }
 
-    // The id that the row hands back: 0 where it has none.
+    // The id that the row hands back: 0 where it has none, as 01's answer and C hold it.
     pub fn id(self) -> u64
         ensures { (result ≡ refusal_id self) × (result < 2 ^ 64) }
     {
@@ -72,6 +72,7 @@ impl Refusal {
     }
 }
 
+// `?` knows by `from_gives` which refusal an error becomes, here and below; a derive writes no such fact.
 impl From<SheetError> for Refusal {
     ghost from_gives = { λ error r. r ≡ Sheet error };
 
@@ -128,7 +129,8 @@ fn accept(
     }
 }
 
-// The results of a plan that ran; `last` is its end.
+// The results of a plan that ran; `last` is its end, of which the contract speaks and no code.
+// `results`, `names` and the memory go one by one, here and below, and what the first two must hold is a clause: a struct of the three would be taken apart at each use, since a check takes the last two and a row of results the first and the memory.
 fn show_plan(
     plan: &PlanSheet,
     last: u64,

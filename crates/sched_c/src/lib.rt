@@ -4,6 +4,7 @@
 ghost use Rattle.std.specs.Prelude.{◌≡◌};
 ghost use Rattle.sched.specs.InC.{called};
 
+// It exports `sched::c::neakspuoy_schedule`, with the same clause: a crate is built as a library or as a static library, and the programs take the former.
 // The scheduling call: `answer` takes 0, finish day, activities, ignored links, open ends; or 1, row, id, 0, 0. Where it is shorter nothing is written.
 #[unsafe(no_mangle)]
 pub extern "C" fn neakspuoy_schedule(

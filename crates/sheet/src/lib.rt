@@ -2,12 +2,13 @@
 #![tactic(auto)]
 
 ghost use Rattle.std.specs.Prelude.{◌≡◌, IfOk, suc, ◌+◌, ◌≤◌, length};
-ghost use Rattle.project.specs.Fields.{header_size, calendar_size};
+ghost use Rattle.project.specs.Fields.{header_size};
 ghost use Rattle.sheet.specs.Reading.{calendar_end, calendars_from, read_sheet};
 ghost use Rattle.sheet.specs.Places.{place_at};
 ghost use Rattle.sheet.specs.Known.{CalendarRead};
 
 use judges::SheetError;
+use project::{CalendarRecord, ProjectRecord};
 use runs::RecordKind;
 
 pub mod runs;
@@ -40,16 +41,15 @@ pub struct Place {
     pub next: usize,
 }
 
-// Where the records of the calendar end whose C stands at a place.
+// Where the records of a calendar end, by its C.
 #[tactic(auto, using(crate::specs::CalendarLaws::end_weeks, crate::specs::CalendarLaws::end_exceptions, crate::specs::CalendarLaws::end_count))]
-fn read_calendar(sheet: &[u8], at: usize) -> Result<usize, SheetError>
-    requires { at + calendar_size ≤ length sheet.now }
-    ensures end { result ≡ calendar_end sheet.now at }
-    ensures within { IfOk result (λ n. n ≤ length sheet.now) }
+fn read_calendar(calendar: &CalendarRecord) -> Result<usize, SheetError>
+    ensures end { result ≡ calendar_end calendar.now.sheet.now calendar.now.at }
+    ensures within { IfOk result (λ n. n ≤ length calendar.now.sheet.now) }
 {
-    let weeks = runs::read_run(sheet, RecordKind::Week, at + 3)?;
-    let from = at + 3 + 6 * weeks;
-    let exceptions = runs::read_run(sheet, RecordKind::Exception, from)?;
+    let weeks = runs::read_run(calendar.sheet, RecordKind::Week, calendar.at + 3)?;
+    let from = calendar.at + 3 + 6 * weeks;
+    let exceptions = runs::read_run(calendar.sheet, RecordKind::Exception, from)?;
     Ok(from + 9 * exceptions)
 }
 
@@ -67,8 +67,9 @@ fn read_calendars(sheet: &[u8]) -> Result<CalendarsEnd, SheetError>
         if sheet.len() - at < 3 {
             return Err(SheetError::Malformed);
         }
-        judges::judge_calendar(sheet, at, k)?;
-        at = read_calendar(sheet, at)?;
+        let calendar = CalendarRecord::new(sheet, at);
+        judges::judge_calendar(&calendar, k)?;
+        at = read_calendar(&calendar)?;
         k += 1;
     }
     Ok(CalendarsEnd { count: k, at: at })
@@ -85,7 +86,8 @@ pub fn read(sheet: &[u8]) -> Result<Contents, SheetError>
     if sheet[0] != b'P' {
         return Err(SheetError::Malformed);
     }
-    if !fields::header_ok(sheet, 0) {
+    let project = ProjectRecord::new(sheet, 0);
+    if !fields::header_ok(&project) {
         return Err(SheetError::OutOfRange);
     }
     let end = read_calendars(sheet)?;

@@ -41,7 +41,7 @@ impl RecordKind {
         }
     }
 
-    // Record `i` of a run that begins at a place.
+    // Record `i` of a run that begins at a place. A `match`, as the definition is one over the kind: a trait with four impls and their laws would be longer.
     fn judge(self, sheet: &[u8], at: usize, i: usize) -> Result<(), SheetError>
         requires { at + size_of self * i + size_of self ≤ length sheet.now }
         ensures { result ≡ judge_of self sheet.now at i }
@@ -55,7 +55,7 @@ impl RecordKind {
     }
 }
 
-// The byte of kind at a place, 0 past the sheet's end.
+// The byte of kind at a place, and past the sheet's end 0, which is no kind of record and is what the definitions' `byte_at` reads there.
 pub fn kind_at(sheet: &[u8], at: usize) -> u8
     ensures { result ≡ byte_at sheet.now at }
 {

@@ -6,7 +6,7 @@ ghost use Rattle.sheet.specs.Props.{props};
 
 use super::Contents;
 use date::Date;
-use project::{ActivityRecord, LagCalendar, LinkRecord, Project};
+use project::{ActivityRecord, LagCalendar, LinkRecord, Project, ProjectRecord};
 
 // The bytes of a plan sheet that was read, and what it holds.
 #[derive(Clone, Copy)]
@@ -29,43 +29,46 @@ impl<'a> Sheet<'a> {
         Sheet { bytes, contents }
     }
 
+    // The record of the project.
+    pub fn project_record(&self) -> ProjectRecord<'a>
+        ensures { (result.sheet.now ≡ self.now.bytes.now) × (result.at ≡ 0) }
+    {
+        ProjectRecord::new(self.bytes, 0)
+    }
+
     // The project.
     pub fn project(&self) -> Project
         ensures { result ≡ project_at self.now.bytes.now 0 }
     {
-        project::records::read_project(self.bytes, 0)
+        self.project_record().read()
     }
 
     // The day that the project starts. This getter and the three after it read one field where no more of the project is asked.
-    #[tactic(auto, unfolding(project::specs::Records::project_at))]
     pub fn start(&self) -> Date
         ensures { result ≡ (project_at self.now.bytes.now 0).start }
     {
-        project::fields::read_date(self.bytes, 1)
+        self.project_record().start()
     }
 
     // The day up to which work is recorded, if any.
-    #[tactic(auto, unfolding(project::specs::Records::project_at))]
     pub fn data_date(&self) -> Option<Date>
         ensures { result ≡ (project_at self.now.bytes.now 0).data_date }
     {
-        project::fields::read_optional_date(self.bytes, 5)
+        self.project_record().data_date()
     }
 
     // The day that the project must finish by, if any.
-    #[tactic(auto, unfolding(project::specs::Records::project_at))]
     pub fn must_finish_by(&self) -> Option<Date>
         ensures { result ≡ (project_at self.now.bytes.now 0).must_finish_by }
     {
-        project::fields::read_optional_date(self.bytes, 9)
+        self.project_record().must_finish_by()
     }
 
     // The calendar that the project's working lags count on.
-    #[tactic(auto, unfolding(project::specs::Records::project_at))]
     pub fn lag_calendar(&self) -> LagCalendar
         ensures { result ≡ (project_at self.now.bytes.now 0).lag_calendar }
     {
-        LagCalendar::from(number::byte(self.bytes, 13))
+        self.project_record().lag_calendar()
     }
 
     // The record of activity `i`.

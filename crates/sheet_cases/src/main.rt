@@ -6,6 +6,7 @@ ghost use Rattle.std.specs.Prelude.{◌+◌, ◌≤◌, length};
 use std::{fs, io};
 
 // Copies `part` `times` times in a row to `at`, while there is room, and answers where that ends. A part may be empty, where `chunks_exact_mut` panics.
+// A place stands beside the sheet here and below: what is built is answered from the sheet's start, which a slice of the rest would no longer have.
 fn repeat(part: &[u8], times: usize, sheet: &mut [u8], at: usize) -> usize
     requires { at ≤ length sheet.old }
     ensures { result ≤ length sheet.new }

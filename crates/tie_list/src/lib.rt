@@ -7,7 +7,7 @@ ghost use Rattle.tie_list.specs.Tied.{one_more};
 
 use network::Link;
 
-// Counts one more for `to`, where it has a count.
+// Counts one more for `to`, where it has a count: tested and written by its place, as `one_more` says it.
 pub fn count_one(counts: &mut [u64], to: usize)
     requires { get_or counts.old to 0 + 1 < 2 ^ 64 }
     ensures { counts.new ≡ one_more counts.old to }

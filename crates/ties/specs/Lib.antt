@@ -5,3 +5,4 @@ pub mod EndLaws
 pub mod TieSteps
 pub mod CheckSteps
 pub mod Widened
+pub mod Judging

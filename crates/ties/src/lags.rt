@@ -5,12 +5,21 @@ ghost use Rattle.order.specs.Lags.{beyond, working_calendar, lag_calendar, lag_m
 
 use project::{LagCalendar, LagKind};
 
+// A lag with what its minutes are counted by: the day length of its calendar, and the minutes of its predecessor.
+#[derive(Clone, Copy)]
+pub struct Lag {
+    pub lag: LagKind,
+    pub day_length: u64,
+    pub duration: i64,
+    ghost day_within: { day_length ≤ 1440 },
+    ghost duration_within: { up duration + dn duration ≤ 48000000 },
+}
+
 // Whether `z` lies more than `limit` from 0.
 pub fn is_beyond(limit: u64, z: i64) -> bool
-    requires { dn z < 2 ^ 63 }
     ensures { result ≡ beyond limit z }
 {
-    number::sign::upward(z) + number::sign::downward(z) > limit
+    z.unsigned_abs() > limit
 }
 
 // Whether a lag is too long before it is converted.
@@ -28,7 +37,7 @@ pub fn lag_before(lag: LagKind) -> bool
     }
 }
 
-// The calendar that a working lag counts on; `last` is the number of the round-the-clock one.
+// The calendar that a working lag counts on; `last` is the number of the round-the-clock one, which the lent cell holds like any other.
 #[tactic(auto, unfolding(order::specs::Lags::working_calendar))]
 pub fn working_calendar(by: LagCalendar, pred: u64, succ: u64, last: u64) -> u64
     ensures { result ≡ working_calendar by pred succ last }
@@ -56,24 +65,25 @@ pub fn lag_calendar(lag: LagKind, by: LagCalendar, pred: u64, succ: u64, last: u
     }
 }
 
-// A lag in minutes, where it is not too long before it is converted.
-pub fn lag_minutes(lag: LagKind, day_length: u64, duration: i64) -> i64
-    requires { (lag_before lag ≡ false) × (day_length ≤ 1440) × (up duration + dn duration ≤ 48000000) }
-    ensures { (result ≡ lag_minutes lag day_length duration) × (up result + dn result ≤ 4800000000) }
-{
-    match lag {
-        LagKind::WorkingDays(n) => calendars::days_in_minutes(n, day_length),
-        LagKind::WorkingMinutes(n) => n as i64,
-        LagKind::ElapsedDays(n) => calendars::days_in_minutes(n, 1440),
-        LagKind::ElapsedMinutes(n) => n as i64,
-        LagKind::Percent(n) => number::sign::percent(duration, n as i64),
+impl Lag {
+    // The lag in minutes, where it is not too long before it is converted.
+    pub fn minutes(&self) -> i64
+        requires { lag_before self.now.lag ≡ false }
+        ensures { (result ≡ lag_minutes self.now.lag self.now.day_length self.now.duration) × (up result + dn result ≤ 4800000000) }
+    {
+        match self.lag {
+            LagKind::WorkingDays(n) => calendars::days_in_minutes(n, self.day_length),
+            LagKind::WorkingMinutes(n) => n as i64,
+            LagKind::ElapsedDays(n) => calendars::days_in_minutes(n, 1440),
+            LagKind::ElapsedMinutes(n) => n as i64,
+            LagKind::Percent(n) => number::sign::percent(self.duration, n as i64),
+        }
     }
-}
 
-// Row 8 for a lag, before and after it is converted.
-pub fn is_lag_too_long(lag: LagKind, day_length: u64, duration: i64) -> bool
-    requires { (day_length ≤ 1440) × (up duration + dn duration ≤ 48000000) }
-    ensures { result ≡ lag_too_long lag day_length duration }
-{
-    lag_before(lag) || is_beyond(144_000_000, lag_minutes(lag, day_length, duration))
+    // Row 8 for the lag, before and after it is converted.
+    pub fn is_too_long(&self) -> bool
+        ensures { result ≡ lag_too_long self.now.lag self.now.day_length self.now.duration }
+    {
+        lag_before(self.lag) || is_beyond(144_000_000, self.minutes())
+    }
 }

@@ -9,13 +9,14 @@ ghost use Rattle.order.specs.IdLaws.{DistinctIds};
 ghost use Rattle.order.specs.FineLaws.{ActivitiesFine};
 ghost use Rattle.order.specs.Ties.{tie_calendar, tie_too_long};
 ghost use Rattle.ids.specs.Index.{Indexed};
-ghost use Rattle.ids.specs.Parented.{Parented};
 ghost use Rattle.ids.specs.Lent.{Lent};
 ghost use Rattle.ties.specs.Ends.{Between, EndsOf};
 ghost use Rattle.calendars.specs.Calendars.{Lengths};
 ghost use Rattle.ties.specs.Checked.{LinkAnswered};
+ghost use Rattle.ties.specs.Judging.{Judging};
 
 use calendars::PlanCalendar;
+use lags::Lag;
 use memory::Tables;
 use network::Link;
 use order::PlanError;
@@ -49,8 +50,7 @@ pub fn is_either_marked(tables: &Tables, ends: Link) -> bool
     requires { (ends.from < tables.now.activities) × (ends.to < tables.now.activities) }
     ensures { result ≡ (ltb 0 ((state tables.now).act is_summary ends.from) || ltb 0 ((state tables.now).act is_summary ends.to)) }
 {
-    tables.act(ends.from, memory::fields::IS_SUMMARY) > 0
-        || tables.act(ends.to, memory::fields::IS_SUMMARY) > 0
+    tables.is_summary(ends.from) || tables.is_summary(ends.to)
 }
 
 // The calendar that the lag of link `k` counts on.
@@ -65,15 +65,26 @@ pub fn tie_calendar(sheet: &Sheet, k: usize, ends: Link) -> u64
     lags::lag_calendar(lag, by, pred, succ, sheet.contents.calendars as u64)
 }
 
-// Row 8 for the lag of link `k`; `calendars` has the day length of each calendar, and of the round-the-clock one.
+// The lag of link `k`; `calendar` is the lag's, and `calendars` has the day length of each calendar, and of the round-the-clock one.
+// `sheet` and `calendars` go one by one, here and in `links`, `checks` and `rows`: a `PlanSheet` of both says more of the table (`Places`), and would ask it.
+pub fn lag_of(sheet: &Sheet, calendars: &[PlanCalendar], k: usize, ends: Link, calendar: u64) -> Lag
+    requires { (k < sheet.now.contents.links) × ActivitiesFine (plan_in sheet.now) × Between (plan_in sheet.now) k ends.from ends.to × Lengths (plan_in sheet.now) calendars.now × (calendar ≤ sheet.now.contents.calendars) }
+    ensures { (result.lag ≡ ((plan_in sheet.now).link k).lag) × (result.day_length ≡ (plan_in sheet.now).day_length calendar) × (result.duration ≡ ((plan_in sheet.now).activity ends.from).minutes) }
+{
+    Lag {
+        lag: sheet.link(k).lag(),
+        day_length: calendars[calendar as usize].day_length,
+        duration: sheet.activity(ends.from).minutes() as i64,
+    }
+}
+
+// Row 8 for the lag of link `k`.
 pub fn is_tie_too_long(sheet: &Sheet, calendars: &[PlanCalendar], k: usize, ends: Link) -> bool
     requires { (k < sheet.now.contents.links) × ActivitiesFine (plan_in sheet.now) × Between (plan_in sheet.now) k ends.from ends.to × Lengths (plan_in sheet.now) calendars.now }
     ensures { result ≡ tie_too_long (plan_in sheet.now) k }
 {
     let calendar = tie_calendar(sheet, k, ends);
-    let lag = sheet.link(k).lag();
-    let minutes = sheet.activity(ends.from).minutes();
-    lags::is_lag_too_long(lag, calendars[calendar as usize].day_length, minutes as i64)
+    lag_of(sheet, calendars, k, ends, calendar).is_too_long()
 }
 
 // Rows 13, 14 and 8 for link `k`: where it is fine, its ends if it is kept, and none if it is ignored.
@@ -83,7 +94,7 @@ pub fn link_check(
     calendars: &[PlanCalendar],
     k: usize,
 ) -> Result<Option<Link>, PlanError>
-    requires { Lent sheet.now tables.now × (k < sheet.now.contents.links) × DistinctIds (plan_in sheet.now) × Indexed (plan_in sheet.now) (state tables.now) sheet.now.contents.activities × Parented (plan_in sheet.now) (state tables.now) sheet.now.contents.activities × ActivitiesFine (plan_in sheet.now) × Lengths (plan_in sheet.now) calendars.now }
+    requires { Judging sheet.now calendars.now tables.now × (k < sheet.now.contents.links) }
     ensures { LinkAnswered (plan_in sheet.now) k result }
 {
     let ends = link_ends(sheet, tables, k)?;

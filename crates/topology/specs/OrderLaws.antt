@@ -47,7 +47,7 @@ module _ {a t : ℕ} {S : State} (O : ChainsOut a t S) where
         rw (targets_hit S t v k b (W.hits b)) at W.progress in
         rw e p
 
-    pub walk_step : (U : State) (r k' : ℕ) → k < t → queued U r ≡ met T k end → k' ≡ S.link next_out k → Walk a t S U h v k' r
+    pub walk_step : (U : State) (r k' : ℕ) → k < t → queued U r ≡ met (queued T end) k → k' ≡ S.link next_out k → Walk a t S U h v k' r
     walk_step U r k' b q e =
         let s : Stands (S.link from_field) t v (k + 1) k' = rw (e, sym (W.hits b)) (O.nexts k (omega arith) b) in record {
           kept = frame_then waiting seen 0 0 W.kept (met_frame T U k end r q);
@@ -57,7 +57,7 @@ module _ {a t : ℕ} {S : State} (O : ChainsOut a t S) where
         }
 
     -- the next link of the chain, read after this one is met
-    pub walk_next : (U : State) (r : ℕ) → queued U r ≡ met T k end → U.link next_out k ≡ S.link next_out k
+    pub walk_next : (U : State) (r : ℕ) → queued U r ≡ met (queued T end) k → U.link next_out k ≡ S.link next_out k
     walk_next U r q = ap (λ (f : ℕ → ℕ). f k) ((frame_then waiting seen 0 0 W.kept (met_frame T U k end r q)).links next_out refl)
 
     pub walk_later : k < t → k < S.link next_out k

@@ -1,11 +1,12 @@
 -- What the steps do to the counts and the queue, as the network has them, and what they leave.
 use Rattle.std.specs.Prelude.{◌≡◌, refl, ◌≢◌, List, ◌∷◌, ℕ, ◌+◌, ◌-◌, ◌<◌, pos}
-use Rattle.std.proofs.Common.{sym, ap, ◌∙◌, ⊎_elim, arith}
+use Rattle.std.proofs.Common.{sym, ap, ◌∙◌, ⊎_elim, arith, MutBor}
 use borrow.Author.Tests.{eq-eqb, ne_eqb}
 use Rattle.number.specs.Order.{lt_or_le, zero_or_pos, eq_or_ne}
 use Rattle.memory.specs.State.{State, put_act, fill_act}
 use Rattle.memory.specs.Seen.{state}
 use Rattle.memory.specs.declared.Tables.{Tables}
+use Rattle.memory.specs.SeenLaws.{same_refl, same_then}
 use Rattle.memory.specs.StateLaws.{act_past, act_same, act_row, fill_act_lem}
 use Rattle.memory.specs.Fields.{waiting, order_at, seen, to_field}
 use Rattle.network.specs.Links.{Link}
@@ -18,7 +19,7 @@ use Rattle.network.proofs.ProgressLaws.{progress_pos, progress_more, progress_la
 use Rattle.network.proofs.ProgressEnds.{filled_push, filled_skip}
 use Rattle.topology.specs.Links.{links_of}
 use Rattle.topology.specs.LinksLaws.{links_length, to_at_lem}
-use Rattle.topology.specs.Steps.{counted, Queued, queued, readied, met}
+use Rattle.topology.specs.Steps.{counted, Queued, queued, readied, met, SameTables}
 use Rattle.topology.specs.Frame.{Frame}
 use Rattle.topology.specs.FrameLaws.{frame_refl, frame_then, frame_put, frame_acts}
 
@@ -44,18 +45,26 @@ pub counted_column : (S : State) (k x : ℕ) → (counted S k).act waiting x ≡
 unfolding counted
 counted_column S k x = put_column S waiting (S.link to_field k) (S.act waiting (S.link to_field k) + 1) x
 
+-- ---- tables behind one reference
+
+pub tables_refl : (r : MutBor Tables) → SameTables r r
+tables_refl r = record { same = same_refl r.now; lent = refl }
+
+pub tables_then : {r s t : MutBor Tables} → SameTables r s → SameTables s t → SameTables r t
+tables_then d e = record { same = same_then d.same e.same; lent = e.lent ∙ d.lent }
+
 -- ---- joining the queue
 
 module _ (S : State) (j end : ℕ) where
-  pub readied_joins : S.act waiting j ≡ 0 → readied S j end ≡ queued (put_act S order_at end j) (end + 1)
+  pub readied_joins : S.act waiting j ≡ 0 → readied (queued S end) j ≡ queued (put_act S order_at end j) (end + 1)
   unfolding readied
   readied_joins e = simp (readied, eq-eqb (S.act waiting j) 0 e)
 
-  pub readied_waits : 0 < S.act waiting j → readied S j end ≡ queued S end
+  pub readied_waits : 0 < S.act waiting j → readied (queued S end) j ≡ queued S end
   unfolding readied
   readied_waits p = simp (readied, ne_eqb (S.act waiting j) 0 (λ e. omega arith))
 
-  module _ (T : State) (r : ℕ) (q : queued T r ≡ readied S j end) where
+  module _ (T : State) (r : ℕ) (q : queued T r ≡ readied (queued S end) j) where
     ways : {C : Type 0} → (S.act waiting j ≡ 0 → T ≡ put_act S order_at end j → r ≡ end + 1 → C) → (0 < S.act waiting j → T ≡ S → r ≡ end → C) → C
     ways joins waits =
         ⊎_elim (λ z. let e = q ∙ readied_joins z in joins z (ap (λ (w : Queued). w.state) e) (ap (λ (w : Queued). w.end) e))
@@ -88,11 +97,11 @@ module _ (S T U : State) (t k : ℕ) (h : k < t) (F : Frame waiting order_at 0 0
 
 -- ---- a link is met
 
-module _ (T U : State) (k end r : ℕ) (q : queued U r ≡ met T k end) where
+module _ (T U : State) (k end r : ℕ) (q : queued U r ≡ met (queued T end) k) where
   abbrev lowered : State
   lowered = put_act T waiting (T.link to_field k) (T.act waiting (T.link to_field k) - 1)
 
-  as_readied : queued U r ≡ readied lowered (T.link to_field k) end
+  as_readied : queued U r ≡ readied (queued lowered end) (T.link to_field k)
   unfolding met
   as_readied = q
 

@@ -9,10 +9,13 @@ ghost use Rattle.network.specs.Kahn.{into, first_waiting, waiting_before};
 ghost use Rattle.network.specs.Array.{Filled, Progress};
 ghost use Rattle.topology.specs.Links.{links_of, Ends};
 ghost use Rattle.topology.specs.Frame.{Frame};
-ghost use Rattle.topology.specs.Steps.{counted, queued, readied, met};
+ghost use Rattle.topology.specs.Steps.{counted};
 ghost use Rattle.topology.specs.Order.{ChainsIn, ChainsOut, Draining, Topological};
 ghost use Rattle.topology.specs.Loop.{Stuck, loop_at, NamedLoop, passed, WalkedBack};
 
+mod queue;
+
+use crate::queue::Queue;
 use memory::{Tables, fields};
 use std::ops::Range;
 
@@ -37,77 +40,13 @@ fn count_links(tables: &mut Tables)
 }
 
 // Counts the links into each activity.
+// `tie_list::count_incoming` counts the same over a slice of links; this one counts where the tables hold them, so each reads and writes by its own functions.
 fn count_incoming(tables: &mut Tables)
     requires { Ends tables.old.activities tables.old.kept (state tables.old) }
     ensures { ((i : ℕ) → (state tables.new).act waiting i ≡ into (links_of (state tables.old) tables.old.kept) i) × Frame waiting order_at 0 0 (state tables.old) (state tables.new) × SameSlice tables.old tables.new }
 {
     tables.fill_act(fields::WAITING, 0);
     count_links(tables);
-}
-
-// Puts activity `j` at the queue's end if it waits for none; answers the new end.
-fn ready_one(tables: &mut Tables, j: usize, end: usize) -> usize
-    requires { (j < tables.old.activities) × (end < tables.old.activities) }
-    ensures { (queued (state tables.new) result ≡ readied (state tables.old) j end) × SameSlice tables.old tables.new }
-{
-    if tables.act(j, fields::WAITING) > 0 {
-        return end;
-    }
-    tables.put_act(end, fields::ORDER_AT, j as u64);
-    end + 1
-}
-
-// Puts the activities that wait for none into the queue; answers its end.
-fn first_ready(tables: &mut Tables) -> usize
-    ensures { Filled ((state tables.new).act waiting) ((state tables.new).act order_at) tables.old.activities result × Frame order_at seen 0 0 (state tables.old) (state tables.new) × SameSlice tables.old tables.new }
-{
-    let mut end: usize = 0;
-    for m in 0..tables.activities {
-        end = ready_one(tables, m, end);
-    }
-    end
-}
-
-// Meets link `k`: the activity that it leads to waits for one less, and joins the queue if that was the last. Answers the queue's new end.
-fn meet_link(tables: &mut Tables, k: usize, end: usize) -> usize
-    requires { (k < tables.old.links) × (end < tables.old.activities) × ((state tables.old).link to_field k < tables.old.activities) × (0 < (state tables.old).act waiting ((state tables.old).link to_field k)) }
-    ensures { (queued (state tables.new) result ≡ met (state tables.old) k end) × SameSlice tables.old tables.new }
-{
-    let j = tables.link(k, fields::TO) as usize;
-    let w = tables.act(j, fields::WAITING);
-    tables.put_act(j, fields::WAITING, w - 1);
-    ready_one(tables, j, end)
-}
-
-// The queue's activity at `h` comes out: its outgoing links are met, in rising order. Answers the queue's new end.
-fn release(tables: &mut Tables, h: usize, end: usize) -> usize
-    requires { (h < end) × ChainsOut tables.old.activities tables.old.kept (state tables.old) × Progress (links_of (state tables.old) tables.old.kept) tables.old.activities ((state tables.old).act order_at) ((state tables.old).act waiting) h end [] }
-    ensures { Draining tables.old.activities tables.old.kept (state tables.old) (state tables.new) (h + 1) result × SameSlice tables.old tables.new }
-{
-    let v = tables.act(h, fields::ORDER_AT) as usize;
-    let mut k = tables.act(v, fields::FIRST_OUT) as usize;
-    let mut r = end;
-    // A `while`: the body writes the tables that the next link is read from, so no iterator may hold them.
-    while k < tables.kept {
-        r = meet_link(tables, k, r);
-        k = tables.link(k, fields::NEXT_OUT) as usize;
-    }
-    r
-}
-
-// The queue's activities come out, first in first out. Answers how many.
-fn drain(tables: &mut Tables, end: usize) -> usize
-    requires { ChainsOut tables.old.activities tables.old.kept (state tables.old) × Progress (links_of (state tables.old) tables.old.kept) tables.old.activities ((state tables.old).act order_at) ((state tables.old).act waiting) 0 end [] }
-    ensures { Draining tables.old.activities tables.old.kept (state tables.old) (state tables.new) result result × SameSlice tables.old tables.new }
-{
-    let mut r = end;
-    let mut h: usize = 0;
-    // The queue grows as it is read, so no range counts `h`.
-    while h < r {
-        r = release(tables, h, r);
-        h += 1;
-    }
-    r
 }
 
 // Chains the kept links by the activities that they enter, and by those that they leave.
@@ -119,23 +58,16 @@ fn chain_both(tables: &mut Tables)
     tables.chain(fields::FROM, fields::FIRST_OUT, fields::NEXT_OUT);
 }
 
-// Counts the links into each activity, and puts those that wait for none into the queue; answers its end.
-fn start_queue(tables: &mut Tables) -> usize
-    requires { Ends tables.old.activities tables.old.kept (state tables.old) }
-    ensures { Draining tables.old.activities tables.old.kept (state tables.old) (state tables.new) 0 result × SameSlice tables.old tables.new }
-{
-    count_incoming(tables);
-    first_ready(tables)
-}
-
 // Puts the activities in Kahn's order by the kept links, as far as it comes; answers how far. Leaves the counts and the chains of the links.
 pub fn order_activities(tables: &mut Tables) -> usize
     requires { Ends tables.old.activities tables.old.kept (state tables.old) }
     ensures { Topological tables.old.activities tables.old.kept (state tables.old) (state tables.new) result × SameSlice tables.old tables.new }
 {
     chain_both(tables);
-    let end = start_queue(tables);
-    drain(tables, end)
+    // A literal and no constructor: what becomes of tables that a call's result borrows, the check does not know.
+    let mut queue = Queue { tables, end: 0 };
+    queue.start();
+    queue.drain()
 }
 
 // The first activity that still waits.
@@ -193,8 +125,8 @@ fn copy_loop(tables: &mut Tables, places: Range<usize>) -> usize
     ensures { (result ≡ places.end - places.start) × ((k : ℕ) → k < result → (state tables.new).act loop_at k ≡ (state tables.old).act path_at (places.end - 1 - k)) × Frame seen path_at 0 0 (state tables.old) (state tables.new) × SameSlice tables.old tables.new }
 {
     let n = places.len();
-    for k in 0..n {
-        let x = tables.act(places.end - 1 - k, fields::PATH_AT);
+    for (k, p) in places.rev().enumerate() {
+        let x = tables.act(p, fields::PATH_AT);
         tables.put_act(k, fields::SEEN, x);
     }
     n

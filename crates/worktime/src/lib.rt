@@ -13,7 +13,7 @@ pub enum ClockError {
 }
 
 impl ClockError {
-    // The row of the table of refusals.
+    // The row of the table of refusals; a method, as `order::PlanError` has one.
     pub fn number(self) -> u64
         ensures { (result ≡ clock_number self) × (result < 16) }
     {

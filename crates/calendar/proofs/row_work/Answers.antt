@@ -1,26 +1,23 @@
--- `calendar::row_work` meets its contract. The loop keeps the sum over the periods passed and the minutes of those that are left.
-use Rattle.std.proofs.Common.{◌≡◌, ◌+◌, drop, get_or, refl, arith}
-use Rattle.calendar.specs.Hours.{none, rank}
-use Rattle.calendar.specs.Steps.{rank_step, rank_end, ordered_end}
+-- `calendar::row_work` meets its contract: its sum is that of the definition.
+use Rattle.std.proofs.Common.{◌∙◌, ◌-◌, rules, arith}
+use Rattle.std.proofs.lemmas.Iterator.{YieldsList-from_slice, YieldsList-from_map}
+use Rattle.std.proofs.lemmas.Iterator.Consumers.{sum_from_yields_List, fits_from_yields_list}
+use Rattle.calendar.specs.declared.Period.{Period}
 use Rattle.calendar.specs.HoursLaws.{rank_bound}
+use Rattle.calendar.specs.Steps.{work_from}
 use Rattle.calendar.proofs.row_work.Goals as goal
 
-step : (c : goal.After-period_length-sum) → rank (drop c.loop-p.p-index c.args.row) 1440 ≡ c.period_length-sum.result + rank (drop (c.loop-p.p-index + 1) c.args.row) 1440
-step c =
-    omega (
-      arith,
-      c.period_length-sum.ensures,
-      rank_step c.args.row c.loop-p.p-index 1440 (get_or c.args.row c.loop-p.p-index none) refl (omega arith),
-      ordered_end 0 c.args.row c.loop-p.p-index c.requires,
-    )
-
-pub overflow_add-sum : goal.overflow_add-sum
-overflow_add-sum c = omega (arith, step c, c.loop-p.invariant, rank_bound c.args.row 1440 c.requires)
-
-pub loop-p-preserved : goal.loop-p-preserved
-loop-p-preserved c = omega (arith, step c, c.loop-p.invariant)
+pub sum-requires-clause-fits : goal.sum-requires-clause-fits
+sum-requires-clause-fits c =
+    let row = c.args.row in
+    fits_from_yields_list c.map.result _
+    (YieldsList-from_map _ (λ (p : Period). p.to - p.from) (YieldsList-from_slice row cc) c.map.ensures.closure (λ x r q k. (search rules, search rules)))
+    (omega (arith, work_from row c.requires, rank_bound row 1440 c.requires))
 
 pub returns : goal.returns
 returns c =
-    let e = rank_end c.args.row c.loop-p.p-index 1440 (omega arith) in
-    (omega (arith, e, c.loop-p.invariant), omega (arith, e, c.loop-p.invariant, rank_bound c.args.row 1440 c.requires))
+    let row = c.args.row in
+    let e = sum_from_yields_List c.map.result c.sum.result c.sum.ensures.ran
+    (YieldsList-from_map _ (λ (p : Period). p.to - p.from) (YieldsList-from_slice row cc) c.map.ensures.closure (λ x r q k. (search rules, search rules)))
+    ∙ work_from row c.requires in
+    (e, omega (arith, e, rank_bound row 1440 c.requires))

@@ -30,12 +30,12 @@ loop-k-preserved c =
     let q = c.calendar-place in
     let e = place_weeks s c.loop-k.at q.result q.ensures in
     let fits : c.loop-k.k < length c.loop-k.calendars = omega (arith, c.args.sheet.now.read.calendars_few, v.2, l) in
-    let row : PlanCalendar = record { week = c.read_week.result; at = q.result.at; n = q.result.exceptions; day_length = c.read_day_length.result } in (
+    let row : PlanCalendar = record { week = c.read_week.result; at = q.result.at; n = q.result.exceptions; day_length = c.day_length.result } in (
       omega (arith, l),
       calendar_next s c.loop-k.k c.loop-k.at q.result v.1 q.ensures,
       length-set c.loop-k.calendars c.loop-k.k row ∙ v.2,
       located_more v.3 fits row (read_calendar s x.contents x.read c.loop-k.k c.loop-k.at q.result l v.1 q.ensures row (rw e at c.read_week.ensures) refl refl),
-      measured_more s c.loop-k.k c.loop-k.calendars v.4 fits c.loop-k.at v.1 row c.read_day_length.ensures.0,
+      measured_more s c.loop-k.k c.loop-k.calendars v.4 fits c.loop-k.at v.1 row (rw (c.new.ensures.0, c.new.ensures.1) at c.day_length.ensures.0),
       clocks_more c.loop-k.k c.loop-k.calendars row v.5,
     )
 

@@ -23,8 +23,10 @@ cleared size ns e = ap length e ∙ length-replicate {A = ℕ} size 0
 pub link_all-requires : goal.link_all-requires
 unfolding plan_of
 link_all-requires c =
-    let P = c.requires.1 in
-    (c.requires.0, P.distinct, P.indexed, P.parented, P.activities, c.requires.2, omega (arith, cleared _ _ (c.fill.ensures.after (λ y e. e)), c.requires.4))
+    let P = c.requires.1 in (
+      record { lent = c.requires.0; distinct = P.distinct; indexed = P.indexed; parented = P.parented; activities = P.activities; lengths_are = c.requires.2 },
+      omega (arith, cleared _ _ (c.fill.ensures.after (λ y e. e)), c.requires.4),
+    )
 
 pub returns-in-Err : goal.returns-in-Err
 unfolding plan_of

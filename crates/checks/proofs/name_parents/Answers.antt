@@ -1,10 +1,12 @@
 -- `checks::name_parents` meets its contract: after k steps k + 1 names are written, and i is the activity k steps up.
-use mathlib.Core.Path.{◌≡◌, ap, ◌∙◌}
+use mathlib.Core.Path.{◌≡◌, refl, sym, ap, ◌∙◌}
 use mathlib.Core.List.{List, ◌++◌}
 use Prim.Native.Nat.{ℕ, ◌+◌, ◌-◌, ◌<◌}
 use native.Mathlib.Omega.{arith}
 use lib.ListN.{set, length, replicate, length-replicate}
+use Rattle.std.specs.Prelude.{Option, Some, None, IsSome}
 use Rattle.memory.specs.Fields.{parent}
+use Rattle.memory.specs.Rows.{cell_of}
 use Rattle.memory.specs.State.{State}
 use Rattle.network.specs.Parents.{climb, upward}
 use Rattle.order.specs.Plan.{Plan, plan_of, plan_in}
@@ -27,10 +29,16 @@ module _ (p : Plan) (K : ParentsKnown p) (first steps : ℕ) (F : LoopFrom p fir
       (ap (id_of p) (up_first p K first steps F) ∙ names_at p K first steps F 0 (omega arith)) e
 
   -- the activity one step further up
-  next_up : (S : State) → Parented p S p.activities → (k i : ℕ) → k < steps → i ≡ climb (parent_of p) k first - 1
-      → (r : ℕ) → r ≡ S.act parent i → r ≡ climb (parent_of p) (k + 1) first - 1 + 1
-  next_up S P k i l h r e =
-      e ∙ P.parents i (omega (arith, h, up_below p K first steps F k (omega arith))) ∙ ap (parent_of p) h ∙ up_parent p K first steps F k l
+  module _ (S : State) (P : Parented p S p.activities) (k i : ℕ) (l : k < steps) (h : i ≡ climb (parent_of p) k first - 1) where
+    above : S.act parent i ≡ climb (parent_of p) (k + 1) first - 1 + 1
+    above = P.parents i (omega (arith, h, up_below p K first steps F k (omega arith))) ∙ ap (parent_of p) h ∙ up_parent p K first steps F k l
+
+    has_parent : (row : Option ℕ) → cell_of row ≡ S.act parent i → IsSome row
+    has_parent None e = absurd (omega (arith, above))
+    has_parent (Some j) e = refl
+
+    next_up : (row : Option ℕ) → cell_of row ≡ S.act parent i → (j : ℕ) → row ≡ Some j → j ≡ climb (parent_of p) (k + 1) first - 1
+    next_up row e j is = omega (arith, above, ap cell_of (sym is) ∙ e)
 
 pub name_one-requires : goal.name_one-requires
 unfolding plan_of
@@ -48,21 +56,21 @@ loop-k-init c =
       naming_here (named (id_of p) (upward (parent_of p) x.steps x.first)) (length x.names.now) _ 1 N,
     )
 
-pub act-requires : goal.act-requires
+pub row-requires : goal.row-requires
 unfolding plan_of
-act-requires c =
+row-requires c =
     let x = c.args in
     let p = plan_in x.sheet.now in
     let L = c.loop-k in
     (omega (arith, c.requires.0.activities, L.invariant.1, up_below p c.requires.1 x.first x.steps c.requires.3 L.k (omega arith)), omega arith)
 
-pub overflow_sub-i : goal.overflow_sub-i
+pub unwrap-i-requires : goal.unwrap-i-requires
 unfolding plan_of
-overflow_sub-i c =
+unwrap-i-requires c =
     let x = c.args in
     let p = plan_in x.sheet.now in
     let L = c.loop-k in
-    omega (arith, next_up p c.requires.1 x.first x.steps c.requires.3 _ c.requires.2 L.k L.i (omega arith) L.invariant.1 _ c.act.ensures.0)
+    has_parent p c.requires.1 x.first x.steps c.requires.3 _ c.requires.2 L.k L.i (omega arith) L.invariant.1 _ c.row.ensures
 
 pub name_one-requires-in-loop-k : goal.name_one-requires-in-loop-k
 unfolding plan_of
@@ -70,7 +78,7 @@ name_one-requires-in-loop-k c =
     let x = c.args in
     let p = plan_in x.sheet.now in
     let L = c.loop-k in
-    (omega (arith, next_up p c.requires.1 x.first x.steps c.requires.3 _ c.requires.2 L.k L.i (omega arith) L.invariant.1 _ c.act.ensures.0, up_below p c.requires.1 x.first x.steps c.requires.3 (L.k + 1) (omega arith)), omega (arith, L.invariant.0, L.invariant.2.kept))
+    (omega (arith, next_up p c.requires.1 x.first x.steps c.requires.3 _ c.requires.2 L.k L.i (omega arith) L.invariant.1 _ c.row.ensures _ c.unwrap-i.ensures, up_below p c.requires.1 x.first x.steps c.requires.3 (L.k + 1) (omega arith)), omega (arith, L.invariant.0, L.invariant.2.kept))
 
 pub loop-k-preserved : goal.loop-k-preserved
 unfolding plan_of
@@ -79,8 +87,7 @@ loop-k-preserved c =
     let p = plan_in x.sheet.now in
     let xs = named (id_of p) (upward (parent_of p) x.steps x.first) in
     let L = c.loop-k in
-    let i = c.act.result - 1 in
-    let e : i ≡ climb (parent_of p) (L.k + 1) x.first - 1 = omega (arith, next_up p c.requires.1 x.first x.steps c.requires.3 _ c.requires.2 L.k L.i (omega arith) L.invariant.1 _ c.act.ensures.0) in (
+    let e = next_up p c.requires.1 x.first x.steps c.requires.3 _ c.requires.2 L.k L.i (omega arith) L.invariant.1 _ c.row.ensures _ c.unwrap-i.ensures in (
       L.invariant.0,
       e,
       naming_more xs _ _ (L.k + 1) L.invariant.2 _ _ (omega (arith, names_length p c.requires.1 x.first x.steps c.requires.3)) (omega (arith, L.invariant.0))

@@ -7,7 +7,7 @@ use mir.Syntax.{w64}
 use mir.Facts.{to_z_pos, to_z-of_z}
 use Rattle.number.specs.ZedLaws.{zero_minus}
 use Rattle.number.specs.Exits.{handed_on}
-use Rattle.worktime.specs.Reads.{day_read, day_refused}
+use Rattle.worktime.specs.Reads.{day_read, day_refused, minute_range}
 use Rattle.worktime.proofs.Between.{between_out_first, between_out_second, between_up, between_down}
 use Rattle.clock.specs.On.{worked_by}
 use Rattle.clock.proofs.between.Goals as goal
@@ -22,6 +22,9 @@ returns-in_err-read_day-2 c =
     let r = day_refused _ _ c.read_day-2.ensures.0 c.in_err-read_day-2.was in
     rw (handed_on _ _ c.from_residual-in_err-read_day-2.ensures.1) (ap Err r.0 ∙ sym (between_out_second _ _ _ r.1))
 
+pub work_to-requires : goal.work_to-requires
+work_to-requires c = (omega arith, (minute_range c.args.b (day_read _ _ c.read_day-2.ensures.0 c.in_ok-read_day-2.was)).1)
+
 pub returns-then-a-b : goal.returns-then-a-b
 returns-then-a-b c =
     let w = worked_by c.args.calendar.now in
@@ -29,6 +32,9 @@ returns-then-a-b c =
     ∙ sym
     (between_up w c.args.a c.args.b _ (day_read _ _ c.read_day.ensures.0 c.in_ok-read_day.was)
     (day_read _ _ c.read_day-2.ensures.0 c.in_ok-read_day-2.was) c.work_to.ensures.0)
+
+pub work_to-requires-2 : goal.work_to-requires-2
+work_to-requires-2 c = (omega arith, (minute_range c.args.a (day_read _ _ c.read_day.ensures.0 c.in_ok-read_day.was)).1)
 
 pub returns : goal.returns
 returns c =

@@ -12,9 +12,6 @@ pub returns-then-lag-eq0 : goal.returns-then-lag-eq0
 returns-then-lag-eq0 c =
     sym (ap (shift _ c.args.t) (sym (to_z-of_z c.ranges.lag) ∙ ap (to_z w64) c.if-lag-eq0.true) ∙ shift_zero _ _)
 
-pub shift-requires : goal.shift-requires
-shift-requires c = rw (to_z-of_z c.ranges.lag) c.requires
-
 pub returns : goal.returns
 returns c =
     c.shift.ensures

@@ -4,16 +4,13 @@ use native.Mathlib.Omega.{arith}
 use Rattle.clock.specs.On.{worked_by}
 use Rattle.order.specs.Plan.{plan_in}
 use Rattle.bounds.specs.ReadyLaws.{kept_within}
-use Rattle.bounds.specs.LinkLaws.{to_in, lead_fits}
+use Rattle.bounds.specs.LinkLaws.{to_in}
 use Rattle.number.specs.Exits.{handed_on}
 use Rattle.floats.specs.GapLaws.{gap_refused, gap_between}
 use Rattle.floats.proofs.gap_at.Goals as goal
 
 pub tie_at-tie-requires : goal.tie_at-tie-requires
 tie_at-tie-requires c = let q = c.requires in omega (arith, q.0.links, kept_within q.0, q.1)
-
-pub forward_bound-requires : goal.forward_bound-requires
-forward_bound-requires c = let q = c.requires in lead_fits q.0 _ q.1 _ c.tie_at-tie.ensures
 
 pub act-target-requires : goal.act-target-requires
 act-target-requires c =

@@ -30,7 +30,7 @@ returns c =
           let l : x.i < p.activities = omega (arith, a, c.requires) in
           ap (λ (T : State). leaves (freed_in p T)) e
           ∙ held_to p S x.i x.free l _ (sym H.own_is) _ (ap (λ (y : Activity). y.kind) H.activity_is) _ _ _
-          c.act-start.ensures.0 c.act-finish.ensures.0 (H.left_is ∙ left_at p S x.i l) _ _ (sym c.held_move.ensures ∙ c.in_ok-moved.was),
+          c.early_at-early.ensures.0 c.early_at-early.ensures.1 (H.left_is ∙ left_at p S x.i l) _ _ (sym c.held_move.ensures ∙ c.in_ok-moved.was),
       F,
       c.store_move.ensures.1,
     )
@@ -42,7 +42,7 @@ returns-in_err-moved c = rw (handed_on _ _ c.from_residual.ensures.1) (
       λ p a H.
           let l : x.i < p.activities = omega (arith, a, c.requires) in
           held_refused p S x.i x.free l _ (sym H.own_is) _ (ap (λ (y : Activity). y.kind) H.activity_is) _ _ _
-          c.act-start.ensures.0 c.act-finish.ensures.0 (H.left_is ∙ left_at p S x.i l) _ (sym c.held_move.ensures ∙ c.in_err-moved.was),
+          c.early_at-early.ensures.0 c.early_at-early.ensures.1 (H.left_is ∙ left_at p S x.i l) _ (sym c.held_move.ensures ∙ c.in_err-moved.was),
       frame_refl 12 16 0 0 S,
       same_refl x.tables.now,
     ))

@@ -1,26 +1,30 @@
 -- `ids::is_milestone_parent` meets its contract.
-use mathlib.Core.Path.{ap, ◌∙◌}
+use mathlib.Core.Bool.{Bool, ◌&&◌}
+use mathlib.Core.Path.{sym, ap, ◌∙◌}
 use native.Mathlib.Omega.{arith}
+use Rattle.std.proofs.Math.Bool.{and-true, and-false}
 use Rattle.project.specs.Status.{is_milestone}
 use Rattle.order.specs.Plan.{plan_of, plan_in}
+use Rattle.order.specs.Ids.{summary}
 use Rattle.order.specs.InSheet.{activity_is}
 use Rattle.memory.specs.Seen.{state}
-use Rattle.ids.specs.SummaryLaws.{no_summary, summary_kind}
+use Rattle.ids.specs.SummaryLaws.{is_marked}
 use Rattle.ids.proofs.is_milestone_parent.Goals as goal
 
-pub returns-then-act-eq0 : goal.returns-then-act-eq0
+pub returns-then-is_milestone : goal.returns-then-is_milestone
 unfolding plan_of
-returns-then-act-eq0 c =
+returns-then-is_milestone c =
     let x = c.args in
     let p = plan_in x.sheet.now in
-    let S = state x.tables.now in
-    no_summary p S c.requires.2 x.i (omega arith) _ c.act.ensures.0 c.if-act-eq0.true
+    let s = summary p x.i in
+    let k = sym (c.is_milestone.ensures ∙ ap is_milestone (rw (activity_is x.sheet.now x.i c.activity.ensures) at c.kind.ensures)) ∙ c.if-is_milestone.true in
+    is_marked p (state x.tables.now) c.requires.2 x.i (omega arith) _ c.is_summary.ensures ∙ sym (and-true s) ∙ ap (λ (b : Bool). s && b) (sym k)
 
-pub returns : goal.returns
+pub returns-else-is_milestone : goal.returns-else-is_milestone
 unfolding plan_of
-returns c =
+returns-else-is_milestone c =
     let x = c.args in
     let p = plan_in x.sheet.now in
-    let S = state x.tables.now in
-    c.is_milestone.ensures ∙ ap is_milestone (rw (activity_is x.sheet.now x.i c.activity.ensures) at c.kind.ensures)
-    ∙ summary_kind p S c.requires.2 x.i (omega arith) _ c.act.ensures.0 (λ q. omega arith)
+    let s = summary p x.i in
+    let k = sym (c.is_milestone.ensures ∙ ap is_milestone (rw (activity_is x.sheet.now x.i c.activity.ensures) at c.kind.ensures)) ∙ c.if-is_milestone.false in
+    c.if-is_milestone.false ∙ sym (and-false s) ∙ ap (λ (b : Bool). s && b) (sym k)

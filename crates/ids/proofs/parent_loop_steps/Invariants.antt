@@ -1,8 +1,9 @@
 -- `ids::parent_loop_steps` meets its contract: k steps are made and lead to `up`.
 use Rattle.memory.specs.Seen.{state}
 use Rattle.memory.specs.Fields.{parent}
+use Rattle.memory.specs.Rows.{cell_of}
 use Rattle.ids.specs.ClimbSteps.{Climb}
 use Rattle.ids.proofs.parent_loop_steps.Given as goal
 
 abbrev pub invariant-loop-k : goal.invariant-loop-k
-invariant-loop-k l = Climb ((state l.tables).act parent) l.tables.activities l.i l.up l.k
+invariant-loop-k l = Climb ((state l.tables).act parent) l.tables.activities l.i (cell_of l.up) l.k

@@ -18,10 +18,10 @@ returns-then-id-eq0 c =
     let P = c.requires.4 in
     let d = rw (activity_is x.sheet.now x.i c.activity.ensures) at c.parent-id.ensures.0 in
     let z = c.if-id-eq0.true in
-    let e = c.put_act.ensures.0 in (
+    let e = c.put_row.ensures.0 in (
       record { is = top_fine p S x.i P _ d z },
       record { kept = top_kept p S x.i P _ d z _ e; holds = top_parented p S x.i P _ d z _ e },
-      c.put_act.ensures.1,
+      c.put_row.ensures.1,
     )
 
 pub returns-in_default : goal.returns-in_default
@@ -49,9 +49,9 @@ returns c =
     let z = c.if-id-eq0.false in
     let f = c.in-Some.ensures in
     let D = c.requires.2 in
-    let t = c.put_act-2.ensures.0 in
-    let u = c.put_act-3.ensures.0 in (
+    let t = c.put_row-2.ensures.0 in
+    let u = c.put_act.ensures.0 in (
       record { is = known_fine p S x.i P _ d z _ f.0 f.1 },
       record { kept = known_kept p S x.i P _ d z _ f.0 f.1 D _ _ t u; holds = known_parented p S x.i P _ d z _ f.0 f.1 D _ _ t u },
-      same_then c.put_act-2.ensures.1 c.put_act-3.ensures.1,
+      same_then c.put_row-2.ensures.1 c.put_act.ensures.1,
     )

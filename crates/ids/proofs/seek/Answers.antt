@@ -7,17 +7,17 @@ use Rattle.memory.specs.Seen.{state}
 use Rattle.ids.specs.SearchLaws.{child_later, seeking_nowhere, seeking_start, seeking_found, seeking_end, seeking_turn}
 use Rattle.ids.proofs.seek.Goals as goal
 
-pub returns-then-first-eq0 : goal.returns-then-first-eq0
+pub returns-in_default : goal.returns-in_default
 unfolding plan_of
-returns-then-first-eq0 c =
+returns-in_default c =
     let x = c.args in
-    seeking_nowhere (plan_in x.sheet.now) (state x.tables.now) x.n x.id c.requires.3 _ c.act-first.ensures.0 c.if-first-eq0.true
+    seeking_nowhere (plan_in x.sheet.now) (state x.tables.now) x.n x.id c.requires.3 c.in_default.ensures
 
 pub loop-n-init : goal.loop-n-init
 unfolding plan_of
 loop-n-init c =
     let x = c.args in
-    seeking_start (plan_in x.sheet.now) (state x.tables.now) x.n x.id c.requires.3 _ c.act-first.ensures.0 c.if-first-eq0.false
+    seeking_start (plan_in x.sheet.now) (state x.tables.now) x.n x.id c.requires.3 _ c.in-Some.ensures
 
 pub returns-then-id : goal.returns-then-id
 returns-then-id c =
@@ -27,23 +27,22 @@ returns-then-id c =
       L.invariant.below,
     )
 
-pub returns-then-k-eq0 : goal.returns-then-k-eq0
-unfolding plan_of
-returns-then-k-eq0 c =
+pub returns-in_default-row : goal.returns-in_default-row
+returns-in_default-row c =
     let x = c.args in
     let L = c.loop-n in
-    seeking_end (plan_in x.sheet.now) (state x.tables.now) x.n x.id c.requires.3 L.j L.rest L.invariant _ c.act-k.ensures.0
-    (λ e. c.if-id.false (rw (activity_is x.sheet.now L.j c.activity.ensures) at c.id.ensures.0 ∙ e)) c.if-k-eq0.true
+    seeking_end (plan_in x.sheet.now) (state x.tables.now) x.n x.id c.requires.3 L.j L.rest L.invariant
+    (λ e. c.if-id.false (rw (activity_is x.sheet.now L.j c.activity.ensures) at c.id.ensures.0 ∙ e)) c.in_default-row.ensures
 
 pub loop-n-smaller : goal.loop-n-smaller
 loop-n-smaller c =
     let x = c.args in
     let L = c.loop-n in
-    omega (arith, L.invariant.below, (child_later (plan_in x.sheet.now) (state x.tables.now) x.n x.id c.requires.3 L.j L.rest L.invariant _ c.act-k.ensures.0 c.if-k-eq0.false).0)
+    omega (arith, L.invariant.below, (child_later (plan_in x.sheet.now) (state x.tables.now) x.n x.id c.requires.3 L.j L.rest L.invariant _ c.in-Some-row.ensures).0)
 
 pub loop-n-preserved : goal.loop-n-preserved
 loop-n-preserved c =
     let x = c.args in
     let L = c.loop-n in
-    seeking_turn (plan_in x.sheet.now) (state x.tables.now) x.n x.id c.requires.3 L.j L.rest L.invariant _ c.act-k.ensures.0
-    (λ e. c.if-id.false (rw (activity_is x.sheet.now L.j c.activity.ensures) at c.id.ensures.0 ∙ e)) c.if-k-eq0.false
+    seeking_turn (plan_in x.sheet.now) (state x.tables.now) x.n x.id c.requires.3 L.j L.rest L.invariant
+    (λ e. c.if-id.false (rw (activity_is x.sheet.now L.j c.activity.ensures) at c.id.ensures.0 ∙ e)) _ c.in-Some-row.ensures

@@ -23,7 +23,7 @@ returns c =
     let m = late_in p S c.args.last in
     let i = c.args.i in
     let q = c.act-early.ensures.0 ∙ sym (early_at R i c.requires.1) in
-    let h = c.hold_late.ensures p d m i (record { hand = c.work_of.ensures.1; origin_is = c.origin_of.ensures.0 }) (summary_at R i _ c.requires.1 c.act-mark.ensures.0) c.requires.2 in (
+    let h = c.hold_late.ensures p d m i (record { hand = c.work_of.ensures.1; origin_is = c.origin_of.ensures.0 }) (summary_at R i c.requires.1 c.is_summary.ensures) c.requires.2 in (
       c.place_late.ensures.0 p d m i (record { hand = c.work_of.ensures.1; origin_is = c.origin_of.ensures.0 }) q ∙ sym (unfinished_placed p d m i c.args.last _ _ (sym c.lower.ensures ∙ c.in_ok-f.was) (sym h ∙ c.in_ok-g.was)),
       c.place_late.ensures.1,
     )
@@ -35,7 +35,7 @@ returns-in_err-g c = rw (handed_on _ _ c.from_residual-in_err-g.ensures.1) (let 
     let d = early_in p S in
     let m = late_in p S c.args.last in
     let i = c.args.i in
-    let h = c.hold_late.ensures p d m i (record { hand = c.work_of.ensures.1; origin_is = c.origin_of.ensures.0 }) (summary_at R i _ c.requires.1 c.act-mark.ensures.0) c.requires.2 in
+    let h = c.hold_late.ensures p d m i (record { hand = c.work_of.ensures.1; origin_is = c.origin_of.ensures.0 }) (summary_at R i c.requires.1 c.is_summary.ensures) c.requires.2 in
     (sym (unfinished_held p d m i c.args.last _ _ (sym c.lower.ensures ∙ c.in_ok-f.was) (sym h ∙ c.in_err-g.was)), fitting_refused _))
 
 pub returns-in_err-f : goal.returns-in_err-f

@@ -5,7 +5,6 @@ use Rattle.std.proofs.lemmas.Result.{err_from_is_err_and}
 use Rattle.order.specs.Plan.{plan_of, plan_in}
 use Rattle.memory.specs.Seen.{state}
 use Rattle.memory.specs.SeenLaws.{lent_then}
-use Rattle.links.specs.Answers.{Judging}
 use Rattle.links.specs.LinkSteps.{judging_kept, linking_start, kept_le, linking_stop, linking_turn, linking_end}
 use Rattle.links.proofs.link_all.Goals as goal
 
@@ -19,8 +18,7 @@ link_one-requires c =
     let L = c.loop-k in
     let taken = kept_le (plan_in x.sheet.now) (state x.tables.now) x.names.now _ _ _ _ L.invariant.2 in
     let h = c.requires in
-    let J : Judging _ _ _ = record { lent = h.0; distinct = h.1; indexed = h.2; parented = h.3; activities = h.4; lengths_are = h.5 } in
-    (judging_kept J L.invariant.2.acts L.invariant.0, omega arith, omega (arith, taken), omega (arith, taken, h.6))
+    (judging_kept h.0 L.invariant.2.acts L.invariant.0, omega arith, omega (arith, taken), omega (arith, taken, h.1))
 
 pub returns-in_err-ignored : goal.returns-in_err-ignored
 unfolding plan_of
@@ -41,7 +39,7 @@ loop-k-preserved c =
     let o = c.in_ok-ignored.ensures in (
       lent_then L.invariant.0 o.1,
       omega (arith, o.2),
-      linking_turn p S x.names.now _ _ _ _ L.invariant.2 (omega arith) _ _ (omega (arith, kept_le p S x.names.now _ _ _ _ L.invariant.2, c.requires.6)) o.0,
+      linking_turn p S x.names.now _ _ _ _ L.invariant.2 (omega arith) _ _ (omega (arith, kept_le p S x.names.now _ _ _ _ L.invariant.2, c.requires.1)) o.0,
     )
 
 pub returns : goal.returns

@@ -2,16 +2,15 @@
 use Rattle.std.specs.Prelude.{Ok}
 use borrow.Author.Rules.{rules}
 use mathlib.Core.Path.{◌≡◌, sym, ap, ◌∙◌}
-use mathlib.Core.Bool.{true, false}
+use mathlib.Core.Bool.{Bool, false}
 use Prim.Native.Nat.{ℕ, ◌<◌}
 use native.Mathlib.Omega.{arith}
 use mir.Facts.{to_z-of_z}
 use mir.Syntax.{w32}
 use mir.Val.{SFits, of_z, to_z}
-use Rattle.std.proofs.Common.{◌≢◌}
+use Rattle.std.proofs.Common.{ltb}
 use Rattle.number.specs.Zed.{up}
-use Rattle.number.specs.Bit.{bit}
-use Rattle.number.specs.BitLaws.{mark_none, mark_some}
+use Rattle.number.specs.BitLaws.{mark_flag}
 use Rattle.project.specs.declared.Activity.{Activity}
 use Rattle.project.specs.declared.Status.{Status}
 use Rattle.project.specs.declared.Status.TheVariants.{NotStarted}
@@ -29,17 +28,11 @@ use Rattle.remaining.specs.LeftLaws.{recorded_summary, recorded_none, full_summa
 use Rattle.remaining.specs.RowLaws.{row_kept}
 use Rattle.remaining.proofs.record_one.Goals as goal
 
--- the mark m tells summaries from others
-module _ {plan : PlanSheet} {tables : Tables} (R : Ready plan tables) {i m : ℕ} (l : i < plan.sheet.contents.activities) (e : m ≡ (state tables).act is_summary i) where
-  marked : m ≡ bit (summary (plan_in plan.sheet) i)
-  unfolding plan_of
-  marked = e ∙ R.standing.marks i l
-
-  is-summary : m ≢ 0 → summary (plan_in plan.sheet) i ≡ true
-  is-summary n = mark_some _ marked n
-
-  no-summary : m ≡ 0 → summary (plan_in plan.sheet) i ≡ false
-  no-summary z = mark_none _ marked z
+-- the mark b tells summaries from others
+told : {plan : PlanSheet} {tables : Tables} {i : ℕ} {b : Bool} → Ready plan tables → i < plan.sheet.contents.activities → b ≡ ltb 0 ((state tables).act is_summary i)
+    → summary (plan_in plan.sheet) i ≡ b
+unfolding plan_of
+told R l e = sym (e ∙ mark_flag _ (R.standing.marks _ l))
 
 -- activity i, no summary
 module _ (p : Plan) (i : ℕ) {a : Activity} (e : a ≡ p.activity i) (n : summary p i ≡ false) where
@@ -54,14 +47,14 @@ pub keep-requires : goal.keep-requires
 keep-requires c =
     let x = c.args in
     let p = plan_in x.plan.now.sheet in
-    let y = is-summary c.requires.0 c.requires.1 c.act-mark.ensures.0 c.if-mark-ne0.true in
+    let y = told c.requires.0 c.requires.1 c.is_summary.ensures ∙ c.if-is_summary.true in
     (omega (arith, c.requires.0.activities, c.requires.1), is_below p x.i (Ok Unstarted) (sym (recorded_summary p x.i y)), omega arith)
 
-pub returns-then-mark-ne0 : goal.returns-then-mark-ne0
-returns-then-mark-ne0 c =
+pub returns-then-is_summary : goal.returns-then-is_summary
+returns-then-is_summary c =
     let x = c.args in
     let p = plan_in x.plan.now.sheet in
-    let y = is-summary c.requires.0 c.requires.1 c.act-mark.ensures.0 c.if-mark-ne0.true in
+    let y = told c.requires.0 c.requires.1 c.is_summary.ensures ∙ c.if-is_summary.true in
     let e = recorded_summary p x.i y in (
       row_kept p x.i _ _ Unstarted 0 c.keep.ensures.0 (sym e) (left_unstarted p x.i e ∙ ap Ok (full_summary p x.i y)),
       c.keep.ensures.1,
@@ -74,7 +67,7 @@ pub record_dated-requires : goal.record_dated-requires
 record_dated-requires c =
     let x = c.args in
     let e = c.activity_of-activity.ensures in
-    let n = no-summary c.requires.0 c.requires.1 c.act-mark.ensures.0 c.if-mark-ne0.false in (c.requires.0.activities, c.requires.1, e, n, whole_is (plan_in x.plan.now.sheet) x.i e n (record { sfits = search rules }) c.minutes_of-whole.ensures.0, c.minutes_of-whole.ensures.1)
+    let n = told c.requires.0 c.requires.1 c.is_summary.ensures ∙ c.if-is_summary.false in (c.requires.0.activities, c.requires.1, e, n, whole_is (plan_in x.plan.now.sheet) x.i e n (record { sfits = search rules }) c.minutes_of-whole.ensures.0, c.minutes_of-whole.ensures.1)
 
 pub returns-in-InProgress : goal.returns-in-InProgress
 returns-in-InProgress c = c.record_dated.ensures
@@ -83,7 +76,7 @@ pub keep-requires-in-NotStarted : goal.keep-requires-in-NotStarted
 keep-requires-in-NotStarted c =
     let x = c.args in
     let p = plan_in x.plan.now.sheet in
-    let n = no-summary c.requires.0 c.requires.1 c.act-mark.ensures.0 c.if-mark-ne0.false in
+    let n = told c.requires.0 c.requires.1 c.is_summary.ensures ∙ c.if-is_summary.false in
     let r = none-recorded p x.i c.activity_of-activity.ensures n c.status_of.ensures c.in-NotStarted.is in
     (omega (arith, c.requires.0.activities, c.requires.1), is_below p x.i (Ok Unstarted) (sym r), c.minutes_of-whole.ensures.1)
 
@@ -92,7 +85,7 @@ returns-in-NotStarted c =
     let x = c.args in
     let p = plan_in x.plan.now.sheet in
     let e = c.activity_of-activity.ensures in
-    let n = no-summary c.requires.0 c.requires.1 c.act-mark.ensures.0 c.if-mark-ne0.false in
+    let n = told c.requires.0 c.requires.1 c.is_summary.ensures ∙ c.if-is_summary.false in
     let r = none-recorded p x.i e n c.status_of.ensures c.in-NotStarted.is in
     let w = whole_is p x.i e n (record { sfits = search rules }) c.minutes_of-whole.ensures.0 in (
       row_kept p x.i _ _ Unstarted _ c.keep-in-NotStarted.ensures.0 (sym r) (left_unstarted p x.i r ∙ ap Ok (sym w)),

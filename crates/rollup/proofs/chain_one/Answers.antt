@@ -1,6 +1,6 @@
 -- `rollup::chain_one` meets its contract.
 use mathlib.Core.Path.{◌≡◌, sym, ap, subst, ◌∙◌}
-use Prim.Native.Nat.{suc, ◌+◌, ◌-◌, ◌<◌}
+use Prim.Native.Nat.{suc, ◌+◌, ◌<◌}
 use native.Mathlib.Omega.{arith}
 use Rattle.memory.specs.State.{State, put_act}
 use Rattle.memory.specs.Seen.{state}
@@ -11,26 +11,22 @@ use Rattle.rollup.specs.Chained.{LinkedIn}
 use Rattle.rollup.specs.ChainedLaws.{chain_skip, chain_more, chain_frame}
 use Rattle.rollup.proofs.chain_one.Goals as goal
 
-pub returns-then-k-eq0 : goal.returns-then-k-eq0
-returns-then-k-eq0 c =
+pub returns-in_default : goal.returns-in_default
+returns-in_default c =
     let x = c.args in
     let h = c.requires in
     let S = state x.tables.now in
-    let k = c.act-k.result in
-    let e = c.act-k.ensures.0 in
-    (chain_skip x.key x.head x.tables.now.activities h.1 S x.c h.0 (sym e ∙ c.if-k-eq0.true) h.4, frame_refl x.head (x.head + 2) 0 0 S, same_refl _)
+    (chain_skip x.key x.head x.tables.now.activities h.1 S x.c h.0 (sym c.in_default.ensures) h.4, frame_refl x.head (x.head + 2) 0 0 S, same_refl _)
 
 pub returns : goal.returns
 returns c =
     let x = c.args in
     let h = c.requires in
     let S = state x.tables.now in
-    let k = c.act-k.result in
-    let e = c.act-k.ensures.0 in
-    let n = c.if-k-eq0.false in
-    let i = k - 1 in
-    let l : i < x.tables.now.activities = omega (arith, e, h.3 x.c h.0, n) in
-    let d : S.act x.key x.c ≡ suc i = omega (arith, e, n) in
+    let i = c.in-Some.i in
+    let e = c.in-Some.ensures in
+    let l : i < x.tables.now.activities = omega (arith, e, h.3 x.c h.0) in
+    let d : S.act x.key x.c ≡ suc i = omega (arith, e) in
     let f = c.put_act-2.ensures.0
     ∙ ap (λ (T : State). put_act T x.head i x.c) (c.put_act.ensures.0 ∙ ap (put_act S (x.head + 1) x.c) c.act-first.ensures.0)
     in (

@@ -1,10 +1,12 @@
--- `rollup::depth_of` meets its contract: k steps are made and lead to `y`.
-use mathlib.Core.Path.{◌≡◌, ◌∙◌}
-use Prim.Native.Nat.{◌-◌}
+-- `rollup::depth_of` meets its contract: k steps are made and lead to `at`.
+use mathlib.Core.Path.{◌≡◌, subst, ◌∙◌}
+use Prim.Native.Nat.{ℕ}
 use native.Mathlib.Omega.{arith}
+use Rattle.std.specs.Prelude.{Option}
 use Rattle.memory.specs.Seen.{state}
 use Rattle.memory.specs.Fields.{parent}
-use Rattle.rollup.specs.DepthLaws.{climbs_start, climbs_turn, climbs_top, climbs_end}
+use Rattle.memory.specs.Rows.{cell_of}
+use Rattle.rollup.specs.DepthLaws.{Climbs, climbs_start, climbs_turn, climbs_top, climbs_end}
 use Rattle.rollup.proofs.depth_of.Goals as goal
 
 pub loop-k-init : goal.loop-k-init
@@ -12,19 +14,27 @@ loop-k-init c =
     let x = c.args in
     let up = (state x.tables.now).act parent in climbs_start up x.tables.now.activities x.i c.requires.0
 
-pub returns-then-y-eq0 : goal.returns-then-y-eq0
-returns-then-y-eq0 c =
+pub returns-in_default : goal.returns-in_default
+returns-in_default c =
     let x = c.args in
-    let up = (state x.tables.now).act parent in let L = c.loop-k in (climbs_top up x.tables.now.activities x.i L.y L.k L.invariant c.if-y-eq0.true, L.invariant.steps)
+    let up = (state x.tables.now).act parent in
+    let L = c.loop-k in
+    let C = subst (λ (o : Option ℕ). Climbs up x.tables.now.activities x.i (cell_of o) L.k) c.in_default.is L.invariant in
+    (climbs_top up x.tables.now.activities x.i L.k C, L.invariant.steps)
 
 pub loop-k-preserved : goal.loop-k-preserved
 loop-k-preserved c =
     let x = c.args in
     let up = (state x.tables.now).act parent in
     let L = c.loop-k in
-    climbs_turn up x.tables.now.activities x.i L.y L.k L.invariant (omega arith) (omega (arith, c.if-y-eq0.false)) (c.requires.1 (L.y - 1) (omega (arith, c.if-y-eq0.false, L.invariant.low))) _ c.act-y.ensures.0
+    let j = c.in-Some.j in
+    let C = subst (λ (o : Option ℕ). Climbs up x.tables.now.activities x.i (cell_of o) L.k) c.in-Some.is L.invariant in
+    climbs_turn up x.tables.now.activities x.i L.k j C (omega arith) (c.requires.1 j (omega (arith, C.low))) _ c.row-at.ensures
 
 pub returns : goal.returns
 returns c =
     let x = c.args in
-    let up = (state x.tables.now).act parent in let L = c.loop-k in let e : x.tables.now.activities ≡ L.k = omega arith in (e ∙ climbs_end up x.tables.now.activities x.i L.y L.k L.invariant (omega arith), omega arith)
+    let up = (state x.tables.now).act parent in
+    let L = c.loop-k in
+    let e : x.tables.now.activities ≡ L.k = omega arith in
+    (e ∙ climbs_end up x.tables.now.activities x.i L.k _ L.invariant (omega arith), omega arith)

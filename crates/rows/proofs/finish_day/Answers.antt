@@ -39,5 +39,5 @@ returns c =
     let p = plan_in x.sheet.now in
     let L = c.loop-i in
     let n : L.i ≡ x.sheet.now.contents.activities = omega arith in
-    λ q. rw (to_z-of_z (record { sfits = c.signed_day_of.type_inv }))
-    (c.signed_day_of.ensures ∙ ap signed_day_of (L.invariant.1 q ∙ ap (finish_day p q (shown_in p S)) n))
+    λ q. rw (to_z-of_z (record { sfits = c.unbiased.type_inv }))
+    (c.unbiased.ensures.0 ∙ ap signed_day_of (L.invariant.1 q ∙ ap (finish_day p q (shown_in p S)) n))

@@ -19,10 +19,10 @@ returns c =
     let in_days = λ (a : ℤ). whole_days a c.args.day_length in
     λ z.
     to_z_pos w64 h.0 z
-    ∷ (to_z-of_z {w = w64} (record { sfits = c.signed_day_of.type_inv }) ∙ c.signed_day_of.ensures) z
-    ∷ (to_z-of_z {w = w64} (record { sfits = c.signed_day_of-2.type_inv }) ∙ c.signed_day_of-2.ensures) z
-    ∷ (to_z-of_z {w = w64} (record { sfits = c.signed_day_of-3.type_inv }) ∙ c.signed_day_of-3.ensures) z
-    ∷ (to_z-of_z {w = w64} (record { sfits = c.signed_day_of-4.type_inv }) ∙ c.signed_day_of-4.ensures) z
+    ∷ (to_z-of_z {w = w64} (record { sfits = c.unbiased.type_inv }) ∙ c.unbiased.ensures.0) z
+    ∷ (to_z-of_z {w = w64} (record { sfits = c.unbiased-2.type_inv }) ∙ c.unbiased-2.ensures.0) z
+    ∷ (to_z-of_z {w = w64} (record { sfits = c.unbiased-3.type_inv }) ∙ c.unbiased-3.ensures.0) z
+    ∷ (to_z-of_z {w = w64} (record { sfits = c.unbiased-4.type_inv }) ∙ c.unbiased-4.ensures.0) z
     ∷ (to_z-of_z {w = w64} (record { sfits = c.whole_days.type_inv }) ∙ c.whole_days.ensures ∙ ap in_days (to_z-of_z t)) z
     ∷ (to_z-of_z {w = w64} (record { sfits = c.whole_days-2.type_inv }) ∙ c.whole_days-2.ensures ∙ ap in_days free) z
     ∷ to_z-of_z t z

@@ -1,7 +1,7 @@
 -- `rows::write_row` meets its contract.
 use Rattle.std.specs.Prelude.{Ok}
 use borrow.Rule.Slice.PartMut.{put_mid}
-use mathlib.Core.Path.{◌≡◌, sym, refl, ap, ◌∙◌}
+use mathlib.Core.Path.{◌≡◌, sym, ap, ◌∙◌}
 use Prim.Native.Nat.{◌+◌, ◌-◌, ◌*◌, ◌≤◌, ◌<◌, ◌^◌}
 use native.Mathlib.Omega.{arith}
 use Rattle.project.specs.declared.Activity.{Activity}
@@ -40,8 +40,8 @@ returns c =
     let n : k ≤ x.sheet.now.contents.calendars = omega (arith, e, h.0.named x.i h.1) in
     let p = plan_in x.sheet.now in
     let S = state x.tables.now in
-    let row = c.row_of-row.ensures ∙ fields_are p S x.i _ _ _ _ _ _ _ _ _ (ap (λ (a : Activity). a.id) a) (h.0.days.is k n ∙ ap p.day_length e) c.shown_at-x.ensures refl
-    (c.act-is_summary.ensures.0 ∙ h.0.marks x.i h.1) (ap Ok c.recorded_at-actual.ensures ∙ h.0.recorded x.i h.1) c.act-left.ensures.0
+    let row = c.row_of-row.ensures ∙ fields_are p S x.i _ _ _ _ _ _ _ _ _ (ap (λ (a : Activity). a.id) a) (h.0.days.is k n ∙ ap p.day_length e) c.shown_at-x.ensures c.is_summary-is_summary.ensures
+    (h.0.marks x.i h.1) (ap Ok c.recorded_at-actual.ensures ∙ h.0.recorded x.i h.1) c.act-left.ensures.0
     c.act-es.ensures.0 c.act-ef.ensures.0 in
     let n : 15 * x.i + 15 - 15 * x.i ≡ 15 = omega arith in
     (λ z. put_mid (15 * x.i) (n z) x.results.now ((c.copy_from_slice.ensures.after ∙ row) z))

@@ -10,6 +10,7 @@ returns c =
     let d = c.in_ok-end.end in
     let a = c.in_ok-activities.activities in
     let n = c.in_ok-links.links in
+    let o = rw (c.new-project.ensures.0, c.new-project.ensures.1) at c.header_ok.ensures in
     sym
-    (read_all s (omega arith) (omega arith) (sym c.header_ok.ensures ∙ c.if-not-header_ok.false) d (sym c.read_calendars.ensures.end ∙ c.in_ok-end.was) a
+    (read_all s (omega arith) (omega arith) (sym o ∙ c.if-not-header_ok.false) d (sym c.read_calendars.ensures.end ∙ c.in_ok-end.was) a
     (sym c.read_run.ensures.run ∙ c.in_ok-activities.was) n (sym c.read_run-2.ensures.run ∙ c.in_ok-links.was) (omega arith) (λ q. omega arith))

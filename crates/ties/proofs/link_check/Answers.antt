@@ -13,23 +13,23 @@ returns-in_err-ends c =
 pub is_either_marked-requires : goal.is_either_marked-requires
 unfolding plan_of
 is_either_marked-requires c =
-    let n = c.requires.0.activities in
+    let n = c.requires.0.lent.activities in
     (omega (arith, n, c.in_ok-ends.ensures.from_below), omega (arith, n, c.in_ok-ends.ensures.to_below))
 
 pub returns-then-is_either_marked : goal.returns-then-is_either_marked
 unfolding plan_of
 returns-then-is_either_marked c =
     let x = c.args in
-    check_ignored (plan_in x.sheet.now) (state x.tables.now) c.requires.4 x.k _ c.in_ok-ends.ensures _ c.is_either_marked.ensures c.if-is_either_marked.true
+    check_ignored (plan_in x.sheet.now) (state x.tables.now) c.requires.0.parented x.k _ c.in_ok-ends.ensures _ c.is_either_marked.ensures c.if-is_either_marked.true
 
 pub returns-then-is_tie_too_long : goal.returns-then-is_tie_too_long
 unfolding plan_of
 returns-then-is_tie_too_long c =
     let x = c.args in
-    check_long (plan_in x.sheet.now) (state x.tables.now) c.requires.4 x.k _ c.in_ok-ends.ensures _ c.is_either_marked.ensures c.if-is_either_marked.false _ c.is_tie_too_long.ensures c.if-is_tie_too_long.true
+    check_long (plan_in x.sheet.now) (state x.tables.now) c.requires.0.parented x.k _ c.in_ok-ends.ensures _ c.is_either_marked.ensures c.if-is_either_marked.false _ c.is_tie_too_long.ensures c.if-is_tie_too_long.true
 
 pub returns : goal.returns
 unfolding plan_of
 returns c =
     let x = c.args in
-    check_kept (plan_in x.sheet.now) (state x.tables.now) c.requires.4 x.k c.in_ok-ends.ends c.in_ok-ends.ensures _ c.is_either_marked.ensures c.if-is_either_marked.false _ c.is_tie_too_long.ensures c.if-is_tie_too_long.false
+    check_kept (plan_in x.sheet.now) (state x.tables.now) c.requires.0.parented x.k c.in_ok-ends.ends c.in_ok-ends.ensures _ c.is_either_marked.ensures c.if-is_either_marked.false _ c.is_tie_too_long.ensures c.if-is_tie_too_long.false

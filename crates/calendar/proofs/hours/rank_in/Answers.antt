@@ -1,18 +1,27 @@
--- `calendar::hours::rank_in` meets its contract. The loop keeps the sum over the periods passed and the rank in those that are left.
-use Rattle.std.proofs.Common.{arith}
-use Rattle.calendar.specs.Steps.{rank_step, rank_end}
+-- `calendar::hours::rank_in` meets its contract: its sum is that of the definition.
+use Rattle.std.proofs.Common.{ℕ, ◌∙◌, min, ◌-◌, get_or, rules, arith}
+use Rattle.std.proofs.lemmas.Iterator.{YieldsList-from_range, YieldsList-from_map}
+use Rattle.std.proofs.lemmas.Iterator.Consumers.{sum_from_yields_List, fits_from_yields_list}
+use Rattle.calendar.specs.Hours.{none}
 use Rattle.calendar.specs.HoursLaws.{rank_bound}
+use Rattle.calendar.specs.Steps.{rank_from}
 use Rattle.calendar.proofs.hours.rank_in.Goals as goal
 
-pub overflow_add-sum : goal.overflow_add-sum
-overflow_add-sum g c =
-    omega (arith, c.loop-i.invariant, c.period_rank-sum.ensures, rank_step _ c.loop-i.i c.args.m _ c.period.ensures (omega (arith, c.count-i-end.ensures)), rank_bound _ c.args.m c.requires)
-
-pub loop-i-preserved : goal.loop-i-preserved
-loop-i-preserved g c =
-    omega (arith, c.loop-i.invariant, c.period_rank-sum.ensures, rank_step _ c.loop-i.i c.args.m _ c.period.ensures (omega (arith, c.count-i-end.ensures)))
+pub sum-requires-clause-fits : goal.sum-requires-clause-fits
+sum-requires-clause-fits g c =
+    let xs = g.P.Periods.list c.args.periods.now in
+    let n = c.count.result in
+    let m = c.args.m in
+    fits_from_yields_list c.map.result _
+    (YieldsList-from_map _ (λ (j : ℕ). min m (get_or xs j none).to - (get_or xs j none).from) (YieldsList-from_range 0 n n c.map.ensures.source (omega arith)) c.map.ensures.closure (λ x r q k. search rules))
+    (omega (arith, rank_from xs m 0 n (omega (arith, c.count.ensures)), rank_bound xs m c.requires))
 
 pub returns : goal.returns
 returns g c =
-    let e = rank_end (g.P.Periods.list c.args.periods.now) c.loop-i.i c.args.m (omega (arith, c.count-i-end.ensures)) in
-    (omega (arith, e, c.loop-i.invariant), omega (arith, e, c.loop-i.invariant, rank_bound _ c.args.m c.requires))
+    let xs = g.P.Periods.list c.args.periods.now in
+    let n = c.count.result in
+    let m = c.args.m in
+    let e = sum_from_yields_List c.map.result c.sum.result c.sum.ensures.ran
+    (YieldsList-from_map _ (λ (j : ℕ). min m (get_or xs j none).to - (get_or xs j none).from) (YieldsList-from_range 0 n n c.map.ensures.source (omega arith)) c.map.ensures.closure (λ x r q k. search rules))
+    ∙ rank_from xs m 0 n (omega (arith, c.count.ensures)) in
+    (e, omega (arith, e, rank_bound xs m c.requires))

@@ -1,14 +1,12 @@
 -- `late::links::over_lag` meets its contract.
 use mathlib.Core.Path.{sym, ap, ◌∙◌}
-use Prim.Native.Nat.{◌^◌, ◌<◌, ℕ}
+use Prim.Native.Nat.{ℕ}
 use native.Mathlib.Omega.{arith}
 use lib.IntN.{neg_ℤ}
 use mir.Facts.{to_z-of_z}
 use mir.Syntax.{w64}
 use mir.Val.{to_z, of_z}
-use Rattle.number.specs.ZedLaws.{neg_dn}
 use Rattle.number.specs.CastLaws.{minus_back}
-use Rattle.number.specs.Zed.{dn}
 use Rattle.calendars.specs.CalendarLaws.{in_plan_worked}
 use Rattle.order.specs.Plan.{plan_in}
 use Rattle.worktime.specs.Walks.{next_start, shift}
@@ -19,11 +17,6 @@ use Rattle.late.proofs.links.over_lag.Goals as goal
 
 pub returns-then-lag-eq0 : goal.returns-then-lag-eq0
 returns-then-lag-eq0 c = λ d l t e f. sym (over_none _ d l t _ (f ∙ sym (to_z-of_z c.ranges.lag) ∙ ap (to_z w64) c.if-lag-eq0.true))
-
-pub shift-requires : goal.shift-requires
-shift-requires c =
-    let h : dn (neg_ℤ c.args.lag) < 2 ^ 63 = omega (arith, neg_dn c.args.lag, c.requires) in
-    rw (minus_back c.args.lag c.ranges.lag (omega (arith, c.requires))) h
 
 pub returns : goal.returns
 returns c =
