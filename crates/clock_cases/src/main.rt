@@ -2,7 +2,7 @@
 // by minute as document 01 words the clock and shares nothing with the code here.
 #![tactic(auto)]
 
-ghost use Rattle.std.specs.Prelude.{◌≡◌, Ok, IfOk, ◌+◌, min, ◌≤◌, length};
+ghost use Rattle.std.specs.Prelude.{◌≡◌, Ok, IfOk, ◌+◌, ◌^◌, min, ◌≤◌, ◌<◌, length};
 ghost use Rattle.sheet.specs.declared.runs.RecordKind.TheVariants.{Week, Exception};
 ghost use Rattle.sheet.specs.Reading.{run_of};
 
@@ -69,6 +69,7 @@ struct Case {
 // The time at a place: its day and the minute of the day.
 fn time_at(case: &[u8], at: usize) -> Time
     requires { at + 6 ≤ length case.now }
+    ensures { result.0 < 2 ^ 63 }
 {
     Time(number::read_biased(case, at) * 1440 + number::read_u16(case, at + 4) as u64)
 }

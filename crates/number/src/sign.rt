@@ -2,13 +2,23 @@
 // `min` is std's with the specs' own `min_z` for its answer: the three callers would each lead std's definition back to that one.
 ghost use Rattle.std.specs.Prelude.{◌≡◌, ◌+◌, ◌^◌, ◌≤◌, ◌<◌, pos, ◌-ℤ◌};
 ghost use Rattle.number.specs.Zed.{up, dn};
-ghost use Rattle.number.specs.Sign.{min_z, percent_of, whole_days};
+ghost use Rattle.number.specs.Sign.{min_z, clamp_z, percent_of, whole_days};
 
 // The smaller of two.
 pub fn min(a: i64, b: i64) -> i64
     ensures { result ≡ min_z a b }
 {
     a.min(b)
+}
+
+// `z`, or the end of `lo` to `hi` that it lies beyond. It takes any two ends, as `clamp_z` does, where std's `clamp` asks that they are in order.
+pub fn clamp(z: i64, lo: i64, hi: i64) -> i64
+    ensures { result ≡ clamp_z z lo hi }
+{
+    if z < lo {
+        return lo;
+    }
+    min(z, hi)
 }
 
 // A share of a duration, in hundredths of one percent, toward zero.
