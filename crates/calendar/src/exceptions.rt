@@ -3,7 +3,7 @@
 
 ghost use Rattle.calendar.specs.Records.{Listed};
 
-use super::{DayRecords, Period, exception_day, exception_period, exception_work};
+use super::{DayRecords, Hours, Period, exception_day, exception_period, exception_work};
 
 // So many E records that the search among them starts in the middle: with fewer the product in `guess` stays within its type.
 const MANY_RECORDS: usize = 65536;
@@ -23,7 +23,7 @@ pub struct Exceptions<'a> {
 
 impl<'a> Exceptions<'a> {
     ghost use Rattle.std.specs.Prelude.{◌≡◌, ℕ, [], ◌+◌, ◌-◌, ◌*◌, ◌^◌, ◌≤◌, ◌<◌, ltb, length, get_or};
-    ghost use Rattle.calendar.specs.Exceptions.{day_in, work_in, FirstOf};
+    ghost use Rattle.calendar.specs.Exceptions.{day_in, work_in, FirstOf, InHandOf};
     ghost use Rattle.calendar.specs.Records.{exception_day, exception_period};
 
     // The day of record `i`.
@@ -131,7 +131,7 @@ impl<'a> Exceptions<'a> {
     }
 
     // The first record whose day is after `d`, where `from` is the first whose day is `d` or later.
-    pub(crate) fn first_after(&self, d: u64, from: usize) -> usize
+    fn first_after(&self, d: u64, from: usize) -> usize
         requires { FirstOf self.now d from }
         ensures { FirstOf self.now (d + 1) result }
     {
@@ -140,7 +140,7 @@ impl<'a> Exceptions<'a> {
 
     // The first record whose day is `d` or later, where `to` is the first whose day is after `d`.
     // It mirrors `first_after`: the range, the test and the answer differ, so one function would take all three and be no plainer.
-    pub(crate) fn first_back(&self, d: u64, to: usize) -> usize
+    fn first_back(&self, d: u64, to: usize) -> usize
         requires { FirstOf self.now (d + 1) to }
         ensures { FirstOf self.now d result }
     {
@@ -151,7 +151,7 @@ impl<'a> Exceptions<'a> {
     }
 
     // The records from `from` up to `to`.
-    pub(crate) fn between(&self, from: usize, to: usize) -> DayRecords<'a>
+    fn between(&self, from: usize, to: usize) -> DayRecords<'a>
         requires { (from ≤ to) × (to ≤ self.now.n) }
         ensures { (result.sheet.now ≡ self.now.sheet.now) × (result.at ≡ self.now.at + 9 * from) × (result.n ≡ to - from) }
     {
@@ -159,6 +159,38 @@ impl<'a> Exceptions<'a> {
             sheet: self.sheet,
             at: self.at + 9 * from,
             n: to - from,
+        }
+    }
+
+    // The hours of day `d` by the row of its weekday, which the caller has in hand: so `d` is any day, and no week is asked for.
+    pub fn hours_on(&self, row: [Period; 8], d: u64) -> Hours<'a>
+        ensures { InHandOf row self.now d result }
+    {
+        self.hours_from(row, d, self.first_from(d))
+    }
+
+    // The same where `from` is the first record whose day is `d` or later; so a walk forward searches no day anew.
+    pub fn hours_from(&self, row: [Period; 8], d: u64, from: usize) -> Hours<'a>
+        requires { FirstOf self.now d from }
+        ensures { InHandOf row self.now d result × FirstOf self.now (d + 1) (from + result.records.n) × (from + result.records.n < 2 ^ 64) }
+    {
+        let to = self.first_after(d, from);
+        Hours {
+            row,
+            records: self.between(from, to),
+        }
+    }
+
+    // The same where `to` is the first record whose day is after `d`; so a walk back searches no day anew.
+    // It mirrors `hours_from`: one function would take the search and both ends, and be no plainer.
+    pub fn hours_to(&self, row: [Period; 8], d: u64, to: usize) -> Hours<'a>
+        requires { FirstOf self.now (d + 1) to }
+        ensures { InHandOf row self.now d result × (result.records.n ≤ to) × FirstOf self.now d (to - result.records.n) }
+    {
+        let from = self.first_back(d, to);
+        Hours {
+            row,
+            records: self.between(from, to),
         }
     }
 }

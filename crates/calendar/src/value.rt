@@ -48,7 +48,7 @@ impl<'a> Calendar<'a> {
         requires { d < 2 ^ 63 }
         ensures { (periods_of result ≡ hours_of self.now d) × Ordered 0 (periods_of result) }
     {
-        self.hours_from(d, self.exceptions.first_from(d))
+        self.exceptions.hours_on(self.row(d), d)
     }
 
     // The hours of day `d`, where `from` is the first E record whose day is `d` or later; so a walk forward searches no day anew.
@@ -56,23 +56,14 @@ impl<'a> Calendar<'a> {
         requires { (d < 2 ^ 63) × FirstOf self.now.exceptions d from }
         ensures { (periods_of result ≡ hours_of self.now d) × Ordered 0 (periods_of result) × FirstOf self.now.exceptions (d + 1) (from + result.records.n) × (from + result.records.n < 2 ^ 64) }
     {
-        let to = self.exceptions.first_after(d, from);
-        Hours {
-            row: self.row(d),
-            records: self.exceptions.between(from, to),
-        }
+        self.exceptions.hours_from(self.row(d), d, from)
     }
 
     // The hours of day `d`, where `to` is the first E record whose day is after `d`; so a walk back searches no day anew.
-    // It mirrors `hours_from`: one function would take the search and both ends, and be no plainer.
     pub fn hours_to(&self, d: u64, to: usize) -> Hours<'a>
         requires { (d < 2 ^ 63) × FirstOf self.now.exceptions (d + 1) to }
         ensures { (periods_of result ≡ hours_of self.now d) × Ordered 0 (periods_of result) × (result.records.n ≤ to) × FirstOf self.now.exceptions d (to - result.records.n) }
     {
-        let from = self.exceptions.first_back(d, to);
-        Hours {
-            row: self.row(d),
-            records: self.exceptions.between(from, to),
-        }
+        self.exceptions.hours_to(self.row(d), d, to)
     }
 }

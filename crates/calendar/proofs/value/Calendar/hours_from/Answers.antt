@@ -1,12 +1,9 @@
--- `calendar::Calendar::hours_from` meets its contract: the records of a day are those from its first to the first of a later day.
-use Rattle.std.proofs.Common.{arith}
-use Rattle.calendar.specs.DayLaws.{from_to, hours_in_hand, next_from}
+-- `calendar::Calendar::hours_from` meets its contract: hours in hand by the row of the day's weekday are the day's.
+use Rattle.std.proofs.Common.{sym}
 use Rattle.calendar.proofs.value.Calendar.hours_from.Goals as goal
 
 pub returns : goal.returns
 returns c =
-    let lo = c.requires.1 in
-    let hi = c.first_after-to.ensures in
-    let b = c.between.ensures in
-    let e = hours_in_hand _ _ _ _ _ _ lo hi c.args.self.now.week.now _ c.row.ensures b.0 b.1 b.2 in
-    (e, rw e (c.args.self.now.valid.ordered c.args.d), rw b.2 (next_from _ _ _ _ _ _ lo hi), omega (arith, b.2, from_to _ _ _ _ _ _ lo hi, hi.within))
+    let h = c.hours_from.ensures in
+    let e = h.0.is c.args.self.now.week.now (sym c.row.ensures) in
+    (e, rw e (c.args.self.now.valid.ordered c.args.d), h.1, h.2)

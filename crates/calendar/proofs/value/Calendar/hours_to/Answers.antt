@@ -1,12 +1,9 @@
--- `calendar::Calendar::hours_to` meets its contract: the records of a day are those from its first to the first of a later day.
-use Rattle.std.proofs.Common.{arith}
-use Rattle.calendar.specs.DayLaws.{from_to, hours_in_hand, day_from}
+-- `calendar::Calendar::hours_to` meets its contract: hours in hand by the row of the day's weekday are the day's.
+use Rattle.std.proofs.Common.{sym}
 use Rattle.calendar.proofs.value.Calendar.hours_to.Goals as goal
 
 pub returns : goal.returns
 returns c =
-    let lo = c.first_back-from.ensures in
-    let hi = c.requires.1 in
-    let b = c.between.ensures in
-    let e = hours_in_hand _ _ _ _ _ _ lo hi c.args.self.now.week.now _ c.row.ensures b.0 b.1 b.2 in
-    (e, rw e (c.args.self.now.valid.ordered c.args.d), omega (arith, b.2, from_to _ _ _ _ _ _ lo hi), rw b.2 (day_from _ _ _ _ _ _ lo hi))
+    let h = c.hours_to.ensures in
+    let e = h.0.is c.args.self.now.week.now (sym c.row.ensures) in
+    (e, rw e (c.args.self.now.valid.ordered c.args.d), h.1, h.2)
