@@ -16,6 +16,7 @@ mod records;
 mod weeks;
 
 use weeks::WeekSums;
+pub use worktime::TOO_LONG;
 
 // More minutes than the years that may be read have.
 const MANY: u64 = 6184752906240;

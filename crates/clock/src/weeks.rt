@@ -1,5 +1,5 @@
 // Work counted by the week: the minutes of days that have no E records, and the day that has one of them.
-ghost use Rattle.std.specs.Prelude.{◌≡◌, [], ℕ, ◌+◌, ◌*◌, ◌/◌, ◌%◌, ◌^◌, ◌≤◌, ◌<◌, leb, get_or};
+ghost use Rattle.std.specs.Prelude.{◌≡◌, [], ℕ, ◌+◌, ◌*◌, ◌/◌, ◌%◌, ◌^◌, ◌≤◌, ◌<◌, get_or};
 ghost use Rattle.calendar.specs.Hours.{Ordered};
 ghost use Rattle.clock.specs.Regular.{Sums, Rising, regular};
 
@@ -46,24 +46,28 @@ impl WeekSums {
         self.entries[k + 1] - self.entries[k]
     }
 
-    // The minutes of the days from `d` up to but not `e`, each by its weekday.
+    // The minutes of the days from `d` up to but not `e`, each by its weekday: by one product, where the difference of two `minutes_before` would take two.
     pub fn regular_work(&self, d: u64, e: u64) -> u64
         requires { (d ≤ e) × (e < 4294967296) }
         ensures { regular self.now.entries d + result ≡ regular self.now.entries e }
     {
-        self.minutes_before(e) - self.minutes_before(d)
+        self.entries[7] * ((e + 1) / 7 - (d + 1) / 7) + self.entries[((e + 1) % 7) as usize]
+            - self.entries[((d + 1) % 7) as usize]
     }
 
     // The weekday, from Monday on, that has minute `y` of a week: so many weekdays are over by it.
+    // It looks at all seven sums and counts without a branch, which would be hard to predict; std's `filter` would branch at each, and `partition_point` looks at some alone.
     fn weekday_at(&self, y: u64) -> u64
         requires { y < get_or self.now.entries 7 0 }
         ensures { (get_or self.now.entries result 0 ≤ y) × (y < get_or self.now.entries (result + 1) 0) × (result < 7) }
     {
-        self.entries[1..].partition_point(
-            |sum: &u64| -> bool
-                ensures { result ≡ leb sum.now y }
-            { *sum <= y },
-        ) as u64
+        let mut over: u64 = 0;
+        for sum in &self.entries[1..] {
+            if *sum <= y {
+                over += 1;
+            }
+        }
+        over
     }
 
     // The day after the one that has minute `p` by its weekday, from the Monday before day 0 on.

@@ -6,6 +6,9 @@ ghost use Rattle.date.specs.Years.{first_day, end_day};
 ghost use Rattle.worktime.specs.Number.{clock_number};
 ghost use Rattle.worktime.specs.Walks.{reads};
 
+// Row 8 of the table of refusals, too long: the number of the clock's one error, for callers that have the row as a number.
+pub const TOO_LONG: u64 = 8;
+
 // The walk leads out of the years that may be read, or a time out of the plan's span.
 #[derive(Clone, Copy, Debug, PartialEq, Eq)]
 pub enum ClockError {
@@ -18,7 +21,7 @@ impl ClockError {
         ensures { (result ≡ clock_number self) × (result < 16) }
     {
         match self {
-            ClockError::TooLong => 8,
+            ClockError::TooLong => TOO_LONG,
         }
     }
 }
