@@ -11,7 +11,7 @@ use Rattle.sheet.specs.Reading.{run_of}
 use Rattle.sheet.specs.RunLaws.{Counted, run_counted, rest, rest_all, run_end, run_cut, run_refused, run_more}
 
 -- the place of the next record
-next_record : (at size i : ℕ) → at + size * i + size ≡ at + size * suc i
+pub next_record : (at size i : ℕ) → at + size * i + size ≡ at + size * suc i
 next_record at size i = rw mul-suc (omega arith)
 
 -- the loop stands at record i, whose place is p

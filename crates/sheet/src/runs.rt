@@ -1,7 +1,7 @@
 // Runs of records of one kind.
 ghost use Rattle.std.specs.Prelude.{◌≡◌, Ok, IfOk, ◌+◌, ◌*◌, ◌≤◌, ◌<◌, length};
 ghost use Rattle.number.specs.Bytes.{byte_at};
-ghost use Rattle.sheet.specs.Kinds.{byte_of, size_of, judge_of};
+ghost use Rattle.sheet.specs.Kinds.{kind_of, byte_of, size_of, judge_of};
 ghost use Rattle.sheet.specs.Reading.{run_of};
 ghost use Rattle.sheet.specs.Places.{count_of};
 
@@ -14,18 +14,37 @@ pub enum RecordKind {
     Exception,
     Activity,
     Link,
+    // Records with another byte, which no sheet that was read has: they are of a link's length and judged as links.
+    Other(u64),
+}
+
+// The kind of a byte, for callers that count a run by its byte.
+impl From<u64> for RecordKind {
+    ghost from_gives = { λ byte result. (result ≡ kind_of byte) × (byte_of result ≡ byte) };
+
+    #[tactic(auto, unfolding(crate::specs::Kinds::kind_of))]
+    fn from(byte: u64) -> RecordKind {
+        match byte {
+            0x57 => RecordKind::Week,
+            0x45 => RecordKind::Exception,
+            0x41 => RecordKind::Activity,
+            0x4C => RecordKind::Link,
+            _ => RecordKind::Other(byte),
+        }
+    }
 }
 
 impl RecordKind {
     // The byte that a record of the kind begins with.
-    fn byte(self) -> u8
+    fn byte(self) -> u64
         ensures { result ≡ byte_of self }
     {
         match self {
-            RecordKind::Week => b'W',
-            RecordKind::Exception => b'E',
-            RecordKind::Activity => b'A',
-            RecordKind::Link => b'L',
+            RecordKind::Week => b'W' as u64,
+            RecordKind::Exception => b'E' as u64,
+            RecordKind::Activity => b'A' as u64,
+            RecordKind::Link => b'L' as u64,
+            RecordKind::Other(byte) => byte,
         }
     }
 
@@ -37,11 +56,11 @@ impl RecordKind {
             RecordKind::Week => 6,
             RecordKind::Exception => 9,
             RecordKind::Activity => 45,
-            RecordKind::Link => 16,
+            RecordKind::Link | RecordKind::Other(_) => 16,
         }
     }
 
-    // Record `i` of a run that begins at a place. A `match`, as the definition is one over the kind: a trait with four impls and their laws would be longer.
+    // Record `i` of a run that begins at a place. A `match`, as the definition is one over the kind: a trait with an impl for each and their laws would be longer.
     fn judge(self, sheet: &[u8], at: usize, i: usize) -> Result<(), SheetError>
         requires { at + size_of self * i + size_of self ≤ length sheet.now }
         ensures { result ≡ judge_of self sheet.now at i }
@@ -50,7 +69,7 @@ impl RecordKind {
             RecordKind::Week => judges::judge_week(sheet, at, i),
             RecordKind::Exception => judges::judge_exception(sheet, at, i),
             RecordKind::Activity => judges::judge_activity(sheet, at, i),
-            RecordKind::Link => judges::judge_link(sheet, at, i),
+            RecordKind::Link | RecordKind::Other(_) => judges::judge_link(sheet, at, i),
         }
     }
 }
@@ -73,7 +92,7 @@ pub fn read_run(sheet: &[u8], kind: RecordKind, at: usize) -> Result<usize, Shee
     let mut p = at;
     let mut i: usize = 0;
     // An iterator over whole records ends before one that is cut short; a test after it would have to tell that from the run's end, which is no plainer.
-    while kind_at(sheet, p) == kind.byte() {
+    while kind_at(sheet, p) as u64 == kind.byte() {
         if sheet.len() - p < size {
             return Err(SheetError::Malformed);
         }
@@ -92,6 +111,6 @@ pub fn count_run(sheet: &[u8], kind: RecordKind, at: usize) -> usize
     let byte = kind.byte();
     sheet[at..]
         .chunks_exact(kind.size())
-        .take_while(|record| record[0] == byte)
+        .take_while(|record| record[0] as u64 == byte)
         .count()
 }
