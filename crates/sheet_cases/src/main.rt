@@ -5,22 +5,23 @@ ghost use Rattle.std.specs.Prelude.{◌+◌, ◌≤◌, length};
 
 use std::{fs, io};
 
-// Copies `part` `times` times in a row to `at`, while there is room, and answers where that ends. A part may be empty, where `chunks_exact_mut` panics.
+// Copies `part` `times` times in a row to `at`, while there is room, and answers where that ends. An empty part, where `chunks_exact_mut` panics, ends where it begins.
 // A place stands beside the sheet here and below: what is built is answered from the sheet's start, which a slice of the rest would no longer have.
+// A `for` over the room's chunks tests a part's bounds once: parts of a few bytes stand thousands of times in a row.
 fn repeat(part: &[u8], times: usize, sheet: &mut [u8], at: usize) -> usize
     requires { at ≤ length sheet.old }
     ensures { result ≤ length sheet.new }
 {
-    let mut p = at;
-    for _ in 0..times {
-        if sheet.len() - p < part.len() {
-            return p;
-        }
-        let end = p + part.len();
-        sheet[p..end].copy_from_slice(part);
-        p = end;
+    let n = part.len();
+    if n == 0 {
+        return at;
     }
-    p
+    let fit = times.min((sheet.len() - at) / n);
+    let end = at + n * fit;
+    for place in sheet[at..end].chunks_exact_mut(n) {
+        place.copy_from_slice(part);
+    }
+    end
 }
 
 // Puts the sheet together whose `parts` parts the file begins with, and answers it and the rest of the file; a part that is cut ends the file.
