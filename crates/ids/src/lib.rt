@@ -19,6 +19,7 @@ ghost use Rattle.ids.specs.Parented.{Parented};
 ghost use Rattle.ids.specs.Summaries.{SummaryAnswered};
 
 use memory::Tables;
+use memory::reads::Reads;
 use order::PlanError;
 use sheet::Sheet;
 
@@ -38,9 +39,9 @@ struct Vacancy {
 
 // The one of the first `n` activities that has the id, or where one that has it comes in.
 // The way down takes a bit of the id's quotient at each activity that it meets. Ids have 32 bits, and distinct ids of one tree have distinct quotients: no sheet makes it meet more than 33.
-fn seek(sheet: &Sheet, tables: &Tables, n: usize, id: u64) -> Result<usize, Vacancy>
-    requires { Lent sheet.now tables.now × (n ≤ sheet.now.contents.activities) × (0 < sheet.now.contents.activities) × Indexed (plan_in sheet.now) (state tables.now) n }
-    ensures { Searched (plan_in sheet.now) (state tables.now) n id result }
+fn seek<R: Reads>(sheet: &Sheet, tables: &R, n: usize, id: u64) -> Result<usize, Vacancy>
+    requires { Lent sheet.now (R.tables tables.now) × (n ≤ sheet.now.contents.activities) × (0 < sheet.now.contents.activities) × Indexed (plan_in sheet.now) (state (R.tables tables.now)) n }
+    ensures { Searched (plan_in sheet.now) (state (R.tables tables.now)) n id result }
 {
     let a = sheet.contents.activities;
     let tree = id as usize % a;
@@ -68,8 +69,8 @@ fn seek(sheet: &Sheet, tables: &Tables, n: usize, id: u64) -> Result<usize, Vaca
 }
 
 // The last of the first `n` activities that has the id.
-pub fn find(sheet: &Sheet, tables: &Tables, n: usize, id: u64) -> Option<usize>
-    requires { Lent sheet.now tables.now × (n ≤ sheet.now.contents.activities) × Indexed (plan_in sheet.now) (state tables.now) n }
+pub fn find<R: Reads>(sheet: &Sheet, tables: &R, n: usize, id: u64) -> Option<usize>
+    requires { Lent sheet.now (R.tables tables.now) × (n ≤ sheet.now.contents.activities) × Indexed (plan_in sheet.now) (state (R.tables tables.now)) n }
     ensures { (unwrap_or result sheet.now.contents.activities ≡ found_in (plan_in sheet.now) n id) × IfSome result (λ j. j < sheet.now.contents.activities) }
 {
     if n == 0 {
@@ -158,13 +159,13 @@ pub fn parents(sheet: &Sheet, tables: &mut Tables) -> Result<(), PlanError>
 }
 
 // How many steps lead upward from activity `i` to itself, where it lies on a loop of parents.
-pub fn parent_loop_steps(tables: &Tables, i: usize) -> Option<usize>
-    requires { (i < tables.now.activities) × ((j : ℕ) → j < tables.now.activities → (state tables.now).act parent j ≤ tables.now.activities) }
-    ensures { (unwrap_or result 0 ≡ loop_steps ((state tables.now).act parent) tables.now.activities i) × IfSome result (λ k. (0 < k) × (k ≤ tables.now.activities)) }
+pub fn parent_loop_steps<R: Reads>(tables: &R, i: usize) -> Option<usize>
+    requires { (i < (R.tables tables.now).activities) × ((j : ℕ) → j < (R.tables tables.now).activities → (state (R.tables tables.now)).act parent j ≤ (R.tables tables.now).activities) }
+    ensures { (unwrap_or result 0 ≡ loop_steps ((state (R.tables tables.now)).act parent) (R.tables tables.now).activities i) × IfSome result (λ k. (0 < k) × (k ≤ (R.tables tables.now).activities)) }
 {
     // No iterator over the activities above: they may lead around without end, and an iterator is seen as a list, which ends.
     let mut up = tables.row(i, memory::fields::PARENT);
-    for k in 1..tables.activities + 1 {
+    for k in 1..tables.activities() + 1 {
         let j = up?;
         if j == i {
             return Some(k);
@@ -175,16 +176,16 @@ pub fn parent_loop_steps(tables: &Tables, i: usize) -> Option<usize>
 }
 
 // Whether activity `i` is a milestone and a parent.
-fn is_milestone_parent(sheet: &Sheet, tables: &Tables, i: usize) -> bool
-    requires { Lent sheet.now tables.now × (i < sheet.now.contents.activities) × Parented (plan_in sheet.now) (state tables.now) sheet.now.contents.activities }
+fn is_milestone_parent<R: Reads>(sheet: &Sheet, tables: &R, i: usize) -> bool
+    requires { Lent sheet.now (R.tables tables.now) × (i < sheet.now.contents.activities) × Parented (plan_in sheet.now) (state (R.tables tables.now)) sheet.now.contents.activities }
     ensures { result ≡ (summary (plan_in sheet.now) i && is_milestone ((plan_in sheet.now).activity i).kind) }
 {
     project::is_milestone(sheet.activity(i).kind()) && tables.is_summary(i)
 }
 
 // Rows 11 and 12 for activity `i`.
-fn summary_one(sheet: &Sheet, tables: &Tables, i: usize) -> Result<(), SummaryError>
-    requires { Lent sheet.now tables.now × (i < sheet.now.contents.activities) × ParentsKnown (plan_in sheet.now) × Parented (plan_in sheet.now) (state tables.now) sheet.now.contents.activities }
+fn summary_one<R: Reads>(sheet: &Sheet, tables: &R, i: usize) -> Result<(), SummaryError>
+    requires { Lent sheet.now (R.tables tables.now) × (i < sheet.now.contents.activities) × ParentsKnown (plan_in sheet.now) × Parented (plan_in sheet.now) (state (R.tables tables.now)) sheet.now.contents.activities }
     ensures { SummaryAnswered (plan_in sheet.now) result (judge_summary (plan_in sheet.now) i) }
 {
     if is_milestone_parent(sheet, tables, i) {
@@ -197,8 +198,8 @@ fn summary_one(sheet: &Sheet, tables: &Tables, i: usize) -> Result<(), SummaryEr
 }
 
 // Rows 11 and 12 for all activities.
-pub fn summaries(sheet: &Sheet, tables: &Tables) -> Result<(), SummaryError>
-    requires { Lent sheet.now tables.now × ParentsKnown (plan_in sheet.now) × Parented (plan_in sheet.now) (state tables.now) sheet.now.contents.activities }
+pub fn summaries<R: Reads>(sheet: &Sheet, tables: &R) -> Result<(), SummaryError>
+    requires { Lent sheet.now (R.tables tables.now) × ParentsKnown (plan_in sheet.now) × Parented (plan_in sheet.now) (state (R.tables tables.now)) sheet.now.contents.activities }
     ensures { SummaryAnswered (plan_in sheet.now) result (first_of (judge_summary (plan_in sheet.now)) sheet.now.contents.activities 0) }
 {
     for i in 0..sheet.contents.activities {

@@ -11,3 +11,4 @@ pub mod Seen
 pub mod SeenLaws
 pub mod Kept
 pub mod Rows
+pub mod Shared

@@ -7,6 +7,7 @@ ghost use Rattle.memory.specs.State.{Room, place, state_of, put_act, put_act_z, 
 
 pub mod chain;
 pub mod fields;
+pub mod reads;
 
 // Where field `f` of row `i` stands in a table of `n` rows.
 fn place(n: usize, i: usize, f: usize) -> usize

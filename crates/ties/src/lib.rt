@@ -17,7 +17,7 @@ ghost use Rattle.ties.specs.Judging.{Judging};
 
 use calendars::PlanCalendar;
 use lags::Lag;
-use memory::Tables;
+use memory::reads::Reads;
 use network::Link;
 use order::PlanError;
 use sheet::Sheet;
@@ -25,8 +25,8 @@ use sheet::Sheet;
 pub mod lags;
 
 // Rows 13 and 14 for link `k`: its ends by the activities' numbers.
-pub fn link_ends(sheet: &Sheet, tables: &Tables, k: usize) -> Result<Link, PlanError>
-    requires { Lent sheet.now tables.now × (k < sheet.now.contents.links) × DistinctIds (plan_in sheet.now) × Indexed (plan_in sheet.now) (state tables.now) sheet.now.contents.activities }
+pub fn link_ends<R: Reads>(sheet: &Sheet, tables: &R, k: usize) -> Result<Link, PlanError>
+    requires { Lent sheet.now (R.tables tables.now) × (k < sheet.now.contents.links) × DistinctIds (plan_in sheet.now) × Indexed (plan_in sheet.now) (state (R.tables tables.now)) sheet.now.contents.activities }
     ensures { EndsOf (plan_in sheet.now) k result }
 {
     let a = sheet.contents.activities;
@@ -46,9 +46,9 @@ pub fn link_ends(sheet: &Sheet, tables: &Tables, k: usize) -> Result<Link, PlanE
 }
 
 // Whether one of two activities is marked as a summary.
-pub fn is_either_marked(tables: &Tables, ends: Link) -> bool
-    requires { (ends.from < tables.now.activities) × (ends.to < tables.now.activities) }
-    ensures { result ≡ (ltb 0 ((state tables.now).act is_summary ends.from) || ltb 0 ((state tables.now).act is_summary ends.to)) }
+pub fn is_either_marked<R: Reads>(tables: &R, ends: Link) -> bool
+    requires { (ends.from < (R.tables tables.now).activities) × (ends.to < (R.tables tables.now).activities) }
+    ensures { result ≡ (ltb 0 ((state (R.tables tables.now)).act is_summary ends.from) || ltb 0 ((state (R.tables tables.now)).act is_summary ends.to)) }
 {
     tables.is_summary(ends.from) || tables.is_summary(ends.to)
 }
@@ -88,13 +88,13 @@ pub fn is_tie_too_long(sheet: &Sheet, calendars: &[PlanCalendar], k: usize, ends
 }
 
 // Rows 13, 14 and 8 for link `k`: where it is fine, its ends if it is kept, and none if it is ignored.
-pub fn link_check(
+pub fn link_check<R: Reads>(
     sheet: &Sheet,
-    tables: &Tables,
+    tables: &R,
     calendars: &[PlanCalendar],
     k: usize,
 ) -> Result<Option<Link>, PlanError>
-    requires { Judging sheet.now calendars.now tables.now × (k < sheet.now.contents.links) }
+    requires { Judging sheet.now calendars.now (R.tables tables.now) × (k < sheet.now.contents.links) }
     ensures { LinkAnswered (plan_in sheet.now) k result }
 {
     let ends = link_ends(sheet, tables, k)?;

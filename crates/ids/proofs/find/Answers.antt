@@ -14,7 +14,7 @@ use Rattle.ids.proofs.find.Goals as goal
 
 pub returns-then-n-eq0 : goal.returns-then-n-eq0
 unfolding plan_of found_in
-returns-then-n-eq0 c =
+returns-then-n-eq0 g c =
     let x = c.args in
     (sym (ap (λ (n : ℕ). found_in (plan_in x.sheet.now) n x.id) c.if-n-eq0.true), tt)
 
@@ -26,6 +26,6 @@ left_out p S n id l (Err v) h = (sym h.0, tt)
 
 pub returns : goal.returns
 unfolding plan_of
-returns c =
+returns g c =
     let x = c.args in
-    rw c.ok.ensures.value (left_out (plan_in x.sheet.now) (state x.tables.now) x.n x.id c.requires.1 _ c.seek.ensures)
+    rw c.ok.ensures.value (left_out (plan_in x.sheet.now) (state (g.R.Reads.tables x.tables.now)) x.n x.id c.requires.1 _ c.seek.ensures)

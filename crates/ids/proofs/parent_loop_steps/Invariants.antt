@@ -6,4 +6,4 @@ use Rattle.ids.specs.ClimbSteps.{Climb}
 use Rattle.ids.proofs.parent_loop_steps.Given as goal
 
 abbrev pub invariant-loop-k : goal.invariant-loop-k
-invariant-loop-k l = Climb ((state l.tables).act parent) l.tables.activities l.i (cell_of l.up) l.k
+invariant-loop-k g l = Climb ((state (g.R.Reads.tables l.tables)).act parent) (g.R.Reads.tables l.tables).activities l.i (cell_of l.up) l.k

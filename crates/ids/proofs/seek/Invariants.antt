@@ -6,7 +6,7 @@ use Rattle.ids.specs.SearchLaws.{Seeking}
 use Rattle.ids.proofs.seek.Given as goal
 
 abbrev pub invariant-loop-n : goal.invariant-loop-n
-invariant-loop-n l = Seeking (plan_in l.sheet) (state l.tables) l.n l.id l.j l.rest
+invariant-loop-n g l = Seeking (plan_in l.sheet) (state (g.R.Reads.tables l.tables)) l.n l.id l.j l.rest
 
 abbrev pub decreases-loop-n : goal.decreases-loop-n
-decreases-loop-n l = l.n - l.j
+decreases-loop-n g l = l.n - l.j

@@ -7,15 +7,15 @@ use Rattle.ids.proofs.summaries.Goals as goal
 
 pub returns-in_err-summary_one : goal.returns-in_err-summary_one
 unfolding plan_of
-returns-in_err-summary_one c =
+returns-in_err-summary_one g c =
     let q = err_from_is_err_and c.from_residual.result c.from_residual.ensures.1 in
     rw (q.1, q.2) (summaries_stop (plan_in c.args.sheet.now) c.loop-i.i c.loop-i.invariant (omega arith) c.in_err-summary_one.ensures)
 
 pub loop-i-preserved : goal.loop-i-preserved
 unfolding plan_of
-loop-i-preserved c =
+loop-i-preserved g c =
     summaries_turn (plan_in c.args.sheet.now) c.loop-i.i c.loop-i.invariant (omega arith) c.in_ok-summary_one.ensures
 
 pub returns : goal.returns
 unfolding plan_of
-returns c = summaries_end (plan_in c.args.sheet.now) c.loop-i.i c.loop-i.invariant _ (omega arith)
+returns g c = summaries_end (plan_in c.args.sheet.now) c.loop-i.i c.loop-i.invariant _ (omega arith)

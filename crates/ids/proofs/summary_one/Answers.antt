@@ -11,35 +11,35 @@ use Rattle.ids.specs.SummaryLaws.{parents_within, answered_milestone, answered_l
 use Rattle.ids.proofs.summary_one.Goals as goal
 
 pub returns-then-is_milestone_parent : goal.returns-then-is_milestone_parent
-returns-then-is_milestone_parent c =
+returns-then-is_milestone_parent g c =
     let x = c.args in
     let p = plan_in x.sheet.now in
     answered_milestone p x.i _ (rw (activity_is x.sheet.now x.i c.activity.ensures) at c.id.ensures.0) _ c.is_milestone_parent.ensures c.if-is_milestone_parent.true
 
 pub parent_loop_steps-requires : goal.parent_loop_steps-requires
 unfolding plan_of
-parent_loop_steps-requires c =
+parent_loop_steps-requires g c =
     let x = c.args in
     let p = plan_in x.sheet.now in
-    let S = state x.tables.now in
+    let S = state (g.R.Reads.tables x.tables.now) in
     (omega (arith, c.requires.0.activities), subst (λ n. (j : ℕ) → j < n → S.act parent j ≤ n) (sym c.requires.0.activities) (parents_within p S c.requires.3 c.requires.2))
 
 pub returns-in-Some : goal.returns-in-Some
 unfolding plan_of
-returns-in-Some c =
+returns-in-Some g c =
     let x = c.args in
     let p = plan_in x.sheet.now in
-    let S = state x.tables.now in
+    let S = state (g.R.Reads.tables x.tables.now) in
     let q = rw c.in-Some.is at c.parent_loop_steps.ensures in
     let o = subst (λ n. c.in-Some.steps ≡ loop_steps (S.act parent) n x.i) c.requires.0.activities q.0 in
     answered_loop p S c.requires.3 c.requires.2 x.i (omega arith) _ o _ c.is_milestone_parent.ensures c.if-is_milestone_parent.false q.1.0 (omega (arith, c.requires.0.activities, q.1.1))
 
 pub returns-in-None : goal.returns-in-None
 unfolding plan_of
-returns-in-None c =
+returns-in-None g c =
     let x = c.args in
     let p = plan_in x.sheet.now in
-    let S = state x.tables.now in
+    let S = state (g.R.Reads.tables x.tables.now) in
     let q = rw c.in-None.is at c.parent_loop_steps.ensures in
     let o = subst (λ n. 0 ≡ loop_steps (S.act parent) n x.i) c.requires.0.activities q.0 in
     answered_free p S c.requires.3 c.requires.2 x.i (omega arith) _ o _ c.is_milestone_parent.ensures c.if-is_milestone_parent.false (omega arith)

@@ -7,20 +7,20 @@ use Rattle.ties.proofs.link_ends.Goals as goal
 
 pub returns-in_default : goal.returns-in_default
 unfolding plan_of
-returns-in_default c =
+returns-in_default g c =
     let x = c.args in
     from_unknown (plan_in x.sheet.now) x.k _ _ (rw (link_is x.sheet.now x.k c.link-link.ensures) at c.predecessor-pred.ensures.0) c.in_default.ensures.0 refl
 
 pub returns-in_default-find : goal.returns-in_default-find
 unfolding plan_of
-returns-in_default-find c =
+returns-in_default-find g c =
     let x = c.args in
     let f = c.in-Some.ensures in
     to_unknown (plan_in x.sheet.now) x.k _ _ (rw (link_is x.sheet.now x.k c.link-link.ensures) at c.predecessor-pred.ensures.0) f.0 f.1 _ _ (rw (link_is x.sheet.now x.k c.link-link.ensures) at c.successor-succ.ensures.0) c.in_default-find.ensures.0 refl
 
 pub returns-then-pred-succ : goal.returns-then-pred-succ
 unfolding plan_of
-returns-then-pred-succ c =
+returns-then-pred-succ g c =
     let x = c.args in
     let f = c.in-Some.ensures in
     let g = c.in-Some-find.ensures in
@@ -28,7 +28,7 @@ returns-then-pred-succ c =
 
 pub returns : goal.returns
 unfolding plan_of
-returns c =
+returns g c =
     let x = c.args in
     let f = c.in-Some.ensures in
     let g = c.in-Some-find.ensures in
