@@ -1,5 +1,5 @@
 -- Each calendar of a sheet that was read is valid, and works the minutes that the plan says.
-use Rattle.std.specs.Prelude.{◌≡◌, List, ℕ, ◌≤◌, ◌<◌, ltb, min, get_or}
+use Rattle.std.specs.Prelude.{◌≡◌, List, ℕ, ◌+◌, ◌≤◌, ◌<◌, ltb, min, get_or}
 use Rattle.std.proofs.Common.{⊎_elim, arith, lt-ltb, le-ltb, sym, ap, subst, refl, ◌∙◌}
 use Rattle.number.specs.Order.{lt_or_le}
 use Rattle.worktime.specs.Reads.{on_true, on_false}
@@ -17,7 +17,7 @@ use Rattle.project.specs.declared.Activity.{Activity}
 use Rattle.order.specs.Ties.{calendar_of}
 use Rattle.order.specs.Plan.{plan_of, plan_in, week_of_calendar, exception_place, exception_number, hours_of_calendar}
 use Rattle.calendars.specs.declared.plan_calendar.PlanCalendar.{PlanCalendar}
-use Rattle.calendars.specs.Calendars.{IsCalendar, InPlan, Own, Places, no_row}
+use Rattle.calendars.specs.Calendars.{IsCalendar, InPlan, Own, Located, no_row}
 
 module _ (s : List ℕ) (c : Contents) where
   -- a calendar that the sheet names
@@ -46,6 +46,10 @@ module _ (s : List ℕ) (c : Contents) where
   unfolding exception_number
   number_last k l = on_false (ltb k c.calendars) (exception_count s (calendar_at s k)) 0 (le-ltb k c.calendars l)
 
+  -- so each of them is the round-the-clock calendar
+  pub is_last : (k : ℕ) → c.calendars ≤ k → IsCalendar s c k round_the_clock 0 0
+  is_last k l = record { week_is = sym (week_last k l); at_is = sym (place_last k l); n_is = sym (number_last k l) }
+
   valid_named : SheetRead s c → (k : ℕ) → k < c.calendars → Valid (week_of_calendar s c k) s (exception_place s c k) (exception_number s c k)
   valid_named read k l = rw (week_named k l, place_named k l, number_named k l) (read.calendar k l).valid
 
@@ -63,8 +67,8 @@ module _ {s : List ℕ} {c : Contents} {k : ℕ} {week : List (List Period)} {at
   unfolding plan_of hours_of_calendar
   calendar_worked = rw (C.week_is, C.at_is, C.n_is)
 
--- the table has calendar k in row k, and every calendar after the sheet's in the last row
-pub in_row : {s : List ℕ} {c : Contents} {calendars : List PlanCalendar} → Places s c calendars → (k : ℕ) → let row = get_or calendars (min k c.calendars) no_row in IsCalendar s c k row.week row.at row.n
+-- a table that has the round-the-clock row, too, has calendar k in row k, and every calendar after the sheet's in that row
+pub in_row : {s : List ℕ} {c : Contents} {calendars : List PlanCalendar} → Located s c (c.calendars + 1) calendars → (k : ℕ) → let row = get_or calendars (min k c.calendars) no_row in IsCalendar s c k row.week row.at row.n
 in_row {s} {c} {calendars} P k =
     ⊎_elim (λ (l : k < c.calendars). let e : min k c.calendars ≡ k = omega (arith, l) in rw e (P.row k (omega (arith, l))))
     (λ (l : c.calendars ≤ k).

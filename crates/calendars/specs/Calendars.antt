@@ -1,5 +1,5 @@
 -- The plan's calendars as values, and the table of them.
-use Rattle.std.specs.Prelude.{◌≡◌, Bool, true, false, List, [], ℕ, ◌+◌, ◌≤◌, ◌<◌, length, get_or}
+use Rattle.std.specs.Prelude.{◌≡◌, Bool, true, false, List, [], ℕ, ◌≤◌, ◌<◌, length, get_or}
 use Rattle.calendar.specs.declared.Period.{Period}
 use Rattle.calendar.specs.declared.value.Calendar.{Calendar}
 use Rattle.project.specs.declared.Activity.{Activity}
@@ -40,9 +40,9 @@ pub record Located (s : List ℕ) (c : Contents) (n : ℕ) (calendars : List Pla
   pub size : n ≤ length calendars
   pub row : (k : ℕ) → k < n → let row = get_or calendars k no_row in IsCalendar s c k row.week row.at row.n
 
--- all calendars of the sheet stand there, and then the round-the-clock one
+-- all calendars of the sheet stand there
 abbrev pub Places : List ℕ → Contents → List PlanCalendar → Type 0
-Places s c calendars = Located s c (c.calendars + 1) calendars
+Places s c calendars = Located s c c.calendars calendars
 
 -- the day length of each calendar stands there, the round-the-clock one's last
 pub record Lengths (p : Plan) (calendars : List PlanCalendar) : Type 0 where

@@ -7,3 +7,4 @@ pub mod CalendarLaws
 pub mod Tables
 pub mod TableLaws
 pub mod HoursLaws
+pub mod RowLaws

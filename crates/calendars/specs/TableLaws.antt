@@ -20,7 +20,7 @@ use Rattle.sheet.specs.Places.{weeks_at, week_count, exceptions_at, exception_co
 use Rattle.order.specs.Plan.{plan_of, day_length_of_calendar}
 use Rattle.calendars.specs.PackedLaws.{earlier}
 use Rattle.calendars.specs.declared.plan_calendar.PlanCalendar.{PlanCalendar}
-use Rattle.calendars.specs.Calendars.{IsCalendar, Located, Places, Lengths, no_row}
+use Rattle.calendars.specs.Calendars.{IsCalendar, Located, Lengths, no_row}
 use Rattle.calendars.specs.CalendarLaws.{week_named, place_named, number_named, week_last, place_last, number_last}
 use Rattle.calendars.specs.Tables.{WeekPut, CalendarPut}
 
@@ -92,7 +92,7 @@ measured_more s n xs M l at here row is =
     (rw (get_or-set_same xs n row no_row l) is ∙ ap (day_length_at s) here)
 
 module _ (s : List ℕ) (c : Contents) (read : SheetRead s c) where
-  length_named : (k : ℕ) → k < c.calendars → day_length_of_calendar s c k ≡ day_length_at s (calendar_at s k)
+  pub length_named : (k : ℕ) → k < c.calendars → day_length_of_calendar s c k ≡ day_length_at s (calendar_at s k)
   unfolding day_length_of_calendar
   length_named k l = on_true (ltb k c.calendars) (day_length_at s (calendar_at s k)) 1440 (lt-ltb k c.calendars l)
 
@@ -113,7 +113,7 @@ module _ (s : List ℕ) (c : Contents) (read : SheetRead s c) where
   }
 
   -- the round-the-clock calendar stands after the sheet's
-  pub located_all : (xs : List PlanCalendar) → Located s c c.calendars xs → c.calendars < length xs → Clocks c.calendars xs → Places s c xs
+  pub located_all : (xs : List PlanCalendar) → Located s c c.calendars xs → c.calendars < length xs → Clocks c.calendars xs → Located s c (c.calendars + 1) xs
   located_all xs L l C = record {
     size = omega (arith, l);
     row = below_more (λ k. let r = get_or xs k no_row in IsCalendar s c k r.week r.at r.n) c.calendars L.row

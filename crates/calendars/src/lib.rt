@@ -1,10 +1,10 @@
 // The plan's calendars: a table of their weeks, where their E records stand and their day lengths, made once a call; and each as the clock takes it.
 #![tactic(auto)]
 
-ghost use Rattle.std.specs.Prelude.{◌≡◌, ◌≤◌, pos, ◌*ℤ◌};
+ghost use Rattle.std.specs.Prelude.{◌≡◌, ◌+◌, ◌≤◌, pos, ◌*ℤ◌};
 ghost use Rattle.calendar.specs.Records.{round_the_clock};
 ghost use Rattle.order.specs.Plan.{plan_in};
-ghost use Rattle.calendars.specs.Calendars.{Places, Lengths};
+ghost use Rattle.calendars.specs.Calendars.{Located, Places, Lengths};
 
 use project::CalendarRecord;
 use sheet::Sheet;
@@ -32,7 +32,7 @@ fn round_the_clock() -> PlanCalendar
 
 // The table: the calendars of the sheet in their order, and then the round-the-clock one.
 pub fn locate(sheet: &Sheet) -> [PlanCalendar; ROWS]
-    ensures { Places sheet.now.bytes.now sheet.now.contents result × Lengths (plan_in sheet.now) result }
+    ensures { Places sheet.now.bytes.now sheet.now.contents result × Lengths (plan_in sheet.now) result × Located sheet.now.bytes.now sheet.now.contents (sheet.now.contents.calendars + 1) result }
 {
     let mut calendars = [round_the_clock(); ROWS];
     let mut at: usize = 21;

@@ -5,10 +5,22 @@ ghost use Rattle.calendars.specs.Calendars.{Places};
 ghost use Rattle.calendars.specs.Props.{props};
 
 use super::PlanCalendar;
-use calendar::Calendar;
+use calendar::{Calendar, Period};
 use sheet::Sheet;
 
-// A sheet that was read, and its calendars in their order, the round-the-clock one after them.
+// The week of the round-the-clock calendar, which is lent from here, since a table need not hold it. It is written out: a static calls no function.
+static ROUND_THE_CLOCK: [[Period; 8]; 7] = [[
+    Period { from: 0, to: 1440 },
+    Period { from: 0, to: 0 },
+    Period { from: 0, to: 0 },
+    Period { from: 0, to: 0 },
+    Period { from: 0, to: 0 },
+    Period { from: 0, to: 0 },
+    Period { from: 0, to: 0 },
+    Period { from: 0, to: 0 },
+]; 7];
+
+// A sheet that was read, and its calendars in their order.
 // That their day lengths are the plan's (`Lengths`) stays a clause: the passes read none, and a field would be asked of them; a second struct with it would be made beside this one for `links`, `ties` and `rows`, from the same two values.
 #[derive(Clone, Copy)]
 pub struct PlanSheet<'a> {
@@ -35,7 +47,10 @@ impl<'a> PlanSheet<'a> {
     pub fn calendar(&self, k: usize) -> Calendar<'a>
         ensures { InPlan self.now.sheet k result }
     {
-        let row = &self.calendars[k.min(self.sheet.contents.calendars)];
+        if k >= self.sheet.contents.calendars {
+            return Calendar::new(&ROUND_THE_CLOCK, self.sheet.bytes, 0, 0);
+        }
+        let row = &self.calendars[k];
         Calendar::new(&row.week, self.sheet.bytes, row.at, row.n)
     }
 

@@ -45,6 +45,7 @@ returns c =
     let v = c.loop-k.invariant in
     let e : c.loop-k.k ≡ x.contents.calendars = omega (arith, v.0, c.loop-k-test.false) in
     let fits : x.contents.calendars < length c.loop-k.calendars = omega (arith, c.args.sheet.now.read.calendars_few, v.2) in (
-      located_all x.bytes.now x.contents x.read c.loop-k.calendars (rw e at v.3) fits (rw e at v.5),
+      rw e at v.3,
       measured_all x.bytes.now x.contents x.read c.loop-k.calendars (rw e at v.4) fits (rw e at v.5),
+      located_all x.bytes.now x.contents x.read c.loop-k.calendars (rw e at v.3) fits (rw e at v.5),
     )
