@@ -22,14 +22,15 @@ use calendars::PlanSheet;
 use dates::Span;
 use dates::step::Step;
 use memory::Tables;
+use memory::reads::Reads;
 use placing::Actual;
 use sheet::Sheet;
 use worktime::ClockError;
 
 // The greatest early finish so far, on with activity `i`; a summary has none.
-fn finish_onward(sheet: &Sheet, tables: &Tables, i: usize, top: Option<u64>) -> Option<u64>
-    requires { (tables.now.activities ≡ sheet.now.contents.activities) × (i < sheet.now.contents.activities) × Marked (plan_in sheet.now) (state tables.now) × IfSome top (λ t. t < 2 ^ 63) }
-    ensures { (past result ≡ onward (summary (plan_in sheet.now) i) ((state tables.now).act early_finish i) (past top)) × IfSome result (λ t. t < 2 ^ 63) }
+fn finish_onward<R: Reads>(sheet: &Sheet, tables: &R, i: usize, top: Option<u64>) -> Option<u64>
+    requires { ((R.tables tables.now).activities ≡ sheet.now.contents.activities) × (i < sheet.now.contents.activities) × Marked (plan_in sheet.now) (state (R.tables tables.now)) × IfSome top (λ t. t < 2 ^ 63) }
+    ensures { (past result ≡ onward (summary (plan_in sheet.now) i) ((state (R.tables tables.now)).act early_finish i) (past top)) × IfSome result (λ t. t < 2 ^ 63) }
 {
     if tables.is_summary(i) {
         return top;
@@ -39,9 +40,9 @@ fn finish_onward(sheet: &Sheet, tables: &Tables, i: usize, top: Option<u64>) -> 
 }
 
 // The greatest early finish of the activities that are no summaries, and the project's start where there is none.
-pub fn greatest_finish(sheet: &Sheet, tables: &Tables) -> u64
-    requires { (tables.now.activities ≡ sheet.now.contents.activities) × Marked (plan_in sheet.now) (state tables.now) }
-    ensures { (result ≡ finish (plan_in sheet.now) (early_in (plan_in sheet.now) (state tables.now))) × (result < 2 ^ 63) }
+pub fn greatest_finish<R: Reads>(sheet: &Sheet, tables: &R) -> u64
+    requires { ((R.tables tables.now).activities ≡ sheet.now.contents.activities) × Marked (plan_in sheet.now) (state (R.tables tables.now)) }
+    ensures { (result ≡ finish (plan_in sheet.now) (early_in (plan_in sheet.now) (state (R.tables tables.now)))) × (result < 2 ^ 63) }
 {
     let mut top: Option<u64> = None;
     for i in 0..sheet.contents.activities {
@@ -93,7 +94,7 @@ fn place_unfinished(
     requires { Ready plan.now tables.old × (i < plan.now.sheet.contents.activities) × (Ok actual ≡ recorded (plan_in plan.now.sheet) i) }
     ensures { (ended (late_in (plan_in plan.now.sheet) (state tables.new) last) result ≡ unfinished_late (plan_in plan.now.sheet) (early_in (plan_in plan.now.sheet) (state tables.old)) (late_in (plan_in plan.now.sheet) (state tables.old) last) i last) × Frame 10 12 0 0 (state tables.old) (state tables.new) × SameSlice tables.old tables.new }
 {
-    let dates = late::late_of(plan, tables, i, actual, last)?;
+    let dates = late::late_of(plan, tables, i, Ok(actual), last)?;
     store_late(tables, i, dates);
     Ok(())
 }

@@ -14,7 +14,7 @@ ghost use Rattle.dates.specs.Standing.{as_tie, Lent, Recorded};
 
 use calendars::PlanSheet;
 use dates::{Span, Tie};
-use memory::Tables;
+use memory::reads::Reads;
 use placing::Work;
 use project::RelationshipType;
 use worktime::ClockError;
@@ -52,9 +52,9 @@ pub fn forward_bound(plan: &PlanSheet, tie: Tie, early: Span) -> Result<u64, Clo
 }
 
 // The early start and the early finish of activity `i`, as they stand in the memory.
-pub fn early_at(tables: &Tables, i: usize) -> Span
-    requires { i < tables.now.activities }
-    ensures { (result.start ≡ (state tables.now).act early_start i) × (result.finish ≡ (state tables.now).act early_finish i) × (result.start < 2 ^ 63) × (result.finish < 2 ^ 63) }
+pub fn early_at<R: Reads>(tables: &R, i: usize) -> Span
+    requires { i < (R.tables tables.now).activities }
+    ensures { (result.start ≡ (state (R.tables tables.now)).act early_start i) × (result.finish ≡ (state (R.tables tables.now)).act early_finish i) × (result.start < 2 ^ 63) × (result.finish < 2 ^ 63) }
 {
     Span {
         start: tables.act(i, memory::fields::EARLY_START),
@@ -63,22 +63,22 @@ pub fn early_at(tables: &Tables, i: usize) -> Span
 }
 
 // The early dates of activity `i` from which its links count: its start as recorded once work has begun.
-pub fn counted_from(tables: &Tables, i: usize) -> Span
-    requires { i < tables.now.activities }
-    ensures { ((p : Plan) → p.activities ≡ tables.now.activities → Recorded p (state tables.now) → result.start ≡ begun p (recorded p i) ((early_in p (state tables.now)).es i)) × (result.finish ≡ (state tables.now).act early_finish i) }
+pub fn counted_from<R: Reads>(tables: &R, i: usize) -> Span
+    requires { i < (R.tables tables.now).activities }
+    ensures { ((p : Plan) → p.activities ≡ (R.tables tables.now).activities → Recorded p (state (R.tables tables.now)) → result.start ≡ begun p (recorded p i) ((early_in p (state (R.tables tables.now))).es i)) × (result.finish ≡ (state (R.tables tables.now)).act early_finish i) }
 {
     let recorded = dates::recorded_at(tables, i);
     let early = early_at(tables, i);
     Span {
-        start: dates::begun_at(recorded, early.start),
+        start: dates::begun_at(Ok(recorded), early.start),
         finish: early.finish,
     }
 }
 
 // The bound of the kept link in row `k`: its predecessor's start as recorded once begun.
-pub fn link_bound(plan: &PlanSheet, tables: &Tables, k: usize) -> Result<u64, ClockError>
-    requires { Lent plan.now tables.now × (k < tables.now.kept) }
-    ensures { result ≡ link_bound (plan_in plan.now.sheet) (early_in (plan_in plan.now.sheet) (state tables.now)) k }
+pub fn link_bound<R: Reads>(plan: &PlanSheet, tables: &R, k: usize) -> Result<u64, ClockError>
+    requires { Lent plan.now (R.tables tables.now) × (k < (R.tables tables.now).kept) }
+    ensures { result ≡ link_bound (plan_in plan.now.sheet) (early_in (plan_in plan.now.sheet) (state (R.tables tables.now))) k }
 {
     let tie = dates::tie_at(tables, k);
     let from = counted_from(tables, tie.from);
@@ -86,14 +86,14 @@ pub fn link_bound(plan: &PlanSheet, tables: &Tables, k: usize) -> Result<u64, Cl
 }
 
 // The start that the kept link in row `k` leaves its successor, whose work is in hand.
-pub fn start_by_link(
+pub fn start_by_link<R: Reads>(
     plan: &PlanSheet,
-    tables: &Tables,
+    tables: &R,
     work: &Work,
     k: usize,
 ) -> Result<u64, ClockError>
-    requires { Lent plan.now tables.now × (k < tables.now.kept) }
-    ensures { (i : ℕ) → InHand (plan_in plan.now.sheet) (early_in (plan_in plan.now.sheet) (state tables.now)) i work.now → result ≡ link_start (plan_in plan.now.sheet) (early_in (plan_in plan.now.sheet) (state tables.now)) i k }
+    requires { Lent plan.now (R.tables tables.now) × (k < (R.tables tables.now).kept) }
+    ensures { (i : ℕ) → InHand (plan_in plan.now.sheet) (early_in (plan_in plan.now.sheet) (state (R.tables tables.now))) i work.now → result ≡ link_start (plan_in plan.now.sheet) (early_in (plan_in plan.now.sheet) (state (R.tables tables.now))) i k }
 {
     let b = link_bound(plan, tables, k)?;
     let kind = RelationshipType::from(tables.link(k, memory::fields::KIND));

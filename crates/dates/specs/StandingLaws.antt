@@ -1,5 +1,6 @@
--- What stands for the passes stays under their frames; the chains list the links of the definitions.
-use Rattle.std.specs.Prelude.{◌≡◌, refl, ℕ, ◌-◌, ◌≤◌, ◌<◌, length}
+-- What stands for the passes stays under their frames; what is recorded is no refusal; the chains list the links of the definitions.
+use Rattle.std.specs.Prelude.{◌≡◌, refl, ℕ, ◌-◌, ◌≤◌, ◌<◌, length, Result, Ok, Err}
+use Rattle.worktime.specs.declared.ClockError.{ClockError}
 use Rattle.std.proofs.Math.Path.{sym, ap}
 use Rattle.std.proofs.Common.{◌∙◌}
 use native.Mathlib.Omega.{arith}
@@ -15,9 +16,10 @@ use Rattle.order.specs.Plan.{Plan}
 use Rattle.order.specs.Ties.{Tie, kept_links, tie_of}
 use Rattle.network.specs.Links.{Link}
 use Rattle.project.specs.Records.{relationship_type_of}
+use Rattle.placing.specs.declared.Actual.{Actual}
 use Rattle.order.specs.TieLaws.{ends_length, ends_at}
 use Rattle.passes.specs.Plan.{ties_into, ties_out}
-use Rattle.dates.specs.Standing.{tie_in, Standing}
+use Rattle.dates.specs.Standing.{tie_in, actual_of, Standing}
 
 -- ---- under a frame of the dates' fields
 module _ {lo hi : ℕ} {S T : State} (F : Frame lo hi 0 0 S T) where
@@ -51,6 +53,10 @@ module _ {lo hi : ℕ} {S T : State} (F : Frame lo hi 0 0 S T) where
       chains_out = out_kept l W.chains_out;
       ordered = λ q b. ap (λ (c : ℕ → ℕ). c q) (act_kept order_at (omega arith)) ∙ W.ordered q b;
     }
+
+-- what the memory records is never a refusal
+pub never_refused : (how start finish : ℕ) (k : ClockError) → ◌≡◌ {A = Result Actual ClockError} (Ok (actual_of how start finish)) (Err k) → ⊥
+never_refused how start finish k e = let z : ◌≡◌ {A = ℕ} 0 1 = cc in omega arith
 
 -- ---- the chains list the definitions' links
 module _ (p : Plan) {t : ℕ} {S : State} (W : Standing p t S) where

@@ -1,7 +1,7 @@
 // The run's dates in the lent memory, and what the passes read of the plan: links, recorded work, the start and the floor.
 #![tactic(auto)]
 
-ghost use Rattle.std.specs.Prelude.{◌≡◌, ◌+◌, ◌^◌, ◌<◌, Ok};
+ghost use Rattle.std.specs.Prelude.{◌≡◌, ◌+◌, ◌^◌, ◌<◌};
 ghost use Rattle.calendar.specs.Hours.{worked};
 ghost use Rattle.worktime.specs.Walks.{shift};
 ghost use Rattle.memory.specs.Seen.{state};
@@ -17,7 +17,7 @@ pub mod step;
 
 use calendar::Calendar;
 use calendars::PlanSheet;
-use memory::Tables;
+use memory::reads::Reads;
 use placing::{Actual, Work};
 use project::{Activity, RelationshipType};
 use sheet::Sheet;
@@ -62,9 +62,9 @@ pub fn leads_to_finish(kind: RelationshipType) -> bool
 }
 
 // The link in row `t`.
-pub fn tie_at(tables: &Tables, t: usize) -> Tie
-    requires { t < tables.now.links }
-    ensures { as_tie result ≡ tie_in (state tables.now) t }
+pub fn tie_at<R: Reads>(tables: &R, t: usize) -> Tie
+    requires { t < (R.tables tables.now).links }
+    ensures { as_tie result ≡ tie_in (state (R.tables tables.now)) t }
 {
     Tie {
         from: tables.link(t, memory::fields::FROM) as usize,
@@ -76,9 +76,9 @@ pub fn tie_at(tables: &Tables, t: usize) -> Tie
 }
 
 // What is recorded of activity `i`, from the memory: the other way from `Actual::status`, with a field read for each variant, so no `From` of the number.
-pub fn recorded_at(tables: &Tables, i: usize) -> Actual
-    requires { i < tables.now.activities }
-    ensures { result ≡ actual_in (state tables.now) i }
+pub fn recorded_at<R: Reads>(tables: &R, i: usize) -> Actual
+    requires { i < (R.tables tables.now).activities }
+    ensures { result ≡ actual_in (state (R.tables tables.now)) i }
 {
     let how = tables.act(i, memory::fields::RECORDED_AS);
     if how == 0 {
@@ -92,13 +92,14 @@ pub fn recorded_at(tables: &Tables, i: usize) -> Actual
 }
 
 // The start from which links count: the recorded one once work has begun.
-pub fn begun_at(actual: Actual, es: u64) -> u64
-    ensures { (p : Plan) → result ≡ begun p (Ok actual) es }
+pub fn begun_at(actual: Result<Actual, ClockError>, es: u64) -> u64
+    ensures { (p : Plan) → result ≡ begun p actual es }
 {
     match actual {
-        Actual::Unstarted => es,
-        Actual::Begun(s) => s,
-        Actual::Completed(s, _) => s,
+        Ok(Actual::Unstarted) => es,
+        Ok(Actual::Begun(s)) => s,
+        Ok(Actual::Completed(s, _)) => s,
+        Err(_) => es,
     }
 }
 
@@ -119,9 +120,9 @@ pub fn own_calendar<'a>(plan: &PlanSheet<'a>, i: usize) -> Calendar<'a>
 }
 
 // Activity `i` with its OWN calendar and the work left of it, from the memory.
-pub fn work_of<'a>(plan: &PlanSheet<'a>, tables: &Tables, i: usize) -> Work<'a>
-    requires { (tables.now.activities ≡ plan.now.sheet.contents.activities) × (i < plan.now.sheet.contents.activities) }
-    ensures { Own plan.now.sheet i result.activity result.calendar × InHand (plan_in plan.now.sheet) (early_in (plan_in plan.now.sheet) (state tables.now)) i result × (result.left < 2 ^ 63) }
+pub fn work_of<'a, R: Reads>(plan: &PlanSheet<'a>, tables: &R, i: usize) -> Work<'a>
+    requires { ((R.tables tables.now).activities ≡ plan.now.sheet.contents.activities) × (i < plan.now.sheet.contents.activities) }
+    ensures { Own plan.now.sheet i result.activity result.calendar × InHand (plan_in plan.now.sheet) (early_in (plan_in plan.now.sheet) (state (R.tables tables.now))) i result × (result.left < 2 ^ 63) }
 {
     let activity = activity_of(&plan.sheet, i);
     Work {

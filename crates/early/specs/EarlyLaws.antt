@@ -58,6 +58,9 @@ module _ {p : Plan} {times : Times} (T : IsTimes p times) (d : Early) (s start :
 
 module _ {p : Plan} {d : Early} {i : ℕ} {work : Work} (H : InHand p d i work) where
   -- ---- the start by a constraint's time
+  pub early_unconstrained : (c : Option Constraint) (t start : ℕ) → c ≡ None → at_early p d i c t start ≡ Ok start
+  early_unconstrained c t start e = rw e
+
   module _ (c : Constraint) (t start : ℕ) where
     pub early_stays : ((x : Date) × (c ≡ StartOnOrBefore x)) ⊎ (((x : Date) × (c ≡ FinishOnOrBefore x)) ⊎ (c ≡ AsLateAsPossible))
         → at_early p d i (Some c) t start ≡ Ok start
@@ -154,15 +157,18 @@ module _ {p : Plan} {d : Early} {i : ℕ} {work : Work} (H : InHand p d i work) 
         held_both u c = in_turn ∙ goes_on_lem Err _ f a ∙ goes_on_lem Err _ g c
 
   -- ---- the start by what is recorded
-  module _ (a : Actual) (start : ℕ) where
-    pub start_unstarted : a ≡ Unstarted → start_by p d i a start ≡ held p d i start
+  module _ (a : Result Actual ClockError) (start : ℕ) where
+    pub start_unstarted : a ≡ Ok Unstarted → start_by p d i a start ≡ held p d i start
     start_unstarted e = rw e
 
-    pub start_begun : (s : ℕ) → a ≡ Begun s → start_by p d i a start ≡ Ok (resumed p d s p.project.data_date p.project.progress_mode start)
+    pub start_begun : (s : ℕ) → a ≡ Ok (Begun s) → start_by p d i a start ≡ Ok (resumed p d s p.project.data_date p.project.progress_mode start)
     start_begun s e = rw e
 
-    pub start_completed : (s f : ℕ) → a ≡ Completed s f → start_by p d i a start ≡ Ok start
+    pub start_completed : (s f : ℕ) → a ≡ Ok (Completed s f) → start_by p d i a start ≡ Ok start
     start_completed s f e = rw e
+
+    pub start_refused : (k : ClockError) → a ≡ Err k → start_by p d i a start ≡ Err k
+    start_refused k e = rw e
 
   -- ---- the work to an expected finish
   module _ (s : ℕ) (day : Option Date) where
@@ -264,7 +270,7 @@ module _ (p : Plan) (d : Early) (i : ℕ) (w : ℕ → Bool) (s m : ℕ) {x : Re
     finished_at e c = goes_on_lem refused _ f a ∙ goes_on_lem refused _ finish_bounded c
 
 -- ---- links met, then the start by what is recorded
-module _ (p : Plan) (d : Early) (i : ℕ) (a : Actual) (start : ℕ) {x : Result ℕ ClockError} (f : x ≡ start_by p d i a start) where
+module _ (p : Plan) (d : Early) (i : ℕ) (a : Result Actual ClockError) (start : ℕ) {x : Result ℕ ClockError} (f : x ≡ start_by p d i a start) where
   pub after_refused : (k : ClockError) → x ≡ Err k → after_start p d i a start ≡ refused k
   after_refused k e = stops refused (placed p d i) f e
 

@@ -36,5 +36,5 @@ module _ (p : Plan) (d : Early) (i : ℕ) where
   finished_as w s m = via refused (finish_of w m s) (λ g. via refused (bounded (origin p) g) (λ f. leaves (early p d i s f m)))
 
   -- the end of `forward_by` for work that is not completed, once the links are met
-  abbrev pub after_start : Actual → ℕ → Pass Early
+  abbrev pub after_start : Result Actual ClockError → ℕ → Pass Early
   after_start a r = via refused (start_by p d i a r) (placed p d i)

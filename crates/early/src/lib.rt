@@ -115,10 +115,15 @@ fn resumed(times: Times, s: u64, start: u64) -> u64
 }
 
 // The start from `start` on, which the links leave, by what is recorded.
-fn start_by(unplaced: &Unplaced, recorded: Actual, start: u64) -> Result<u64, ClockError>
+fn start_by(
+    unplaced: &Unplaced,
+    recorded: Result<Actual, ClockError>,
+    start: u64,
+) -> Result<u64, ClockError>
     ensures { (p : Plan) (d : Early) (i : ℕ) → IsUnplaced p d i unplaced.now → result ≡ start_by p d i recorded start }
 {
-    match recorded {
+    let actual = recorded?;
+    match actual {
         Actual::Unstarted => held(unplaced, start),
         Actual::Begun(s) => Ok(resumed(unplaced.times, s, start)),
         Actual::Completed(_, _) => Ok(start),
@@ -188,7 +193,11 @@ fn placed(unplaced: &Unplaced, start: u64) -> Result<Placement, ClockError>
 }
 
 // The early dates of an activity whose links leave it `start`: completed work apart.
-pub fn place(unplaced: &Unplaced, recorded: Actual, start: u64) -> Result<Placement, ClockError>
+pub fn place(
+    unplaced: &Unplaced,
+    recorded: Result<Actual, ClockError>,
+    start: u64,
+) -> Result<Placement, ClockError>
     ensures { (p : Plan) (d : Early) (i : ℕ) → IsUnplaced p d i unplaced.now → placed_as p d i result ≡ after_start p d i recorded start }
 {
     let u = start_by(unplaced, recorded, start)?;

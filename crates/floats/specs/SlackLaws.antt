@@ -21,7 +21,7 @@ use Rattle.order.specs.Ids.{summary}
 use Rattle.passes.specs.Plan.{own, tie, ties_out, kind_of, recorded, begun}
 use Rattle.passes.specs.Dates.{Early, Late, Freed, Pass, leaves, refused, put}
 use Rattle.passes.specs.Forward.{forward_bound, early}
-use Rattle.passes.specs.Floats.{measured, is_late, gap, slack_by, holds_late, held_start, held_move, free_by, freed, free_float}
+use Rattle.passes.specs.Floats.{measured, is_late, not_begun, gap, slack_by, holds_late, held_start, held_move, free_by, freed, free_float}
 use Rattle.floats.specs.Slack.{marked_late, start_moved, dates_moved, on_moved, gap_by, gap_of, least_slack, slack_of, free_of}
 
 -- ---- what follows a count
@@ -124,11 +124,16 @@ module _ (p : Plan) (d : Early) (actual : Actual) (first second : Option Constra
   unfolding marked_late
   marked_second e f = rw (e, f)
 
-  pub marked_begun : ((s : ℕ) × (actual ≡ Begun s)) ⊎ ((s : ℕ) × (f : ℕ) × (actual ≡ Completed s f))
+  pub marked_in_hand : ((s : ℕ) × (actual ≡ Begun s)) ⊎ ((s : ℕ) × (f : ℕ) × (actual ≡ Completed s f))
       → marked_late p d (Ok actual) first second ≡ false
   unfolding marked_late
-  marked_begun (inl (s, e)) = rw e
-  marked_begun (inr (s, f, e)) = rw e
+  marked_in_hand (inl (s, e)) = rw e
+  marked_in_hand (inr (s, f, e)) = rw e
+
+pub marked_begun : (p : Plan) (d : Early) (actual : Result Actual ClockError) (first second : Option Constraint) → not_begun p d actual ≡ false
+    → marked_late p d actual first second ≡ false
+unfolding marked_late
+marked_begun p d actual first second e = rw e
 
 -- ---- the free float of work that is not completed
 pub free_left : (p : Plan) (d : Early) (actual : Actual) (slack total : ℤ) → (actual ≡ Unstarted) ⊎ ((s : ℕ) × (actual ≡ Begun s))

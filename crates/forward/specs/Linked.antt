@@ -13,7 +13,7 @@ use Rattle.passes.specs.Forward.{raised}
 use Rattle.early.specs.InHand.{after_start}
 
 -- `forward_by` for work that is not completed
-abbrev pub after_links : Plan → Early → ℕ → Actual → Pass Early
+abbrev pub after_links : Plan → Early → ℕ → Result Actual ClockError → Pass Early
 after_links p d i a = via refused (raised p d i (ties_into p i) (floor p)) (after_start p d i a)
 
 -- S with the early dates and the minutes of work left of activity i

@@ -65,7 +65,7 @@ module _ (p : Plan) (d : Early) (i : ℕ) where
     raise_stop r a f = stop (link_start p d i k) start r f (sym e ∙ a)
 
   -- ---- the placing after the links
-  module _ (a : Actual) (least : ℕ) (q : least ≡ floor p) {x : Result ℕ ClockError} (e : x ≡ raised p d i (ties_into p i) least) where
+  module _ (a : Result Actual ClockError) (least : ℕ) (q : least ≡ floor p) {x : Result ℕ ClockError} (e : x ≡ raised p d i (ties_into p i) least) where
     from_floor : x ≡ raised p d i (ties_into p i) (floor p)
     from_floor = e ∙ ap (raised p d i (ties_into p i)) q
 

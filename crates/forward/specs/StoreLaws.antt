@@ -79,13 +79,13 @@ settled_refused i S k x e = record {
 
 -- ---- by what is recorded
 module _ (p : Plan) (d : Early) (i : ℕ) where
-  by_links : (a : Actual) → ((s f : ℕ) → a ≡ Completed s f → ⊥) → after_links p d i a ≡ forward_by p d i (Ok a)
+  by_links : (a : Actual) → ((s f : ℕ) → a ≡ Completed s f → ⊥) → after_links p d i (Ok a) ≡ forward_by p d i (Ok a)
   by_links Unstarted h = refl
   by_links (Begun s) h = refl
   by_links (Completed s f) h = absurd (h s f refl)
 
   module _ (S : State) (a : Actual) (e : a ≡ actual_in S i) (q : Ok (actual_in S i) ≡ recorded p i) where
-    pub forward_open : ((s f : ℕ) → a ≡ Completed s f → ⊥) → after_links p d i a ≡ forward p d i
+    pub forward_open : ((s f : ℕ) → a ≡ Completed s f → ⊥) → after_links p d i (Ok a) ≡ forward p d i
     unfolding forward
     forward_open h = by_links a h ∙ ap (forward_by p d i) (ap Ok e ∙ q)
 

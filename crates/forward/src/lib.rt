@@ -68,7 +68,7 @@ fn early_of(
     recorded: Actual,
 ) -> Result<Placement, ClockError>
     requires { Lent plan.now tables.now × (i < plan.now.sheet.contents.activities) }
-    ensures { placed_as (plan_in plan.now.sheet) (early_in (plan_in plan.now.sheet) (state tables.now)) i result ≡ after_links (plan_in plan.now.sheet) (early_in (plan_in plan.now.sheet) (state tables.now)) i recorded }
+    ensures { placed_as (plan_in plan.now.sheet) (early_in (plan_in plan.now.sheet) (state tables.now)) i result ≡ after_links (plan_in plan.now.sheet) (early_in (plan_in plan.now.sheet) (state tables.now)) i (Ok recorded) }
 {
     let unplaced = Unplaced {
         work: dates::work_of(plan, tables, i),
@@ -76,7 +76,7 @@ fn early_of(
         times: early::times_of(&plan.sheet),
     };
     let start = raise(plan, tables, i, &unplaced.work, unplaced.times.floor)?;
-    early::place(&unplaced, recorded, start)
+    early::place(&unplaced, Ok(recorded), start)
 }
 
 // Stores an activity's early dates and its minutes of work left.

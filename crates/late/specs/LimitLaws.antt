@@ -62,6 +62,9 @@ module _ (p : Plan) (d : Early) (l : Late) (i : ℕ) where
     pub by_completed : (a : Actual) (s f : ℕ) → a ≡ Completed s f → limited_by p d l i (Ok a) c latest ≡ Ok latest
     by_completed a s f e = ap (λ (x : Actual). limited_by p d l i (Ok x) c latest) e
 
+    pub by_refused : (a : Result Actual ClockError) (k : ClockError) → a ≡ Err k → limited_by p d l i a c latest ≡ Err k
+    by_refused a k e = ap (λ (x : Result Actual ClockError). limited_by p d l i x c latest) e
+
   -- ---- both, in turn
   module _ (latest : ℕ) where
     pub held_summary : summary p i ≡ true → held_late p d l i latest ≡ Ok latest

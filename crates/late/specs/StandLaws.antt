@@ -1,8 +1,8 @@
 -- What the links' steps read of the memory is what the definitions read of the plan and the dates.
-use Rattle.std.specs.Prelude.{◌≡◌, Bool, List, [], ◌∷◌, ℕ, ◌<◌, min, ltb, Ok, Err}
+use Rattle.std.specs.Prelude.{◌≡◌, Bool, List, [], ◌∷◌, ℕ, ◌<◌, min, eqb, ltb, Ok, Err}
 use Rattle.worktime.specs.declared.ClockError.{ClockError}
 use Rattle.std.proofs.Common.{sym, ap, ◌∙◌, arith}
-use Rattle.number.specs.BitLaws.{mark_flag}
+use Rattle.number.specs.BitLaws.{mark_flag, mark_is}
 use Rattle.cells.specs.Chain.{after, gather}
 use Rattle.cells.specs.ChainLaws.{Along, along_start, along_turn, along_stop, along_end}
 use Rattle.memory.specs.State.{State}
@@ -53,6 +53,10 @@ module _ {plan : PlanSheet} {tables : Tables} (R : Ready plan tables) where
 
   pub summary_at : (i : ℕ) {m : Bool} → i < plan.sheet.contents.activities → m ≡ ltb 0 (S.act is_summary i) → m ≡ summary p i
   summary_at i b e = e ∙ mark_flag (summary p i) (R.standing.marks i (omega (arith, activities_are plan.sheet.bytes.now plan.sheet.contents)))
+
+  -- the cell is 1 exactly where it is a summary
+  pub mark_at : (i m : ℕ) → i < plan.sheet.contents.activities → m ≡ S.act is_summary i → eqb m 1 ≡ summary p i
+  mark_at i m b e = mark_is (summary p i) (e ∙ R.standing.marks i (omega (arith, activities_are plan.sheet.bytes.now plan.sheet.contents)))
 
   -- ---- a link in hand is the k-th kept one
   module _ (k : ℕ) (l : k < tables.kept) (τ : Tie) (e : as_tie τ ≡ tie_in S k) where

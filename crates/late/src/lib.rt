@@ -15,7 +15,7 @@ ghost use Rattle.late.specs.Times.{dated, unfinished_late, Fitting};
 
 use calendars::PlanSheet;
 use dates::Span;
-use memory::Tables;
+use memory::reads::Reads;
 use placing::{Actual, Work};
 use worktime::ClockError;
 
@@ -45,7 +45,7 @@ fn lift(work: &Work, early: u64, latest: u64, f: u64) -> Result<u64, ClockError>
 
 // The late dates that `latest` leaves, with the early finish `early`.
 fn place_late(unfinished: &Unfinished, early: u64, latest: u64) -> Result<Span, ClockError>
-    requires { early < 2 ^ 63 }
+    requires { (unfinished.now.origin < 2 ^ 43) × (early < 2 ^ 63) }
     ensures { ((p : Plan) (d : Early) (l : Late) (i : ℕ) → IsUnfinished p d i unfinished.now → early ≡ d.ef i → dated p d l i result ≡ placed_late p d l i latest) × Fitting result }
 {
     let work = &unfinished.work;
@@ -61,15 +61,15 @@ fn place_late(unfinished: &Unfinished, early: u64, latest: u64) -> Result<Span, 
 }
 
 // The late dates of activity `i`, of which `actual` is recorded and which is not completed; `last` is the end.
-pub fn late_of(
+pub fn late_of<R: Reads>(
     plan: &PlanSheet,
-    tables: &Tables,
+    tables: &R,
     i: usize,
-    actual: Actual,
+    actual: Result<Actual, ClockError>,
     last: u64,
 ) -> Result<Span, ClockError>
-    requires { Ready plan.now tables.now × (i < plan.now.sheet.contents.activities) × (Ok actual ≡ recorded (plan_in plan.now.sheet) i) }
-    ensures { (dated (plan_in plan.now.sheet) (early_in (plan_in plan.now.sheet) (state tables.now)) (late_in (plan_in plan.now.sheet) (state tables.now) last) i result ≡ unfinished_late (plan_in plan.now.sheet) (early_in (plan_in plan.now.sheet) (state tables.now)) (late_in (plan_in plan.now.sheet) (state tables.now) last) i last) × Fitting result }
+    requires { Ready plan.now (R.tables tables.now) × (i < plan.now.sheet.contents.activities) × (actual ≡ recorded (plan_in plan.now.sheet) i) }
+    ensures { (dated (plan_in plan.now.sheet) (early_in (plan_in plan.now.sheet) (state (R.tables tables.now))) (late_in (plan_in plan.now.sheet) (state (R.tables tables.now)) last) i result ≡ unfinished_late (plan_in plan.now.sheet) (early_in (plan_in plan.now.sheet) (state (R.tables tables.now))) (late_in (plan_in plan.now.sheet) (state (R.tables tables.now)) last) i last) × Fitting result }
 {
     let unfinished = Unfinished {
         work: dates::work_of(plan, tables, i),

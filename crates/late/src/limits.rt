@@ -62,13 +62,14 @@ fn limit(
 // The same, by what is recorded: a start constraint bounds nothing once the work has begun.
 fn limit_by(
     unfinished: &Unfinished,
-    actual: Actual,
+    actual: Result<Actual, ClockError>,
     constraint: Option<Constraint>,
     latest: u64,
 ) -> Result<u64, ClockError>
-    ensures { (p : Plan) (d : Early) (l : Late) (i : ℕ) → IsUnfinished p d i unfinished.now → result ≡ limited_by p d l i (Ok actual) constraint latest }
+    ensures { (p : Plan) (d : Early) (l : Late) (i : ℕ) → IsUnfinished p d i unfinished.now → result ≡ limited_by p d l i actual constraint latest }
 {
-    match actual {
+    let recorded = actual?;
+    match recorded {
         Actual::Unstarted => limit(unfinished, constraint, latest),
         Actual::Begun(_) => {
             if project::bounds_start(constraint) {
@@ -84,10 +85,10 @@ fn limit_by(
 pub fn hold_late(
     unfinished: &Unfinished,
     is_summary: bool,
-    actual: Actual,
+    actual: Result<Actual, ClockError>,
     latest: u64,
 ) -> Result<u64, ClockError>
-    ensures { (p : Plan) (d : Early) (l : Late) (i : ℕ) → IsUnfinished p d i unfinished.now → is_summary ≡ summary p i → Ok actual ≡ recorded p i → result ≡ held_late p d l i latest }
+    ensures { (p : Plan) (d : Early) (l : Late) (i : ℕ) → IsUnfinished p d i unfinished.now → is_summary ≡ summary p i → actual ≡ recorded p i → result ≡ held_late p d l i latest }
 {
     if is_summary {
         return Ok(latest);

@@ -17,7 +17,7 @@ ghost use Rattle.late.specs.Times.{times_of, target_of, finish_by};
 use crate::Unfinished;
 use calendars::PlanSheet;
 use dates::Span;
-use memory::Tables;
+use memory::reads::Reads;
 use placing::Work;
 use project::RelationshipType;
 use worktime::ClockError;
@@ -36,9 +36,9 @@ fn over_lag(plan: &PlanSheet, k: usize, lag: i64, x: u64) -> Result<u64, ClockEr
 }
 
 // The late times of activity `j`, a link's successor, each moved to its own next start.
-fn successor_times(plan: &PlanSheet, tables: &Tables, j: usize) -> Result<Span, ClockError>
-    requires { (tables.now.activities ≡ plan.now.sheet.contents.activities) × (j < plan.now.sheet.contents.activities) }
-    ensures { result ≡ times_of (own (plan_in plan.now.sheet) j) ((state tables.now).act late_start j) ((state tables.now).act late_finish j) }
+fn successor_times<R: Reads>(plan: &PlanSheet, tables: &R, j: usize) -> Result<Span, ClockError>
+    requires { ((R.tables tables.now).activities ≡ plan.now.sheet.contents.activities) × (j < plan.now.sheet.contents.activities) }
+    ensures { result ≡ times_of (own (plan_in plan.now.sheet) j) ((state (R.tables tables.now)).act late_start j) ((state (R.tables tables.now)).act late_finish j) }
 {
     let calendar = dates::own_calendar(plan, j);
     let start = tables.act(j, memory::fields::LATE_START);
@@ -73,14 +73,14 @@ fn finish_by(work: &Work, kind: RelationshipType, v: u64) -> Result<u64, ClockEr
 }
 
 // The latest finish that link `k` leaves an activity that it leads out of, on its own calendar.
-fn link_finish(
+fn link_finish<R: Reads>(
     plan: &PlanSheet,
-    tables: &Tables,
+    tables: &R,
     unfinished: &Unfinished,
     k: usize,
 ) -> Result<u64, ClockError>
-    requires { Ready plan.now tables.now × (k < tables.now.kept) }
-    ensures { (i last : ℕ) → IsUnfinished (plan_in plan.now.sheet) (early_in (plan_in plan.now.sheet) (state tables.now)) i unfinished.now → result ≡ link_finish (plan_in plan.now.sheet) (early_in (plan_in plan.now.sheet) (state tables.now)) (late_in (plan_in plan.now.sheet) (state tables.now) last) i k }
+    requires { Ready plan.now (R.tables tables.now) × (k < (R.tables tables.now).kept) }
+    ensures { (i last : ℕ) → IsUnfinished (plan_in plan.now.sheet) (early_in (plan_in plan.now.sheet) (state (R.tables tables.now))) i unfinished.now → result ≡ link_finish (plan_in plan.now.sheet) (early_in (plan_in plan.now.sheet) (state (R.tables tables.now))) (late_in (plan_in plan.now.sheet) (state (R.tables tables.now)) last) i k }
 {
     let tie = dates::tie_at(tables, k);
     let times = successor_times(plan, tables, tie.to)?;
@@ -91,15 +91,15 @@ fn link_finish(
 }
 
 // The latest finish that the links out of activity `i` leave it, from `last` down.
-pub fn lower(
+pub fn lower<R: Reads>(
     plan: &PlanSheet,
-    tables: &Tables,
+    tables: &R,
     unfinished: &Unfinished,
     i: usize,
     last: u64,
 ) -> Result<u64, ClockError>
-    requires { Ready plan.now tables.now × (i < plan.now.sheet.contents.activities) × IsUnfinished (plan_in plan.now.sheet) (early_in (plan_in plan.now.sheet) (state tables.now)) i unfinished.now }
-    ensures { result ≡ lowered (plan_in plan.now.sheet) (early_in (plan_in plan.now.sheet) (state tables.now)) (late_in (plan_in plan.now.sheet) (state tables.now) last) i (ties_out (plan_in plan.now.sheet) i) last }
+    requires { Ready plan.now (R.tables tables.now) × (i < plan.now.sheet.contents.activities) × IsUnfinished (plan_in plan.now.sheet) (early_in (plan_in plan.now.sheet) (state (R.tables tables.now))) i unfinished.now }
+    ensures { result ≡ lowered (plan_in plan.now.sheet) (early_in (plan_in plan.now.sheet) (state (R.tables tables.now))) (late_in (plan_in plan.now.sheet) (state (R.tables tables.now)) last) i (ties_out (plan_in plan.now.sheet) i) last }
 {
     let mut latest = last;
     for k in tables.links_out(i) {

@@ -1,6 +1,4 @@
 // An activity that is not completed, as its late dates are found.
-ghost use Rattle.std.specs.Prelude.{◌^◌, ◌<◌};
-
 use placing::Work;
 
 // The work in hand of an activity that is not completed, and the project's start.
@@ -8,5 +6,4 @@ use placing::Work;
 pub struct Unfinished<'a> {
     pub work: Work<'a>,
     pub origin: u64,
-    pub ghost near: { origin < 2 ^ 43 },
 }

@@ -129,10 +129,11 @@ module _ (p : Plan) where
     resumed s (Some x) RetainedLogic start = start
     resumed s (Some x) ProgressOverride start = floor p
 
-    abbrev pub start_by : ℕ → Actual → ℕ → Result ℕ ClockError
-    start_by i Unstarted start = held i start
-    start_by i (Begun s) start = Ok (resumed s p.project.data_date p.project.progress_mode start)
-    start_by i (Completed s f) start = Ok start
+    abbrev pub start_by : ℕ → Result Actual ClockError → ℕ → Result ℕ ClockError
+    start_by i (Ok Unstarted) start = held i start
+    start_by i (Ok (Begun s)) start = Ok (resumed s p.project.data_date p.project.progress_mode start)
+    start_by i (Ok (Completed s f)) start = Ok start
+    start_by i (Err k) start = Err k
 
     -- ---- an expected finish resets the minutes: the work from the start to that evening on i's own calendar, none where it is past
     abbrev pub expected_on : ℕ → ActivityKind → Option Date
@@ -164,8 +165,8 @@ module _ (p : Plan) where
     abbrev pub forward_by : ℕ → Result Actual ClockError → Pass Early
     forward_by i (Ok (Completed s f)) = leaves (early i s f (d.left i))
     forward_by i (Err k) = refused k
-    forward_by i (Ok Unstarted) = via refused (raised i (ties_into p i) (floor p)) (λ r. via refused (start_by i Unstarted r) (placed i))
-    forward_by i (Ok (Begun s)) = via refused (raised i (ties_into p i) (floor p)) (λ r. via refused (start_by i (Begun s) r) (placed i))
+    forward_by i (Ok Unstarted) = via refused (raised i (ties_into p i) (floor p)) (λ r. via refused (start_by i (Ok Unstarted) r) (placed i))
+    forward_by i (Ok (Begun s)) = via refused (raised i (ties_into p i) (floor p)) (λ r. via refused (start_by i (Ok (Begun s)) r) (placed i))
 
   unfoldable pub forward : Early → ℕ → Pass Early
   forward d i = forward_by d i (recorded p i)

@@ -66,6 +66,13 @@ module _ (p : Plan) (i : ℕ) where
   pub left_completed : (x : Actual) (s f : ℕ) → x ≡ Completed s f → left_by p i (Ok x) ≡ Ok 0
   left_completed x s f e = ap (λ (y : Actual). left_by p i (Ok y)) e
 
+  pub left_refused : (x : Result Actual ClockError) (k : ClockError) → x ≡ Err k → left_by p i x ≡ Err k
+  left_refused x k e = ap (left_by p i) e
+
+  -- a refusal leaves none
+  pub left_answers : (x : Result Actual ClockError) (m : ℕ) (k : ClockError) → left_by p i x ≡ Ok m → x ≡ Err k → ⊥
+  left_answers x m k e f = let d : ◌≡◌ {A = Result ℕ ClockError} (Err k) (Ok m) = sym (left_refused x k f) ∙ e in clash (cc)
+
   -- ---- of work under way since s
   module _ (s : ℕ) where
     pub still_told : (x : Option ℤ) (m : ℤ) → x ≡ Some m → still_left p i s x ≡ Ok (to_minutes p m)

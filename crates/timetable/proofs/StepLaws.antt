@@ -157,12 +157,12 @@ module _ (p : Plan) where
     step_by (Ok (Completed s f)) e = record { s = s; f = f; m = d.left i; gives = cc }
     step_by (Err k) e = let z : ◌≡◌ {A = ℕ} 0 1 = cc in absurd (omega arith)
     step_by (Ok Unstarted) e =
-        let a = via_leaves (raised p d i (ties_into p i) (floor p)) (λ r. via refused (start_by p d i Unstarted r) (placed p d i)) d' e in
-        let b = via_leaves (start_by p d i Unstarted a.0) (placed p d i) d' a.2 in
+        let a = via_leaves (raised p d i (ties_into p i) (floor p)) (λ r. via refused (start_by p d i (Ok Unstarted) r) (placed p d i)) d' e in
+        let b = via_leaves (start_by p d i (Ok Unstarted) a.0) (placed p d i) d' a.2 in
         from_placed b.0 b.2
     step_by (Ok (Begun s)) e =
-        let a = via_leaves (raised p d i (ties_into p i) (floor p)) (λ r. via refused (start_by p d i (Begun s) r) (placed p d i)) d' e in
-        let b = via_leaves (start_by p d i (Begun s) a.0) (placed p d i) d' a.2 in
+        let a = via_leaves (raised p d i (ties_into p i) (floor p)) (λ r. via refused (start_by p d i (Ok (Begun s)) r) (placed p d i)) d' e in
+        let b = via_leaves (start_by p d i (Ok (Begun s)) a.0) (placed p d i) d' a.2 in
         from_placed b.0 b.2
 
     pub step_changes : forward p d i ≡ leaves d' → Changes
@@ -199,8 +199,8 @@ module _ (p : Plan) where
 
     pub fresh_step : summary p i ≡ false → Marks p i → forward_by p d i (Ok Unstarted) ≡ leaves d' → FreshStep
     fresh_step z k e =
-        let a = via_leaves (raised p d i (ties_into p i) (floor p)) (λ r. via refused (start_by p d i Unstarted r) (placed p d i)) d' e in
-        let b = via_leaves (start_by p d i Unstarted a.0) (placed p d i) d' a.2 in
+        let a = via_leaves (raised p d i (ties_into p i) (floor p)) (λ r. via refused (start_by p d i (Ok Unstarted) r) (placed p d i)) d' e in
+        let b = via_leaves (start_by p d i (Ok Unstarted) a.0) (placed p d i) d' a.2 in
         let q = placed_from b.0 b.2 in
         let m = minutes_left z k.expected q.s q.minutes in
         record {

@@ -12,28 +12,28 @@ use Rattle.backward.specs.Finish.{past, onward, greatest_one}
 use Rattle.backward.proofs.greatest_finish.Goals as goal
 
 pub loop-i-init : goal.loop-i-init
-loop-i-init c =
+loop-i-init g c =
     let C = c.args.sheet.now.contents in
     let p = plan_of c.args.sheet.now.bytes.now C in
-    let S = state c.args.tables.now in
+    let S = state (g.R.Reads.tables c.args.tables.now) in
     (tt, λ M. one_none p (early_in p S))
 
 pub loop-i-preserved : goal.loop-i-preserved
-loop-i-preserved c =
+loop-i-preserved g c =
     let C = c.args.sheet.now.contents in
     let p = plan_of c.args.sheet.now.bytes.now C in
-    let S = state c.args.tables.now in
+    let S = state (g.R.Reads.tables c.args.tables.now) in
     let L = c.loop-i in (
       c.finish_onward-top.ensures.1,
       λ M. one_more p (early_in p S) L.i (past L.top) _ (L.invariant.1 M) (c.finish_onward-top.ensures.0 ∙ ap (λ (x : ℕ). onward (summary p L.i) x (past L.top)) (sym (finish_at c.args.sheet.now.bytes.now C S L.i (omega arith)))),
     )
 
 pub returns : goal.returns
-returns c =
+returns g c =
     let C = c.args.sheet.now.contents in
     let p = plan_of c.args.sheet.now.bytes.now C in
-    let S = state c.args.tables.now in
+    let S = state (g.R.Reads.tables c.args.tables.now) in
     let L = c.loop-i in
     let e : L.i ≡ p.activities = omega (arith, activities_are c.args.sheet.now.bytes.now C) in
-    let g = L.invariant.1 c.requires.1 ∙ ap (greatest_one p (early_in p S)) e in
-    rw c.unwrap_or.ensures (finish_top p (early_in p S) L.top c.origin_of.result (2 ^ 63) g L.invariant.0 c.origin_of.ensures.0 (omega (arith, c.origin_of.ensures.1)))
+    let f = L.invariant.1 c.requires.1 ∙ ap (greatest_one p (early_in p S)) e in
+    rw c.unwrap_or.ensures (finish_top p (early_in p S) L.top c.origin_of.result (2 ^ 63) f L.invariant.0 c.origin_of.ensures.0 (omega (arith, c.origin_of.ensures.1)))

@@ -9,7 +9,7 @@ use Rattle.backward.specs.Finish.{Marked, past, greatest_one}
 use Rattle.backward.proofs.greatest_finish.Given as goal
 
 abbrev pub invariant-loop-i : goal.invariant-loop-i
-invariant-loop-i l =
+invariant-loop-i g l =
     IfSome l.top (λ t. t < 2 ^ 63)
-    × (Marked (plan_in l.sheet) (state l.tables)
-    → past l.top ≡ greatest_one (plan_in l.sheet) (early_in (plan_in l.sheet) (state l.tables)) l.i)
+    × (Marked (plan_in l.sheet) (state (g.R.Reads.tables l.tables))
+    → past l.top ≡ greatest_one (plan_in l.sheet) (early_in (plan_in l.sheet) (state (g.R.Reads.tables l.tables))) l.i)

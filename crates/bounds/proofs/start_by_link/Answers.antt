@@ -15,13 +15,13 @@ use Rattle.bounds.specs.ReadyLaws.{kept_within}
 use Rattle.bounds.proofs.start_by_link.Goals as goal
 
 pub link-requires : goal.link-requires
-link-requires c = (omega (arith, c.requires.0.ready.links, kept_within c.requires.0.ready, c.requires.1), omega arith)
+link-requires g c = (omega (arith, c.requires.0.ready.links, kept_within c.requires.0.ready, c.requires.1), omega arith)
 
 pub returns : goal.returns
-returns c = λ i H.
+returns g c = λ i H.
     let x = c.args in
     let p = plan_in x.plan.now.sheet in
-    let d = early_in p (state x.tables.now) in
+    let d = early_in p (state (g.R.Reads.tables x.tables.now)) in
     let b = c.in_ok-b.b in
     c.start_for.ensures p i H.own_is
     ∙ ap₂ (λ (m : ℕ) (k : RelationshipType). start_for p i m k b) H.left_is

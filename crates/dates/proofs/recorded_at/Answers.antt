@@ -6,14 +6,14 @@ use Rattle.dates.specs.ReadLaws.{actual_unstarted, actual_begun, actual_complete
 use Rattle.dates.proofs.recorded_at.Goals as goal
 
 pub returns-then-how-eq0 : goal.returns-then-how-eq0
-returns-then-how-eq0 c = sym (actual_unstarted _ _ _ (sym c.act-how.ensures.0 ∙ c.if-how-eq0.true))
+returns-then-how-eq0 g c = sym (actual_unstarted _ _ _ (sym c.act-how.ensures.0 ∙ c.if-how-eq0.true))
 
 pub returns-then-how-eq1 : goal.returns-then-how-eq1
-returns-then-how-eq1 c =
+returns-then-how-eq1 g c =
     ap Begun c.act-start.ensures.0 ∙ sym (actual_begun _ _ _ (sym c.act-how.ensures.0 ∙ c.if-how-eq1.true))
 
 pub returns : goal.returns
-returns c =
+returns g c =
     let h = c.act-how.ensures.0 in
     (λ z. Completed (c.act-start.ensures.0 z) (c.act.ensures.0 z))
     ∙ sym (actual_completed _ _ _ (λ e. c.if-how-eq0.false (h ∙ e)) (λ e. omega (arith, h)))

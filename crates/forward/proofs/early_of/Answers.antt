@@ -1,4 +1,5 @@
 -- `forward::early_of` meets its contract. Each way out has its law.
+use Rattle.std.specs.Prelude.{Ok}
 use mathlib.Core.Path.{sym, ◌∙◌}
 use native.Mathlib.Omega.{arith}
 use Rattle.dates.specs.Columns.{early_in}
@@ -22,10 +23,10 @@ pub returns : goal.returns
 returns c =
     let p = plan_in c.args.plan.now.sheet in
     let d = early_in p (state c.args.tables.now) in
-    c.place.ensures p d c.args.i (record { hand = c.work_of.ensures.1; summary_is = flag_is c.args.plan.now c.args.tables.now c.args.i 0 c.requires.0.ready c.requires.1 c.is_summary.ensures; times_are = c.times_of.ensures.0 }) ∙ sym (after_links_lem p d c.args.i c.args.recorded _ c.times_of.ensures.0.floor_is c.raise.ensures _ c.in_ok-start.was)
+    c.place.ensures p d c.args.i (record { hand = c.work_of.ensures.1; summary_is = flag_is c.args.plan.now c.args.tables.now c.args.i 0 c.requires.0.ready c.requires.1 c.is_summary.ensures; times_are = c.times_of.ensures.0 }) ∙ sym (after_links_lem p d c.args.i (Ok c.args.recorded) _ c.times_of.ensures.0.floor_is c.raise.ensures _ c.in_ok-start.was)
 
 pub returns-in_err-start : goal.returns-in_err-start
 returns-in_err-start c = rw (handed_on _ _ c.from_residual.ensures.1) (
     let p = plan_in c.args.plan.now.sheet in
     let d = early_in p (state c.args.tables.now) in
-    sym (after_links_refused p d c.args.i c.args.recorded _ c.times_of.ensures.0.floor_is c.raise.ensures _ c.in_err-start.was))
+    sym (after_links_refused p d c.args.i (Ok c.args.recorded) _ c.times_of.ensures.0.floor_is c.raise.ensures _ c.in_err-start.was))

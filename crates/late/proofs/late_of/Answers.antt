@@ -9,16 +9,19 @@ use Rattle.late.specs.StandLaws.{early_at, summary_at, unfinished_placed, unfini
 use Rattle.late.proofs.late_of.Goals as goal
 
 pub work_of-requires : goal.work_of-requires
-work_of-requires c = (c.requires.0.activities, c.requires.1)
+work_of-requires g c = (c.requires.0.activities, c.requires.1)
 
 pub lower-requires : goal.lower-requires
-lower-requires c = (c.requires.0, c.requires.1, record { hand = c.work_of.ensures.1; origin_is = c.origin_of.ensures.0 })
+lower-requires g c = (c.requires.0, c.requires.1, record { hand = c.work_of.ensures.1; origin_is = c.origin_of.ensures.0 })
+
+pub place_late-requires : goal.place_late-requires
+place_late-requires g c = (c.origin_of.ensures.1, c.act-early.ensures.1)
 
 pub returns : goal.returns
-returns c =
+returns g c =
     let R = c.requires.0 in
     let p = plan_in c.args.plan.now.sheet in
-    let S = state c.args.tables.now in
+    let S = state (g.R.Reads.tables c.args.tables.now) in
     let d = early_in p S in
     let m = late_in p S c.args.last in
     let i = c.args.i in
@@ -29,9 +32,9 @@ returns c =
     )
 
 pub returns-in_err-g : goal.returns-in_err-g
-returns-in_err-g c = rw (handed_on _ _ c.from_residual-in_err-g.ensures.1) (let R = c.requires.0 in
+returns-in_err-g g c = rw (handed_on _ _ c.from_residual-in_err-g.ensures.1) (let R = c.requires.0 in
     let p = plan_in c.args.plan.now.sheet in
-    let S = state c.args.tables.now in
+    let S = state (g.R.Reads.tables c.args.tables.now) in
     let d = early_in p S in
     let m = late_in p S c.args.last in
     let i = c.args.i in
@@ -39,9 +42,9 @@ returns-in_err-g c = rw (handed_on _ _ c.from_residual-in_err-g.ensures.1) (let 
     (sym (unfinished_held p d m i c.args.last _ _ (sym c.lower.ensures ∙ c.in_ok-f.was) (sym h ∙ c.in_err-g.was)), fitting_refused _))
 
 pub returns-in_err-f : goal.returns-in_err-f
-returns-in_err-f c = rw (handed_on _ _ c.from_residual.ensures.1) (let R = c.requires.0 in
+returns-in_err-f g c = rw (handed_on _ _ c.from_residual.ensures.1) (let R = c.requires.0 in
     let p = plan_in c.args.plan.now.sheet in
-    let S = state c.args.tables.now in
+    let S = state (g.R.Reads.tables c.args.tables.now) in
     let d = early_in p S in
     let m = late_in p S c.args.last in
     let i = c.args.i in

@@ -6,14 +6,14 @@ use Rattle.late.specs.UnfinishedLaws.{own_bounded, own_finish, own_start}
 use Rattle.late.proofs.place_late.Goals as goal
 
 pub lift-requires : goal.lift-requires
-lift-requires c = (c.requires, bounded_fits _ _ _ c.args.unfinished.now.near (sym c.bounded.ensures ∙ c.in_ok-b.was))
+lift-requires c = (c.requires.1, bounded_fits _ _ _ c.requires.0 (sym c.bounded.ensures ∙ c.in_ok-b.was))
 
 pub returns : goal.returns
 returns c = (
   λ p d l i O q.
       sym
       (placed_at p d l i c.args.latest _ (own_finish O.hand _ ∙ sym c.place_finish.ensures ∙ c.in_ok-t.was) _ (own_bounded O _ ∙ sym c.bounded.ensures ∙ c.in_ok-b.was) _ (sym (c.lift.ensures.0 p d l i O.hand q) ∙ c.in_ok-f.was) _ (own_start O.hand _ ∙ sym c.start_of.ensures ∙ c.in_ok-u.was) _ (own_bounded O _ ∙ sym c.bounded-2.ensures ∙ c.in_ok-s.was)),
-  fitting_dates _ _ (bounded_fits _ _ _ c.args.unfinished.now.near (sym c.bounded-2.ensures ∙ c.in_ok-s.was)) (c.lift.ensures.1 _ c.in_ok-f.was),
+  fitting_dates _ _ (bounded_fits _ _ _ c.requires.0 (sym c.bounded-2.ensures ∙ c.in_ok-s.was)) (c.lift.ensures.1 _ c.in_ok-f.was),
 )
 
 pub returns-in_err-s : goal.returns-in_err-s

@@ -1,5 +1,4 @@
 -- `late::limits::hold_late` meets its contract. Each way out has its law.
-use Rattle.std.specs.Prelude.{Ok}
 use mathlib.Core.Path.{sym, ap, ◌∙◌}
 use Rattle.project.specs.declared.Activity.{Activity}
 use Rattle.number.specs.Exits.{handed_on}
@@ -15,11 +14,11 @@ returns c =
     let x = c.args in
     let q = ap (λ (y : Activity). y.constraint) O.hand.activity_is in
     let r = ap (λ (y : Activity). y.secondary_constraint) O.hand.activity_is in
-    c.limit_by-2.ensures p d l i O ∙ sym (held_second p d l i x.latest (sym m ∙ c.if-is_summary.false) (Ok x.actual) a _ _ q r _ (sym (c.limit_by.ensures p d l i O) ∙ c.in_ok-f.was))
+    c.limit_by-2.ensures p d l i O ∙ sym (held_second p d l i x.latest (sym m ∙ c.if-is_summary.false) x.actual a _ _ q r _ (sym (c.limit_by.ensures p d l i O) ∙ c.in_ok-f.was))
 
 pub returns-in_err-f : goal.returns-in_err-f
 returns-in_err-f c = rw (handed_on _ _ c.from_residual.ensures.1) (λ p d l i O m a.
     let x = c.args in
     let q = ap (λ (y : Activity). y.constraint) O.hand.activity_is in
     let r = ap (λ (y : Activity). y.secondary_constraint) O.hand.activity_is in
-    sym (held_refused p d l i x.latest (sym m ∙ c.if-is_summary.false) (Ok x.actual) a _ _ q r _ (sym (c.limit_by.ensures p d l i O) ∙ c.in_err-f.was)))
+    sym (held_refused p d l i x.latest (sym m ∙ c.if-is_summary.false) x.actual a _ _ q r _ (sym (c.limit_by.ensures p d l i O) ∙ c.in_err-f.was)))

@@ -21,24 +21,24 @@ use Rattle.late.specs.UnfinishedLaws.{own_bounded, own_by}
 use Rattle.late.proofs.links.link_finish.Goals as goal
 
 pub tie_at-tie-requires : goal.tie_at-tie-requires
-tie_at-tie-requires c = omega (arith, c.requires.0.links, c.requires.1, kept_within c.requires.0)
+tie_at-tie-requires g c = omega (arith, c.requires.0.links, c.requires.1, kept_within c.requires.0)
 
 pub successor_times-requires : goal.successor_times-requires
-successor_times-requires c = let R = c.requires.0 in (R.activities, to_in R _ c.requires.1 _ c.tie_at-tie.ensures)
+successor_times-requires g c = let R = c.requires.0 in (R.activities, to_in R _ c.requires.1 _ c.tie_at-tie.ensures)
 
 pub over_lag-requires : goal.over_lag-requires
-over_lag-requires c =
+over_lag-requires g c =
     let R = c.requires.0 in
     let τ = c.tie_at-tie.result in
     let h : up τ.lag + dn τ.lag < 2 ^ 63 = omega (arith, lag_in R _ c.requires.1 _ c.tie_at-tie.ensures) in
     rw (to_z-of_z {w = w64} {z = τ.lag} (record { sfits = search rules })) h
 
 pub returns : goal.returns
-returns c =
+returns g c =
     λ i last O.
     let R = c.requires.0 in
     let p = plan_in c.args.plan.now.sheet in
-    let S = state c.args.tables.now in
+    let S = state (g.R.Reads.tables c.args.tables.now) in
     let d = early_in p S in
     let m = late_in p S last in
     let τ = c.tie_at-tie.result in
@@ -50,10 +50,10 @@ returns c =
     c.bounded.ensures ∙ sym (own_bounded O _) ∙ sym (link_at p d m i c.args.k _ _ A _ B _ C)
 
 pub returns-in_err-f : goal.returns-in_err-f
-returns-in_err-f c = rw (handed_on _ _ c.from_residual-in_err-f.ensures.1) (λ i last O.
+returns-in_err-f g c = rw (handed_on _ _ c.from_residual-in_err-f.ensures.1) (λ i last O.
     let R = c.requires.0 in
     let p = plan_in c.args.plan.now.sheet in
-    let S = state c.args.tables.now in
+    let S = state (g.R.Reads.tables c.args.tables.now) in
     let d = early_in p S in
     let m = late_in p S last in
     let τ = c.tie_at-tie.result in
@@ -65,10 +65,10 @@ returns-in_err-f c = rw (handed_on _ _ c.from_residual-in_err-f.ensures.1) (λ i
     sym (link_finish_refused p d m i c.args.k _ _ A _ B _ C))
 
 pub returns-in_err-v : goal.returns-in_err-v
-returns-in_err-v c = rw (handed_on _ _ c.from_residual-in_err-v.ensures.1) (λ i last O.
+returns-in_err-v g c = rw (handed_on _ _ c.from_residual-in_err-v.ensures.1) (λ i last O.
     let R = c.requires.0 in
     let p = plan_in c.args.plan.now.sheet in
-    let S = state c.args.tables.now in
+    let S = state (g.R.Reads.tables c.args.tables.now) in
     let d = early_in p S in
     let m = late_in p S last in
     let τ = c.tie_at-tie.result in
@@ -79,10 +79,10 @@ returns-in_err-v c = rw (handed_on _ _ c.from_residual-in_err-v.ensures.1) (λ i
     sym (link_lag_refused p d m i c.args.k _ _ A _ B))
 
 pub returns-in_err-times : goal.returns-in_err-times
-returns-in_err-times c = rw (handed_on _ _ c.from_residual.ensures.1) (λ i last O.
+returns-in_err-times g c = rw (handed_on _ _ c.from_residual.ensures.1) (λ i last O.
     let R = c.requires.0 in
     let p = plan_in c.args.plan.now.sheet in
-    let S = state c.args.tables.now in
+    let S = state (g.R.Reads.tables c.args.tables.now) in
     let d = early_in p S in
     let m = late_in p S last in
     let τ = c.tie_at-tie.result in

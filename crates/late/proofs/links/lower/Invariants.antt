@@ -4,5 +4,5 @@ use Rattle.late.specs.StandLaws.{Lowering}
 use Rattle.late.proofs.links.lower.Given as goal
 
 abbrev pub invariant-loop-k : goal.invariant-loop-k
-invariant-loop-k l =
-    (goal.iterator-loop-k).can_next l.k-iterator × (goal.iterator-loop-k).is_finite l.k-iterator × ((R : Ready l.plan l.tables) → Lowering R l.i l.last l.latest l.k-iterator)
+invariant-loop-k g l =
+    (goal.iterator-loop-k g).can_next l.k-iterator × (goal.iterator-loop-k g).is_finite l.k-iterator × ((R : Ready l.plan (g.R.Reads.tables l.tables)) → Lowering R l.i l.last l.latest l.k-iterator)
