@@ -18,6 +18,7 @@ ghost use Rattle.results.specs.Showing.{showing, all_in_years, critical_in, tota
 use calendar::Calendar;
 use calendars::PlanSheet;
 use memory::Tables;
+use memory::reads::Reads;
 use placing::Actual;
 use project::{ActivityKind, CriticalBy, FloatKind, Project};
 use worktime::ClockError;
@@ -121,9 +122,9 @@ fn finish_minute(kind: ActivityKind, left: u64, t: u64) -> u64
 fn days_of(kind: ActivityKind, actual: Actual, t: Times) -> Days
     ensures { (p : Plan) → result ≡ days_of p kind (Ok actual) t }
 {
-    let es = start_minute(kind, dates::begun_at(actual, t.es)) / 1440;
+    let es = start_minute(kind, dates::begun_at(Ok(actual), t.es)) / 1440;
     let ef = finish_minute(kind, t.left, t.ef) / 1440;
-    let ls = start_minute(kind, dates::begun_at(actual, t.ls)) / 1440;
+    let ls = start_minute(kind, dates::begun_at(Ok(actual), t.ls)) / 1440;
     let lf = finish_minute(kind, t.left, t.lf) / 1440;
     Days { es, ef, ls, lf }
 }
@@ -193,9 +194,9 @@ fn shown_of(
 }
 
 // ---- an activity's row of the memory
-pub fn times_at(tables: &Tables, i: usize) -> Times
-    requires { i < tables.now.activities }
-    ensures { (result ≡ times_in (state tables.now) i) × (result.ef < 2 ^ 63) × (result.lf < 2 ^ 63) × (result.free < 2 ^ 63) }
+pub fn times_at<R: Reads>(tables: &R, i: usize) -> Times
+    requires { i < (R.tables tables.now).activities }
+    ensures { (result ≡ times_in (state (R.tables tables.now)) i) × (result.ef < 2 ^ 63) × (result.lf < 2 ^ 63) × (result.free < 2 ^ 63) }
 {
     let es = tables.act(i, memory::fields::EARLY_START);
     let ef = tables.act(i, memory::fields::EARLY_FINISH);
@@ -215,9 +216,9 @@ pub fn times_at(tables: &Tables, i: usize) -> Times
     }
 }
 
-fn days_at(tables: &Tables, i: usize) -> Days
-    requires { i < tables.now.activities }
-    ensures { (result ≡ days_in (state tables.now) i) × DaysHold result }
+fn days_at<R: Reads>(tables: &R, i: usize) -> Days
+    requires { i < (R.tables tables.now).activities }
+    ensures { (result ≡ days_in (state (R.tables tables.now)) i) × DaysHold result }
 {
     let es = tables.act(i, memory::fields::SHOWN_START);
     let ef = tables.act(i, memory::fields::SHOWN_FINISH);
@@ -227,9 +228,9 @@ fn days_at(tables: &Tables, i: usize) -> Days
 }
 
 // What is shown of activity `i`, from its row.
-pub fn shown_at(tables: &Tables, i: usize) -> ShownRow
-    requires { i < tables.now.activities }
-    ensures { result.shown ≡ shown_at (state tables.now) i }
+pub fn shown_at<R: Reads>(tables: &R, i: usize) -> ShownRow
+    requires { i < (R.tables tables.now).activities }
+    ensures { result.shown ≡ shown_at (state (R.tables tables.now)) i }
 {
     let days = days_at(tables, i);
     let total = tables.act_signed(i, memory::fields::TOTAL_FLOAT);

@@ -11,7 +11,7 @@ ghost use Rattle.results.specs.View.{ran_in, shown_in};
 ghost use Rattle.rows.specs.Writing.{ToWrite, stored_from, minute_if, row_fields, row_in};
 
 use calendars::PlanCalendar;
-use memory::Tables;
+use memory::reads::Reads;
 use placing::Actual;
 use results::ShownRow;
 use sheet::Sheet;
@@ -67,15 +67,15 @@ fn row_of(
 }
 
 // Writes the row of activity `i`.
-fn write_row(
+fn write_row<R: Reads>(
     sheet: &Sheet,
     calendars: &[PlanCalendar],
-    tables: &Tables,
+    tables: &R,
     results: &mut [i64],
     i: usize,
 )
-    requires { ToWrite sheet.now calendars.now tables.now × (i < sheet.now.contents.activities) × (15 * i + 15 ≤ length results.old) }
-    ensures { results.new ≡ stored_from results.old (15 * i) 0 (row_in (plan_in sheet.now) (state tables.now) i) }
+    requires { ToWrite sheet.now calendars.now (R.tables tables.now) × (i < sheet.now.contents.activities) × (15 * i + 15 ≤ length results.old) }
+    ensures { results.new ≡ stored_from results.old (15 * i) 0 (row_in (plan_in sheet.now) (state (R.tables tables.now)) i) }
 {
     let activity = dates::activity_of(sheet, i);
     let k = activity.calendar as usize;
@@ -93,9 +93,14 @@ fn write_row(
 
 // Writes the rows of all activities at the front of the results, each at its own place.
 // Not over std's chunks: the contracts of `chunks_exact_mut` and `as_chunks_mut` say nothing of what the slice holds after the loop, so the equation for `results.new` could not be had.
-pub fn write_rows(sheet: &Sheet, calendars: &[PlanCalendar], tables: &Tables, results: &mut [i64])
-    requires { ToWrite sheet.now calendars.now tables.now × (15 * sheet.now.contents.activities ≤ length results.old) }
-    ensures { (e : ℕ) (other : ℕ → Bool) → results.new ≡ rows_below (plan_in sheet.now) (ran_in (plan_in sheet.now) (state tables.now) e other) (shown_in (plan_in sheet.now) (state tables.now)) sheet.now.contents.activities ++ drop (15 * sheet.now.contents.activities) results.old }
+pub fn write_rows<R: Reads>(
+    sheet: &Sheet,
+    calendars: &[PlanCalendar],
+    tables: &R,
+    results: &mut [i64],
+)
+    requires { ToWrite sheet.now calendars.now (R.tables tables.now) × (15 * sheet.now.contents.activities ≤ length results.old) }
+    ensures { (e : ℕ) (other : ℕ → Bool) → results.new ≡ rows_below (plan_in sheet.now) (ran_in (plan_in sheet.now) (state (R.tables tables.now)) e other) (shown_in (plan_in sheet.now) (state (R.tables tables.now))) sheet.now.contents.activities ++ drop (15 * sheet.now.contents.activities) results.old }
 {
     for i in 0..sheet.contents.activities {
         write_row(sheet, calendars, tables, results, i);
@@ -103,9 +108,9 @@ pub fn write_rows(sheet: &Sheet, calendars: &[PlanCalendar], tables: &Tables, re
 }
 
 // The finish day: the greatest early finish day that is shown, and not before the start.
-pub fn finish_day(sheet: &Sheet, tables: &Tables) -> i64
-    requires { tables.now.activities ≡ sheet.now.contents.activities }
-    ensures { (q : Ran) → result ≡ signed_day_of (finish_day (plan_in sheet.now) q (shown_in (plan_in sheet.now) (state tables.now)) sheet.now.contents.activities) }
+pub fn finish_day<R: Reads>(sheet: &Sheet, tables: &R) -> i64
+    requires { (R.tables tables.now).activities ≡ sheet.now.contents.activities }
+    ensures { (q : Ran) → result ≡ signed_day_of (finish_day (plan_in sheet.now) q (shown_in (plan_in sheet.now) (state (R.tables tables.now))) sheet.now.contents.activities) }
 {
     let mut d = dates::origin_of(sheet) / 1440;
     for i in 0..sheet.contents.activities {

@@ -13,29 +13,29 @@ use Rattle.rows.proofs.finish_day.Goals as goal
 
 pub loop-i-init : goal.loop-i-init
 unfolding plan_of
-loop-i-init c =
+loop-i-init g c =
     let x = c.args in
-    let S = state x.tables.now in
+    let S = state (g.R.Reads.tables x.tables.now) in
     let p = plan_in x.sheet.now in
     (omega (arith, c.origin_of-d.ensures.1), λ q. ap (λ (t : ℕ). t / 1440) c.origin_of-d.ensures.0 ∙ day_none p q S)
 
 pub loop-i-preserved : goal.loop-i-preserved
 unfolding plan_of
-loop-i-preserved c =
+loop-i-preserved g c =
     let x = c.args in
-    let S = state x.tables.now in
+    let S = state (g.R.Reads.tables x.tables.now) in
     let p = plan_in x.sheet.now in
     let L = c.loop-i in
-    let g = c.act.ensures in (
-      omega (arith, c.max-d.ensures, g.1, L.invariant.0),
-      λ q. c.max-d.ensures ∙ ap (max L.d) g.0 ∙ day_more p q S L.i L.d (omega arith) (L.invariant.1 q),
+    let e = c.act.ensures in (
+      omega (arith, c.max-d.ensures, e.1, L.invariant.0),
+      λ q. c.max-d.ensures ∙ ap (max L.d) e.0 ∙ day_more p q S L.i L.d (omega arith) (L.invariant.1 q),
     )
 
 pub returns : goal.returns
 unfolding plan_of
-returns c =
+returns g c =
     let x = c.args in
-    let S = state x.tables.now in
+    let S = state (g.R.Reads.tables x.tables.now) in
     let p = plan_in x.sheet.now in
     let L = c.loop-i in
     let n : L.i ≡ x.sheet.now.contents.activities = omega arith in

@@ -9,6 +9,6 @@ use Rattle.results.specs.View.{shown_in}
 use Rattle.rows.proofs.finish_day.Given as goal
 
 abbrev pub invariant-loop-i : goal.invariant-loop-i
-invariant-loop-i l =
+invariant-loop-i g l =
     (l.d < 2 ^ 63)
-    × ((q : Ran) → l.d ≡ finish_day (plan_in l.sheet) q (shown_in (plan_in l.sheet) (state l.tables)) l.i)
+    × ((q : Ran) → l.d ≡ finish_day (plan_in l.sheet) q (shown_in (plan_in l.sheet) (state (g.R.Reads.tables l.tables))) l.i)

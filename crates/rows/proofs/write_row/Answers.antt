@@ -13,13 +13,13 @@ use Rattle.rows.proofs.write_row.Goals as goal
 
 pub bounds-calendars-k : goal.bounds-calendars-k
 unfolding plan_of
-bounds-calendars-k c =
+bounds-calendars-k g c =
     let h = c.requires in
     omega (arith, ap (λ (a : Activity). a.calendar) c.activity_of-activity.ensures, h.0.named c.args.i h.1, h.0.days.size)
 
 pub row_of-row-requires : goal.row_of-row-requires
 unfolding plan_of
-row_of-row-requires c =
+row_of-row-requires g c =
     let x = c.args in
     let h = c.requires in
     let a = c.activity_of-activity.ensures in
@@ -31,7 +31,7 @@ row_of-row-requires c =
 
 pub returns : goal.returns
 unfolding plan_of
-returns c =
+returns g c =
     let x = c.args in
     let h = c.requires in
     let a = c.activity_of-activity.ensures in
@@ -39,7 +39,7 @@ returns c =
     let e = ap (λ (a : Activity). a.calendar) a in
     let n : k ≤ x.sheet.now.contents.calendars = omega (arith, e, h.0.named x.i h.1) in
     let p = plan_in x.sheet.now in
-    let S = state x.tables.now in
+    let S = state (g.R.Reads.tables x.tables.now) in
     let row = c.row_of-row.ensures ∙ fields_are p S x.i _ _ _ _ _ _ _ _ _ (ap (λ (a : Activity). a.id) a) (h.0.days.is k n ∙ ap p.day_length e) c.shown_at-x.ensures c.is_summary-is_summary.ensures
     (h.0.marks x.i h.1) (ap Ok c.recorded_at-actual.ensures ∙ h.0.recorded x.i h.1) c.act-left.ensures.0
     c.act-es.ensures.0 c.act-ef.ensures.0 in

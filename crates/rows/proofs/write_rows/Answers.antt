@@ -12,16 +12,16 @@ use Rattle.rows.specs.WritingLaws.{rows_none, rows_more, rows_same, stored_lengt
 use Rattle.rows.proofs.write_rows.Goals as goal
 
 pub loop-i-init : goal.loop-i-init
-loop-i-init c =
+loop-i-init g c =
     let x = c.args in
-    let S = state x.tables.now in
+    let S = state (g.R.Reads.tables x.tables.now) in
     let p = plan_in x.sheet.now in
     (refl, rows_none p S x.results.now)
 
 pub loop-i-preserved : goal.loop-i-preserved
-loop-i-preserved c =
+loop-i-preserved g c =
     let x = c.args in
-    let S = state x.tables.now in
+    let S = state (g.R.Reads.tables x.tables.now) in
     let p = plan_in x.sheet.now in
     let L = c.loop-i in
     let e = c.write_row.ensures in (
@@ -31,9 +31,9 @@ loop-i-preserved c =
 
 pub returns : goal.returns
 unfolding plan_of
-returns c =
+returns g c =
     let x = c.args in
-    let S = state x.tables.now in
+    let S = state (g.R.Reads.tables x.tables.now) in
     let p = plan_in x.sheet.now in
     let L = c.loop-i in
     let n : L.i ≡ x.sheet.now.contents.activities = omega arith in

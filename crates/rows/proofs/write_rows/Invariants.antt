@@ -9,6 +9,6 @@ use Rattle.rows.specs.Writing.{rows_in}
 use Rattle.rows.proofs.write_rows.Given as goal
 
 abbrev pub invariant-loop-i : goal.invariant-loop-i
-invariant-loop-i l =
+invariant-loop-i g l =
     (length l.results ≡ length l.initial.results)
-    × (l.results ≡ rows_in (plan_in l.sheet) (state l.tables) l.i ++ drop (15 * l.i) l.initial.results)
+    × (l.results ≡ rows_in (plan_in l.sheet) (state (g.R.Reads.tables l.tables)) l.i ++ drop (15 * l.i) l.initial.results)
