@@ -1,14 +1,15 @@
 -- Every refusal of a walk, of a count and of recorded work is row 8, "too long": the clock has no other error.
-use Rattle.std.specs.Prelude.{◌≡◌, Bool, ℕ, ℤ, Result, Ok, Err, Option}
+use Rattle.std.specs.Prelude.{◌≡◌, Bool, true, false, ℕ, ℤ, Result, Ok, Err, Option}
 use Rattle.std.proofs.Math.Path.{refl}
 use Rattle.worktime.specs.declared.ClockError.{ClockError}
 use Rattle.worktime.specs.declared.ClockError.TheVariants.{TooLong}
 use Rattle.worktime.specs.Number.{clock_number}
-use Rattle.worktime.specs.Walks.{next_start, previous_finish, next_finish, previous_start, start_by, advance, retreat, shift, between}
+use Rattle.worktime.specs.Walks.{reads, next_start, previous_finish, next_finish, previous_start, start_by, advance, retreat, shift, between}
 use Rattle.date.specs.declared.Date.{Date}
+use Rattle.date.specs.Years.{in_years}
 use Rattle.project.specs.declared.ActivityKind.{ActivityKind}
 use Rattle.project.specs.declared.End.{End}
-use Rattle.placing.specs.Placing.{bounded, place_start, start_for_finish, place_finish, finish_for_start, finish_for_start_by, constraint_time, actual}
+use Rattle.placing.specs.Placing.{via, bounded, place_start, start_for_finish, place_finish, finish_for_start, finish_for_start_by, constraint_time, actual}
 use Rattle.placing.specs.declared.Actual.{Actual}
 
 pub error_eight : (k : ClockError) → clock_number k ≡ 8
@@ -91,3 +92,21 @@ module _ (w : ℕ → Bool) where
 
 pub bounded_eight : (origin t : ℕ) → WalkEight (bounded origin t)
 bounded_eight origin t = always_eight (bounded origin t)
+
+-- ---- of any statement: of a choice, from both
+pub either : {A : Type 0} (P : A → Type 0) (b : Bool) (x y : A) → P x → P y → P (elim b [ true ↦ x | false ↦ y ])
+either P true x y h k = h
+either P false x y h k = k
+
+-- of what follows a walk
+pub follows : {A : Type 0} (P : A → Type 0) (refusal : ClockError → A) → P (refusal TooLong) → (w : Result ℕ ClockError) → WalkEight w → (go : ℕ → A) → ((t : ℕ) → P (go t)) → P (via refusal w go)
+follows P refusal r (Ok t) h go k = k t
+follows P refusal r (Err TooLong) h go k = r
+
+pub then_walk : (w : Result ℕ ClockError) → WalkEight w → (go : ℕ → Result ℕ ClockError) → ((t : ℕ) → WalkEight (go t)) → WalkEight (via Err w go)
+then_walk = follows WalkEight Err refl
+
+-- of a day that is read
+pub read_day : {A : Type 0} (P : A → Type 0) (refusal : ClockError → A) → P (refusal TooLong) → (d : ℕ) (x : A) → P x → P (reads refusal d x)
+unfolding reads
+read_day P refusal r d x h = either P (in_years d) x (refusal TooLong) h r
