@@ -81,6 +81,7 @@ pub trait Reads {
     }
 }
 
+// The tables keep methods of these names, whose contracts name no trait: what writes reads by them, and the proofs of the passes are over them.
 impl<'a> Reads for Tables<'a> {
     ghost tables = { λ t. t };
 
